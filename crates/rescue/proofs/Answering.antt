@@ -18,7 +18,7 @@ use Rattle.rescue_laws.proofs.Runs.{Readable}
 use Rattle.rescue_laws.proofs.Coming.{no-root-no-run, broken-no-run, low-no-run}
 use Rattle.rescue_bytes.specs.Rescues.{slotsIn, SameSize, NoRun, Report, Rescues, wrong-size, out-of-order, no-version, rescues}
 use Rattle.rescue_bytes.proofs.Readable.{readable}
-use Rattle.rescue_step.specs.Step.{joinsTop, lowestTop, Stops, rootless, apart, above, Joins}
+use Rattle.rescue_step.specs.Step.{joinsTop, floorTop, Stops, rootless, apart, above, Joins}
 use Rattle.rescue_fill.specs.Fill.{Fillable, Filled}
 
 module _ (oldest latest : ℕ) (s old : Bytes) where
@@ -40,7 +40,7 @@ module _ (oldest latest : ℕ) (s old : Bytes) where
       fillable j = record { size = size; equal = equal; ordered = ordered; joins = j }
 
       pub no-run : All Byte s → latest ≤ top32 → Stops s latest 0 0 0 → Rescues oldest latest s old (refused 3) old
-      unfolding joinsTop lowestTop
+      unfolding joinsTop floorTop
       no-run bytes number stop = no-version same-size ordered (go stop)
         where
           z : Readable (slotsIn s) latest

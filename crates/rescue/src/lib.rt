@@ -34,11 +34,12 @@ pub fn rescue(source: &[u8], oldest: u32, latest: u32, target: &mut [u8]) -> Res
     }
     let mut table = [0u16; 16384];
     let many = guide(source, &mut table);
+    // Latest has no next version.
     let tested = step(source, &table, many, latest, 0, 0, 0);
-    let Stepped::Yes { root, lowest } = tested else {
+    let Stepped::Yes { root, floor } = tested else {
         return Rescued::Refused(NOT_SOUND);
     };
-    let first = fill(source, &table, many, oldest, latest, root, lowest, target);
+    let first = fill(source, &table, many, oldest, latest, root, floor, target);
     let counts = count(source, target);
     Rescued::Kept { first, counts }
 }

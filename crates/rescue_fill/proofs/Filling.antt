@@ -33,7 +33,7 @@ use Rattle.rescue_laws.proofs.Runs.{Readable}
 use Rattle.rescue_laws.proofs.Coming.{Come, come-first, come-step, come-back, come-oldest, come-low, come-no-root, come-apart, come-above}
 use Rattle.rescue_bytes.proofs.Readable.{readable}
 use Rattle.rescue_enter.specs.Enter.{Target, Entering, Enters}
-use Rattle.rescue_step.specs.Step.{joinsTop, lowestTop, Stops, rootless, apart, above, Joins}
+use Rattle.rescue_step.specs.Step.{joinsTop, floorTop, Stops, rootless, apart, above, Joins}
 use Rattle.rescue_fill.specs.Fill.{bounded, Shaped, Fillable, Filled}
 
 -- numbers, apart from the trees
@@ -134,7 +134,7 @@ module _ (s : Bytes) (bytes : All Byte s) (oldest latest : ℕ) (number : latest
   -- the tree of latest
   pub state-first : {root low : ℕ} {t u : Bytes} → oldest ≤ latest → Joins s latest 0 0 0 root low → storeOf t .slots ≡ replicate (length S) free →
       {p : place.Place} → Stands [] 0 p → Enters s 0 p root 0 t u → State s oldest latest root low u
-  unfolding joinsTop lowestTop
+  unfolding joinsTop floorTop
   state-first {root} {low} {t} {u} ordered j free-t top e = record {
     at = latest;
     come = come-first leafHash innerHash S oldest latest z 0 root low (storeOf t .slots) (storeOf u .slots) ordered (j .root) (j .there) (j .joins)
@@ -212,7 +212,7 @@ module _ (s : Bytes) (bytes : All Byte s) (oldest latest : ℕ) (number : latest
           below x y u v i j e = omega arith
 
       pub fills-stop : {x : Bytes} {r : ℕ} → Stops s u f b low → r ≡ f → x ≡ bounded f latest t → Filled s oldest latest r x
-      unfolding joinsTop lowestTop
+      unfolding joinsTop floorTop
       fills-stop stop e k = ends e k (go (subst (λ g. Stops s u g b low) suc-u stop))
         where
           go : Stops s u (suc u) b low → Longest leafHash innerHash S oldest latest (suc u) (latest - suc u)
@@ -222,7 +222,7 @@ module _ (s : Bytes) (bytes : All Byte s) (oldest latest : ℕ) (number : latest
               come-above leafHash innerHash S oldest latest z u b low (storeOf t .slots) next (rootVersion S u) (newestChild 256 S (rootVersion S u) b []) refl refl l
 
       pub state-next : {a l : ℕ} {x : Bytes} → Joins s u f b low a l → {p : place.Place} → Stands [] 0 p → Enters s f p a b t x → State s oldest latest a l x
-      unfolding joinsTop lowestTop
+      unfolding joinsTop floorTop
       state-next {a} {l} {x} j top e = record {
         at = u;
         come = subst (λ g. Come leafHash innerHash S oldest latest u a g (storeOf x .slots)) (sym (j .floor))

@@ -33,17 +33,17 @@ pub fn fill(
     oldest: u32,
     latest: u32,
     root: u32,
-    lowest: u32,
+    floor: u32,
     target: &mut [u8],
 ) -> u32
-    requires { ⌜ Fillable (now source) oldest latest root lowest (now target) × Guide (storeOf (now source) .slots) (now table) many ⌝ }
+    requires { ⌜ Fillable (now source) oldest latest root floor (now target) × Guide (storeOf (now source) .slots) (now table) many ⌝ }
     ensures { λ r. ⌜ Filled (now (source .entry)) oldest latest r (now (target .exit)) ⌝ }
 {
     let top = Place::top();
     format(target);
     enter(source, table, many, target, 0, top, root, 0);
     let mut b = root;
-    let mut low = lowest;
+    let mut low = floor;
     loop {
         let first = later(later(oldest, low), b);
         if first <= oldest {
@@ -53,7 +53,7 @@ pub fn fill(
             return finish(target, first, latest);
         }
         let stepped = step(source, table, many, first - 1, first, b, low);
-        let Stepped::Yes { root: a, lowest: l } = stepped else {
+        let Stepped::Yes { root: a, floor: l } = stepped else {
             return finish(target, first, latest);
         };
         enter(source, table, many, target, first, top, a, b);

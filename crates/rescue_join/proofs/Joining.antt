@@ -15,7 +15,7 @@ use Rattle.place.specs.declared.Place as place
 use Rattle.place.specs.Place.{placeOf, Grown}
 use Rattle.layout.specs.Stores.{storeOf}
 use Rattle.rescue_rules.specs.Joining.{kidOf, newer, newestChild, recordRight, joinAt}
-use Rattle.rescue_join.specs.Join.{joinsHere, lowestHere, JoinSays}
+use Rattle.rescue_join.specs.Join.{joinsHere, floorHere, JoinSays}
 use Rattle.rescue_join.specs.declared.Joined as joined
 use Rattle.rescue_join.specs.declared.Joined.the-variants.{Broken, Fits}
 
@@ -39,7 +39,7 @@ module _ (s : Bytes) (next : ℕ) (p : place.Place) (a b : ℕ) where
 
   -- the same version
   pub joins-same : a ≡ b → JoinSays s next p a b (Fits 0)
-  unfolding joinsHere lowestHere
+  unfolding joinsHere floorHere
   joins-same e = (go (256 - p .count), low (256 - p .count))
     where
       go : (n : ℕ) → joinAt leafHash innerHash n S next a b (placeOf p) ≡ true
@@ -73,7 +73,7 @@ module _ (s : Bytes) (next : ℕ) (p : place.Place) (a b : ℕ) where
 
         -- at the place of a whole key
         pub joins-end : 256 ≤ p .count → JoinSays s next p a b (Fits 0)
-        unfolding joinsHere lowestHere
+        unfolding joinsHere floorHere
         joins-end h = let n : 256 - p .count ≡ 0 = omega arith in (go (256 - p .count) n, low (256 - p .count) n)
           where
             go : (n : ℕ) → n ≡ 0 → joinAt leafHash innerHash n S next a b (placeOf p) ≡ true
@@ -98,9 +98,9 @@ module _ (s : Bytes) (next : ℕ) (p : place.Place) (a b : ℕ) where
           unfolding joinsHere
           deeper = let n : 256 - p .count ≡ suc m = omega arith in ap (λ n. joinAt leafHash innerHash n S next a b (placeOf p)) n ∙ rw (ne-eqb a b f)
 
-          low-deeper : lowestHere s p a b
+          low-deeper : floorHere s p a b
               ≡ max (max (newer a (kidOf left (find a (placeOf p) S))) (newer a (kidOf right (find a (placeOf p) S)))) (max (lowOn left) (lowOn right))
-          unfolding lowestHere
+          unfolding floorHere
           low-deeper = let n : 256 - p .count ≡ suc m = omega arith in ap (λ n. newestChild n S a b (placeOf p)) n ∙ rw (ne-eqb a b f)
 
           -- one side
@@ -114,8 +114,8 @@ module _ (s : Bytes) (next : ℕ) (p : place.Place) (a b : ℕ) where
                 ap₂ (λ n q. joinAt leafHash innerHash n S next x y q) n-is (grown .place)
                 ∙ ap₂ (λ v w. joinAt leafHash innerHash m S next v w (longer c (placeOf p))) kx ky
 
-            low-side : lowestHere s l x y ≡ lowOn c
-            unfolding lowestHere
+            low-side : floorHere s l x y ≡ lowOn c
+            unfolding floorHere
             low-side =
                 ap₂ (λ n q. newestChild n S x y q) n-is (grown .place) ∙ ap₂ (λ v w. newestChild m S v w (longer c (placeOf p))) kx ky
 

@@ -18,9 +18,9 @@ use Rattle.rescue_join.specs.declared.Joined.the-variants.{Broken, Fits}
 unfoldable pub joinsHere : Bytes → ℕ → place.Place → ℕ → ℕ → Bool
 joinsHere s next p a b = joinAt leafHash innerHash (256 - p .count) (storeOf s .slots) next a b (placeOf p)
 
-unfoldable pub lowestHere : Bytes → place.Place → ℕ → ℕ → ℕ
-lowestHere s p a b = newestChild (256 - p .count) (storeOf s .slots) a b (placeOf p)
+unfoldable pub floorHere : Bytes → place.Place → ℕ → ℕ → ℕ
+floorHere s p a b = newestChild (256 - p .count) (storeOf s .slots) a b (placeOf p)
 
 abbrev pub JoinSays : Bytes → ℕ → place.Place → ℕ → ℕ → declared.Joined → Type 0
 JoinSays s next p a b Broken = joinsHere s next p a b ≡ false
-JoinSays s next p a b (Fits l) = (joinsHere s next p a b ≡ true) × (lowestHere s p a b ≡ l)
+JoinSays s next p a b (Fits l) = (joinsHere s next p a b ≡ true) × (floorHere s p a b ≡ l)

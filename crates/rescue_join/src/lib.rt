@@ -38,8 +38,8 @@ fn newer(a: u32, child: u32) -> u32
 
 pub enum Joined {
     Broken,
-    // The greatest version of a child newer than its parent, among the records of the first tree that the second lacks.
-    Fits { lowest: u32 },
+    // The floor: the greatest version of a child newer than its parent, among the records of the first tree that the second lacks.
+    Fits { floor: u32 },
 }
 
 // Joins the node of version a at a place, and all below it, to the node of version b in the tree of the version `next`.
@@ -56,7 +56,7 @@ pub fn join(
     ensures { λ r. ⌜ JoinSays (now (source .entry)) next place a b r ⌝ }
 {
     if a == b {
-        return Joined::Fits { lowest: 0 };
+        return Joined::Fits { floor: 0 };
     }
     if !of_next(b, next) {
         return Joined::Broken;
@@ -66,7 +66,7 @@ pub fn join(
         return Joined::Broken;
     }
     if 256 <= place.count {
-        return Joined::Fits { lowest: 0 };
+        return Joined::Fits { floor: 0 };
     }
     let there = lowest(source, table, many, b, place);
     let a_left = kid(source, here, false);
@@ -75,16 +75,16 @@ pub fn join(
     let b_right = kid(source, there, true);
     let left = place.left();
     let on_left = join(source, table, many, next, left, a_left, b_left);
-    let Joined::Fits { lowest: l } = on_left else {
+    let Joined::Fits { floor: l } = on_left else {
         return Joined::Broken;
     };
     let right = place.right();
     let on_right = join(source, table, many, next, right, a_right, b_right);
-    let Joined::Fits { lowest: r } = on_right else {
+    let Joined::Fits { floor: r } = on_right else {
         return Joined::Broken;
     };
     let own = later(newer(a, a_left), newer(a, a_right));
     Joined::Fits {
-        lowest: later(own, later(l, r)),
+        floor: later(own, later(l, r)),
     }
 }

@@ -12,8 +12,8 @@ use Rattle.layout.specs.Stores.{storeOf}
 use Rattle.rescue_rules.specs.Joining.{rootVersion, newestChild, joinAt}
 use Rattle.rescue_join.specs.declared.Joined as joined
 use Rattle.rescue_join.specs.declared.Joined.the-variants.{Broken, Fits}
-use Rattle.rescue_join.specs.Join.{joinsHere, lowestHere, JoinSays}
-use Rattle.rescue_step.specs.Step.{joinsTop, lowestTop, Stops, rootless, apart, above, Joins, StepSays}
+use Rattle.rescue_join.specs.Join.{joinsHere, floorHere, JoinSays}
+use Rattle.rescue_step.specs.Step.{joinsTop, floorTop, Stops, rootless, apart, above, Joins, StepSays}
 use Rattle.rescue_step.specs.declared.Stepped.the-variants.{No, Yes}
 
 full : (n c : ℕ) → c ≡ 0 → n - c ≡ n
@@ -27,9 +27,9 @@ module _ (s : Bytes) (v next b low : ℕ) {a : ℕ} (r : a ≡ rootVersion (stor
   unfolding joinsHere joinsTop
   top-joins = ap₂ (λ n q. joinAt leafHash innerHash n (storeOf s .slots) next a b q) (full 256 (p .count) (top .count)) (top .place)
 
-  top-lowest : lowestHere s p a b ≡ lowestTop s a b
-  unfolding lowestHere lowestTop
-  top-lowest = ap₂ (λ n q. newestChild n (storeOf s .slots) a b q) (full 256 (p .count) (top .count)) (top .place)
+  top-floor : floorHere s p a b ≡ floorTop s a b
+  unfolding floorHere floorTop
+  top-floor = ap₂ (λ n q. newestChild n (storeOf s .slots) a b q) (full 256 (p .count) (top .count)) (top .place)
 
   module _ (j : joined.Joined) (say : JoinSays s next p a b j) where
     pub step-apart : j ≡ Broken → StepSays s v next b low No
@@ -39,11 +39,11 @@ module _ (s : Bytes) (v next b low : ℕ) {a : ℕ} (r : a ≡ rootVersion (stor
       fits : JoinSays s next p a b (Fits l)
       fits = subst (JoinSays s next p a b) e say
 
-      low-is : max low l ≡ max low (lowestTop s a b)
-      low-is = ap (max low) (sym (fits .1) ∙ top-lowest)
+      low-is : max low l ≡ max low (floorTop s a b)
+      low-is = ap (max low) (sym (fits .1) ∙ top-floor)
 
       pub step-above : v < h → StepSays s v next b low No
-      step-above k = above (subst (λ x. v < x) (m ∙ low-is ∙ ap (λ w. max low (lowestTop s w b)) r) k)
+      step-above k = above (subst (λ x. v < x) (m ∙ low-is ∙ ap (λ w. max low (floorTop s w b)) r) k)
 
       pub step-joins : h ≤ v → StepSays s v next b low (Yes a h)
       step-joins k = record { root = sym r; there = there; joins = sym top-joins ∙ fits .0; floor = m ∙ low-is; within = k }

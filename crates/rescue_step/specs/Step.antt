@@ -16,21 +16,21 @@ use Rattle.rescue_step.specs.declared.Stepped.the-variants.{No, Yes}
 unfoldable pub joinsTop : Bytes → ℕ → ℕ → ℕ → Bool
 joinsTop s next a b = joinAt leafHash innerHash 256 (storeOf s .slots) next a b []
 
-unfoldable pub lowestTop : Bytes → ℕ → ℕ → ℕ
-lowestTop s a b = newestChild 256 (storeOf s .slots) a b []
+unfoldable pub floorTop : Bytes → ℕ → ℕ → ℕ
+floorTop s a b = newestChild 256 (storeOf s .slots) a b []
 
 -- Version v doesn't join: it has no root, or its tree doesn't join, or a run that begins there would be too early.
 pub data Stops (s : Bytes) (v next b low : ℕ) : Type 0 where
   rootless : rootVersion (storeOf s .slots) v ≡ 0 → Stops s v next b low
   apart : joinsTop s next (rootVersion (storeOf s .slots) v) b ≡ false → Stops s v next b low
-  above : v < max low (lowestTop s (rootVersion (storeOf s .slots) v) b) → Stops s v next b low
+  above : v < max low (floorTop s (rootVersion (storeOf s .slots) v) b) → Stops s v next b low
 
 -- Version v joins: its root is of version a, and no run begins before l.
 pub record Joins (s : Bytes) (v next b low a l : ℕ) : Type 0 where
   pub root : rootVersion (storeOf s .slots) v ≡ a
   pub there : a ≡ 0 → ⊥
   pub joins : joinsTop s next a b ≡ true
-  pub floor : l ≡ max low (lowestTop s a b)
+  pub floor : l ≡ max low (floorTop s a b)
   pub within : l ≤ v
 
 abbrev pub StepSays : Bytes → ℕ → ℕ → ℕ → ℕ → declared.Stepped → Type 0

@@ -15,11 +15,12 @@ ghost use Rattle.rescue_step.specs.Step.{StepSays};
 
 pub enum Stepped {
     No,
-    // The version of the root, and the version before which no run begins.
-    Yes { root: u32, lowest: u32 },
+    // The version of the root, and the floor: the version before which no run begins.
+    Yes { root: u32, floor: u32 },
 }
 
-// Whether version v joins the tree of the version `next`, whose root is of version b; b is 0 where there is none.
+// Whether version v joins the tree of the version `next`, whose root is of version b; `low` is the floor of the run up to now. All three are 0
+// where there is no next version.
 pub fn step(
     source: &[u8],
     table: &[u16; 16384],
@@ -38,7 +39,7 @@ pub fn step(
     }
     let top = Place::top();
     let joined = join(source, table, many, next, top, a, b);
-    let Joined::Fits { lowest: l } = joined else {
+    let Joined::Fits { floor: l } = joined else {
         return Stepped::No;
     };
     let higher = later(low, l);
@@ -47,6 +48,6 @@ pub fn step(
     }
     Stepped::Yes {
         root: a,
-        lowest: higher,
+        floor: higher,
     }
 }

@@ -15,6 +15,13 @@ abbrev μ-loop : tie.MeasureT-loop
 μ-loop store guesses version place b j₀ j =
     4 - j
 
+-- `A-from-B` is the state A as the later state B has it.
+abbrev start-from-start-of : tie.After-start-of Inv-loop μ-loop → tie.Start Inv-loop μ-loop
+start-from-start-of c = c .before .before .before .before .before
+
+abbrev start-from-slot-number : tie.After-slot-number Inv-loop μ-loop → tie.Start Inv-loop μ-loop
+start-from-slot-number c = start-from-start-of (c .before .before .before .before)
+
 returns : tie.Need-returns Inv-loop μ-loop
 returns c =
     let c2 = c .before .before in
@@ -45,14 +52,11 @@ slot-number-requires c κs = search needs
 
 holds-requires : tie.Need-holds-requires Inv-loop μ-loop
 holds-requires c κs =
-    let start = c .before .before .before .before .before .before .before .before .before in
+    let start = start-from-slot-number c in
     (stored-size (start .pre .stored), start .pre .proper)
 
 returns-2 : tie.Need-returns-2 Inv-loop μ-loop
-returns-2 c =
-    let c1 = c .before in
-    let start = c1 .before .before .before .before .before .before .before .before .before .before in
-    guessed (start .pre) (c .if2 .taken) (c1 .holds .ensures)
+returns-2 c = guessed (start-from-slot-number (c .before .before) .pre) (c .if2 .taken) (c .before .holds .ensures)
 
 add-j : tie.Need-add-j Inv-loop μ-loop
 add-j c = omega arith
@@ -66,7 +70,7 @@ loop-again c =
 
 find-requires : tie.Need-find-requires Inv-loop μ-loop
 find-requires c κs =
-    let start = c .before .before .before .before .before .before .before in
+    let start = start-from-start-of (c .before .before) in
     (stored-size (start .pre .stored), start .pre .proper)
 
 returns-3 : tie.Need-returns-3 Inv-loop μ-loop

@@ -23,16 +23,23 @@ version-at-requires : tie.Need-version-at-requires Inv-loop μ-loop
 version-at-requires c κs = room-slot (c .before .loop .inv) (c .loop-test .taken)
 
 retired-at-requires : tie.Need-retired-at-requires Inv-loop μ-loop
-retired-at-requires c κs = room-slot (c .before .before .before .loop .inv) (c .before .before .loop-test .taken)
+retired-at-requires c κs =
+    let in-loop = c .before .before in
+    room-slot (in-loop .before .loop .inv) (in-loop .loop-test .taken)
 
 count-at-requires : tie.Need-count-at-requires Inv-loop μ-loop
-count-at-requires c κs = room-slot (c .before .before .before .before .before .loop .inv) (c .before .before .before .before .loop-test .taken)
+count-at-requires c κs =
+    let in-loop = c .before .before .before .before in
+    room-slot (in-loop .before .loop .inv) (in-loop .loop-test .taken)
 
 cast-count : tie.Need-cast-count Inv-loop μ-loop
 cast-count c = search needs
 
 slot-of-requires : tie.Need-slot-of-requires Inv-loop μ-loop
-slot-of-requires c κs = room-slot (c .before .before .before .before .before .before .before .loop .inv) (c .before .before .before .before .before .before .loop-test .taken)
+slot-of-requires c κs =
+    let then1 = c .before .before .before .before in
+    let in-loop = then1 .before .before in
+    room-slot (in-loop .before .loop .inv) (in-loop .loop-test .taken)
 
 bits-of-requires : tie.Need-bits-of-requires Inv-loop μ-loop
 bits-of-requires c κs = search needs
@@ -41,7 +48,10 @@ start-of-requires : tie.Need-start-of-requires Inv-loop μ-loop
 start-of-requires c κs = search needs
 
 cast-keep : tie.Need-cast-keep Inv-loop μ-loop
-cast-keep c = let t = c .before .before .before .before .before .before .before .before .before in omega (arith, t .before .loop .inv .small, t .loop-test .taken)
+cast-keep c =
+    let then2 = c .before .before .before .before .before in
+    let in-loop = then2 .before .before .before .before in
+    omega (arith, in-loop .before .loop .inv .small, in-loop .loop-test .taken)
 
 keep-requires : tie.Need-keep-requires Inv-loop μ-loop
 keep-requires c κs = search needs

@@ -7,25 +7,27 @@ use Rattle.apply_inner.proofs.end_or_stay.Tie as tie
 enum-told : tie.Need-enum-told
 enum-told c = search needs
 
+-- `A-from-B` is the state A as the later state B has it.
+abbrev start-from-mark-children-arg : tie.After-mark-children-arg → tie.Start
+start-from-mark-children-arg c = c .before .before .before .before
+
 returns : tie.Need-returns
 returns c =
     let c2 = c .before .before in
     stays (c2 .args .since) (c2 .args .writes) (c2 .args .store .now) (c2 .args .place) (c2 .args .cl) (c2 .args .cr) (c2 .args .reach) (c2 .args .version) (c2 .args .lefts) (c2 .args .rights) (c2 .args .change) (c .match .keys2)
 
 mark-children-requires : tie.Need-mark-children-requires
-mark-children-requires c κs =
-    let c4 = c .before .before .before .before in
-    c4 .pre
+mark-children-requires c κs = start-from-mark-children-arg c .pre
 
 same-length : tie.Need-same-length
 same-length c = search needs
 
 returns-2 : tie.Need-returns-2
 returns-2 c =
-    let c2 = c .before .before in
-    let c4 = c2 .before .before in
-    let c7 = c4 .before .before .before in
-    ends (c7 .args .since) (c7 .args .writes) (c7 .args .store .now) (c7 .args .place) (c7 .args .cl) (c7 .args .cr) (c7 .args .reach) (c7 .args .version) (c7 .args .lefts) (c7 .args .rights) (c7 .args .change) (c4 .enum-told .given .1) (c2 .mark-children .ensures)
+    let after-mark-children = c .before .before in
+    let after-mark-children-arg = after-mark-children .before in
+    let start = start-from-mark-children-arg after-mark-children-arg in
+    ends (start .args .since) (start .args .writes) (start .args .store .now) (start .args .place) (start .args .cl) (start .args .cr) (start .args .reach) (start .args .version) (start .args .lefts) (start .args .rights) (start .args .change) (after-mark-children-arg .before .enum-told .given .1) (after-mark-children .mark-children .ensures)
 
 pub end-or-stay-spec : {M : Type 1} → statement M
 end-or-stay-spec =

@@ -13,12 +13,16 @@ enum-known-own c = search needs
 same-hash-requires : tie.Need-same-hash-requires
 same-hash-requires c κs = search needs
 
+-- `A-from-B` is the state A as the later state B has it.
+abbrev start-from-own : tie.After-own → tie.Start
+start-from-own c = c .before .before
+
 returns : tie.Need-returns
 returns c =
-    let c1 = c .before in
-    let c3 = c1 .before .before in
-    let c5 = c3 .before .before in
-    alone-same (c5 .args .new) (c5 .args .from) (c5 .args .version) (c5 .args .key) (c5 .args .value) (c5 .args .own) (c3 .own .given .1) (c1 .same-hash .ensures) (c .if1 .taken)
+    let after-same-hash = c .before in
+    let after-own = after-same-hash .before .before in
+    let start = start-from-own after-own in
+    alone-same (start .args .new) (start .args .from) (start .args .version) (start .args .key) (start .args .value) (start .args .own) (after-own .own .given .1) (after-same-hash .same-hash .ensures) (c .if1 .taken)
 
 enum-told-2 : tie.Need-enum-told-2
 enum-told-2 c = search needs
@@ -30,10 +34,10 @@ returns-2 c =
 
 returns-3 : tie.Need-returns-3
 returns-3 c =
-    let c1 = c .before in
-    let c3 = c1 .before .before in
-    let c5 = c3 .before .before in
-    alone-other (c5 .args .new) (c5 .args .from) (c5 .args .version) (c5 .args .key) (c5 .args .value) (c5 .args .own) (c3 .own .given .1) (c1 .same-hash .ensures) (c .if1 .left)
+    let after-same-hash = c .before in
+    let after-own = after-same-hash .before .before in
+    let start = start-from-own after-own in
+    alone-other (start .args .new) (start .args .from) (start .args .version) (start .args .key) (start .args .value) (start .args .own) (after-own .own .given .1) (after-same-hash .same-hash .ensures) (c .if1 .left)
 
 returns-4 : tie.Need-returns-4
 returns-4 c =

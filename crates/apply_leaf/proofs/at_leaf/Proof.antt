@@ -14,28 +14,29 @@ staying-requires : tie.Need-staying-requires
 staying-requires c κs = search needs
 
 -- `A-from-B` is the state A as the later state B has it.
-abbrev start-from-inserts-more : tie.After-inserts-more → tie.Start
-start-from-inserts-more c = c .before .before .before .before
+abbrev own-ask-from-then1 : tie.Then1 → tie.After-own-ask
+own-ask-from-then1 c = c .before .before
+
+abbrev start-from-own-ask : tie.After-own-ask → tie.Start
+start-from-own-ask c = c .before .before .before
 
 grow-requires : tie.Need-grow-requires
 grow-requires c κs =
-    let c1 = c .before in
-    let c4 = c1 .before .before .before in
-    let c7 = c4 .before .before .before in
-    may-grow (c7 .pre) (c7 .args .value) (c4 .own-ask .result) (c1 .staying .ensures) (c4 .own-ask .ensures)
+    let after-own-ask = own-ask-from-then1 (c .before .before) in
+    let start = start-from-own-ask after-own-ask in
+    may-grow (start .pre) (start .args .value) (after-own-ask .own-ask .result) (c .before .staying .ensures) (after-own-ask .own-ask .ensures)
 
 same-length : tie.Need-same-length
 same-length c = search needs
 
 returns : tie.Need-returns
 returns c =
-    let c2 = c .before .before in
-    let c4 = c2 .before .before in
-    let c5 = c4 .before in
-    let c6 = c5 .before in
-    let c7 = c6 .before in
-    let c10 = c7 .before .before .before in
-    grown-did (c10 .pre) (c10 .args .value) (c10 .args .version) (c7 .own-ask .result) (c4 .staying .ensures) (c7 .own-ask .ensures) (c6 .inserts-more .ensures) (c5 .if1 .taken) (c2 .grow .ensures)
+    let after-grow = c .before .before in
+    let after-staying = after-grow .before .before in
+    let then1 = after-staying .before in
+    let after-own-ask = own-ask-from-then1 then1 in
+    let start = start-from-own-ask after-own-ask in
+    grown-did (start .pre) (start .args .value) (start .args .version) (after-own-ask .own-ask .result) (after-staying .staying .ensures) (after-own-ask .own-ask .ensures) (then1 .before .inserts-more .ensures) (then1 .if1 .taken) (after-grow .grow .ensures)
 
 alone-requires : tie.Need-alone-requires
 alone-requires c κs = search needs
@@ -44,8 +45,9 @@ returns-2 : tie.Need-returns-2
 returns-2 c =
     let else1 = c .before in
     let after-inserts-more = else1 .before in
-    let start = start-from-inserts-more after-inserts-more in
-    alone-did (start .pre) (start .args .value) (start .args .version) (after-inserts-more .inserts-more .ensures) (else1 .if1 .left) (c .alone .ensures _ (after-inserts-more .before .own-ask .ensures))
+    let after-own-ask = after-inserts-more .before in
+    let start = start-from-own-ask after-own-ask in
+    alone-did (start .pre) (start .args .value) (start .args .version) (after-inserts-more .inserts-more .ensures) (else1 .if1 .left) (c .alone .ensures _ (after-own-ask .own-ask .ensures))
 
 pub at-leaf-spec : {M : Type 1} → statement M
 at-leaf-spec =

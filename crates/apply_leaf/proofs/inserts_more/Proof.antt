@@ -30,9 +30,6 @@ loop-holds c = record { many = c .record-count .ensures; within = omega arith; r
 abbrev start-from-at-loop : tie.At-loop Inv-loop μ-loop → tie.Start Inv-loop μ-loop
 start-from-at-loop c = c .before .before .before
 
-abbrev start-from-asks-for : tie.After-asks-for Inv-loop μ-loop → tie.Start Inv-loop μ-loop
-start-from-asks-for c = start-from-at-loop (c .before .before .before .before)
-
 is-insert-requires : tie.Need-is-insert-requires Inv-loop μ-loop
 is-insert-requires c κs = omega (arith, c .before .loop .inv)
 
@@ -47,19 +44,25 @@ loop-again c =
     let after-is-insert = c .before in
     let in-loop = after-is-insert .before in
     let at-loop = in-loop .before in
-    let a = at-loop .before .before .before .args in
+    let a = start-from-at-loop at-loop .args in
     let k = hashBytes (a .key) in
     look-on (step.otherInserts k) (a .run .now) (at-loop .loop .inv) (in-loop .loop-test .taken)
     (more-delete k (askAt (at-loop .loop .i) (a .run .now)) (drop (at-loop .loop .i + 1) (asks (a .run .now))) (sym (after-is-insert .is-insert .ensures) ∙ not-true _ (c .if1 .taken)))
 
 asks-for-requires : tie.Need-asks-for-requires Inv-loop μ-loop
-asks-for-requires c κs = omega (arith, c .before .before .before .loop .inv, c .before .before .loop-test)
+asks-for-requires c κs =
+    let in-loop = c .before .before in
+    omega (arith, in-loop .before .loop .inv, in-loop .loop-test)
 
 returns : tie.Need-returns Inv-loop μ-loop
 returns c =
     let after-asks-for = c .before in
-    let a = start-from-asks-for after-asks-for .args in
-    more-here (hashBytes (a .key)) (a .run .now) (after-asks-for .before .before .before .before .loop .inv) (after-asks-for .before .before .before .loop-test .taken) (sym (after-asks-for .before .before .is-insert .ensures) ∙ not-false _ (after-asks-for .before .if1 .left)) (sym (after-asks-for .asks-for .ensures) ∙ not-true _ (c .if2 .taken))
+    let else1 = after-asks-for .before in
+    let after-is-insert = else1 .before in
+    let in-loop = after-is-insert .before in
+    let at-loop = in-loop .before in
+    let a = start-from-at-loop at-loop .args in
+    more-here (hashBytes (a .key)) (a .run .now) (at-loop .loop .inv) (in-loop .loop-test .taken) (sym (after-is-insert .is-insert .ensures) ∙ not-false _ (else1 .if1 .left)) (sym (after-asks-for .asks-for .ensures) ∙ not-true _ (c .if2 .taken))
 
 add-i-2 : tie.Need-add-i-2 Inv-loop μ-loop
 add-i-2 c = omega arith
@@ -72,13 +75,13 @@ loop-again-2 c =
     let after-asks-for = c .before in
     let in-loop = after-asks-for .before .before .before in
     let at-loop = in-loop .before in
-    let a = at-loop .before .before .before .args in
+    let a = start-from-at-loop at-loop .args in
     let k = hashBytes (a .key) in
     look-on (step.otherInserts k) (a .run .now) (at-loop .loop .inv) (in-loop .loop-test .taken)
     (more-own k (askAt (at-loop .loop .i) (a .run .now)) (drop (at-loop .loop .i + 1) (asks (a .run .now))) (sym (after-asks-for .asks-for .ensures) ∙ not-false _ (c .if2 .left)))
 
 returns-2 : tie.Need-returns-2 Inv-loop μ-loop
-returns-2 c = let a = c .before .before .before .before .args in sym (ap isMore (look-end (step.otherInserts (hashBytes (a .key))) (a .run .now) (c .before .loop .inv) (c .loop-test .left)))
+returns-2 c = let a = start-from-at-loop (c .before) .args in sym (ap isMore (look-end (step.otherInserts (hashBytes (a .key))) (a .run .now) (c .before .loop .inv) (c .loop-test .left)))
 
 pub inserts-more-spec : {M : Type 1} → statement M
 inserts-more-spec =

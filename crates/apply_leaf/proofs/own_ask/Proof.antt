@@ -31,14 +31,13 @@ at-loop-from-is-insert c = c .before .before .before .before
 abbrev start-from-at-loop : tie.At-loop Inv-loop μ-loop → tie.Start Inv-loop μ-loop
 start-from-at-loop c = c .before .before .before
 
-abbrev start-from-is-insert : tie.After-is-insert Inv-loop μ-loop → tie.Start Inv-loop μ-loop
-start-from-is-insert c = start-from-at-loop (c .before .before .before .before)
-
 asks-for-requires : tie.Need-asks-for-requires Inv-loop μ-loop
 asks-for-requires c κs = omega (arith, c .before .loop .inv)
 
 is-insert-requires : tie.Need-is-insert-requires Inv-loop μ-loop
-is-insert-requires c κs = omega (arith, c .before .before .before .loop .inv, c .before .before .loop-test)
+is-insert-requires c κs =
+    let in-loop = c .before .before in
+    omega (arith, in-loop .before .loop .inv, in-loop .loop-test)
 
 grant-requires : tie.Need-grant-requires Inv-loop μ-loop
 grant-requires c κs =
@@ -53,15 +52,23 @@ returns c =
     let after-grant = c .before in
     let then2 = after-grant .before in
     let after-is-insert = then2 .before in
-    let a = start-from-is-insert after-is-insert .args in
+    let then1 = after-is-insert .before in
+    let after-asks-for = then1 .before in
+    let in-loop = after-asks-for .before in
+    let at-loop = in-loop .before in
+    let a = start-from-at-loop at-loop .args in
     let g = after-grant .grant .ensures in
-    own-insert (hashBytes (a .key)) (a .run .now) (at-loop-from-is-insert after-is-insert .loop .inv) (after-is-insert .before .before .before .loop-test .taken) (sym (after-is-insert .before .before .asks-for .ensures) ∙ after-is-insert .before .if1 .taken) (sym (after-is-insert .is-insert .ensures) ∙ then2 .if2 .taken) _ _ (g .0) (g .1) (c .hash-at .ensures .1)
+    own-insert (hashBytes (a .key)) (a .run .now) (at-loop .loop .inv) (in-loop .loop-test .taken) (sym (after-asks-for .asks-for .ensures) ∙ then1 .if1 .taken) (sym (after-is-insert .is-insert .ensures) ∙ then2 .if2 .taken) _ _ (g .0) (g .1) (c .hash-at .ensures .1)
 
 returns-2 : tie.Need-returns-2 Inv-loop μ-loop
 returns-2 c =
     let after-is-insert = c .before in
-    let a = start-from-is-insert after-is-insert .args in
-    own-delete (hashBytes (a .key)) (a .run .now) (at-loop-from-is-insert after-is-insert .loop .inv) (after-is-insert .before .before .before .loop-test .taken) (sym (after-is-insert .before .before .asks-for .ensures) ∙ after-is-insert .before .if1 .taken) (sym (after-is-insert .is-insert .ensures) ∙ c .if2 .left)
+    let then1 = after-is-insert .before in
+    let after-asks-for = then1 .before in
+    let in-loop = after-asks-for .before in
+    let at-loop = in-loop .before in
+    let a = start-from-at-loop at-loop .args in
+    own-delete (hashBytes (a .key)) (a .run .now) (at-loop .loop .inv) (in-loop .loop-test .taken) (sym (after-asks-for .asks-for .ensures) ∙ then1 .if1 .taken) (sym (after-is-insert .is-insert .ensures) ∙ c .if2 .left)
 
 add-i : tie.Need-add-i Inv-loop μ-loop
 add-i c = omega arith
@@ -74,12 +81,12 @@ loop-again c =
     let after-asks-for = c .before in
     let in-loop = after-asks-for .before in
     let at-loop = in-loop .before in
-    let a = at-loop .before .before .before .args in
+    let a = start-from-at-loop at-loop .args in
     let k = hashBytes (a .key) in
     look-on (step.ownAsk k) (a .run .now) (at-loop .loop .inv) (in-loop .loop-test .taken) (own-else k (askAt (at-loop .loop .i) (a .run .now)) (drop (at-loop .loop .i + 1) (asks (a .run .now))) (sym (after-asks-for .asks-for .ensures) ∙ c .if1 .left))
 
 returns-3 : tie.Need-returns-3 Inv-loop μ-loop
-returns-3 c = let a = c .before .before .before .before .args in look-end (step.ownAsk (hashBytes (a .key))) (a .run .now) (c .before .loop .inv) (c .loop-test .left)
+returns-3 c = let a = start-from-at-loop (c .before) .args in look-end (step.ownAsk (hashBytes (a .key))) (a .run .now) (c .before .loop .inv) (c .loop-test .left)
 
 pub own-ask-spec : {M : Type 1} → statement M
 own-ask-spec =

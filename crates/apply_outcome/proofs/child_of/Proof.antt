@@ -26,10 +26,14 @@ returns : tie.Need-returns
 returns c = child-nothing (c .before .before .before .args .node) _ (c .before .enum-told .given .1) (c .no-hash .ensures)
 
 returns-2 : tie.Need-returns-2
-returns-2 c = child-leaf (c .before .before .before .before .args .node) _ (c .before .before .node .given .1) (c .grant-hash .ensures)
+returns-2 c =
+    let after-node = c .before .before in
+    child-leaf (after-node .before .before .args .node) _ (after-node .node .given .1) (c .grant-hash .ensures)
 
 returns-3 : tie.Need-returns-3
-returns-3 c = child-inner (c .before .before .before .before .args .node) _ (c .before .before .node2 .given .1) (c .inner-hash .ensures)
+returns-3 c =
+    let after-node2 = c .before .before in
+    child-inner (after-node2 .before .before .args .node) _ (after-node2 .node2 .given .1) (c .inner-hash .ensures)
 
 pub child-of-spec : {M : Type 1} → statement M
 child-of-spec =

@@ -14,19 +14,32 @@ use Rattle.apply_outcome.proofs.fork.Tie as tie
 left-requires : tie.Need-left-requires
 left-requires c κs = search needs
 
+-- `A-from-B` is the state A as the later state B has it.
+abbrev start-from-left : tie.After-left → tie.Start
+start-from-left c = c .before .before .before
+
+abbrev start-from-place-updated : tie.After-place-updated → tie.Start
+start-from-place-updated c = start-from-left (c .before)
+
+abbrev start-from-right : tie.After-right → tie.Start
+start-from-right c = start-from-place-updated (c .before .before .before .before)
+
+abbrev start-from-child-after2 : tie.After-child-after2 → tie.Start
+start-from-child-after2 c = start-from-right (c .before .before .before .before .before)
+
 place-updated-requires : tie.Need-place-updated-requires
 place-updated-requires c κs =
-    let c3 = c .before .before .before in
-    places-at (c3 .args .writes) (c3 .args .l) (c .left .ensures) (c3 .pre .stored) (c3 .pre .starts) (c3 .pre .left-form)
+    let start = start-from-left c in
+    places-at (start .args .writes) (start .args .l) (c .left .ensures) (start .pre .stored) (start .pre .starts) (start .pre .left-form)
 
 right-requires : tie.Need-right-requires
 right-requires c κs = search needs
 
 place-updated-requires-2 : tie.Need-place-updated-requires-2
 place-updated-requires-2 c κs =
-    let c4 = c .before .before .before .before in
-    let c8 = c4 .before .before .before .before in
-    places-at (c8 .args .writes) (c8 .args .r) (c .right .ensures) (changed-stored (c4 .place-updated .ensures .bytes)) (c4 .place-updated .ensures .reach .starts) (c8 .pre .right-form)
+    let after-place-updated = c .before .before .before .before in
+    let start = start-from-place-updated after-place-updated in
+    places-at (start .args .writes) (start .args .r) (c .right .ensures) (changed-stored (after-place-updated .place-updated .ensures .bytes)) (after-place-updated .place-updated .ensures .reach .starts) (start .pre .right-form)
 
 child-after-requires : tie.Need-child-after-requires
 child-after-requires c κs = search needs
@@ -35,31 +48,31 @@ child-after-requires-2 : tie.Need-child-after-requires-2
 child-after-requires-2 c κs = search needs
 
 leaves-of-requires : tie.Need-leaves-of-requires
-leaves-of-requires c κs = c .before .before .before .before .before .before .before .before .before .before .before .before .before .pre .left-few
+leaves-of-requires c κs = start-from-child-after2 c .pre .left-few
 
 leaves-of-requires-2 : tie.Need-leaves-of-requires-2
-leaves-of-requires-2 c κs = c .before .before .before .before .before .before .before .before .before .before .before .before .before .before .pre .right-few
+leaves-of-requires-2 c κs = start-from-child-after2 (c .before) .pre .right-few
 
 same-length : tie.Need-same-length
 same-length c = search needs
 
 returns : tie.Need-returns
 returns c =
-    let c0 = c .before .before in
-    let c1 = c0 .before in
-    let c4 = c1 .before .before .before in
-    let c5 = c4 .before in
-    let c9 = c5 .before .before .before .before in
-    let c10 = c9 .before in
-    let c13 = c10 .before .before .before in
+    let after-leaves-of = c .before in
+    let after-child-after2 = after-leaves-of .before in
+    let after-child-after = after-child-after2 .before in
+    let after-place-updated2 = after-child-after .before .before .before in
+    let after-right = after-place-updated2 .before in
+    let after-place-updated = after-right .before .before .before .before in
+    let start = start-from-place-updated after-place-updated in
     record {
-      left-child = c1 .child-after .result;
-      right-child = c0 .child-after2 .result;
+      left-child = after-child-after .child-after .result;
+      right-child = after-child-after2 .child-after2 .result;
       change = refl;
-      node = ap₂ (Inner (c13 .args .new) (c1 .child-after .result) (c0 .child-after2 .result)) (c .before .leaves-of .ensures) (c .leaves-of2 .ensures);
-      left-is = c1 .child-after .ensures;
-      right-is = c0 .child-after2 .ensures;
-      placed = two-placed (c13 .args .writes) (c13 .args .l) (c13 .args .r) (c10 .left .ensures) (c5 .right .ensures) (c9 .place-updated .ensures) (c4 .place-updated2 .ensures);
+      node = ap₂ (Inner (start .args .new) (after-child-after .child-after .result) (after-child-after2 .child-after2 .result)) (after-leaves-of .leaves-of .ensures) (c .leaves-of2 .ensures);
+      left-is = after-child-after .child-after .ensures;
+      right-is = after-child-after2 .child-after2 .ensures;
+      placed = two-placed (start .args .writes) (start .args .l) (start .args .r) (after-place-updated .before .left .ensures) (after-right .right .ensures) (after-place-updated .place-updated .ensures) (after-place-updated2 .place-updated2 .ensures);
     }
 
 pub fork-spec : {M : Type 1} → statement M

@@ -14,8 +14,14 @@ enum-told-2 c = search needs
 enum-known-node : tie.Need-enum-known-node
 enum-known-node c = search needs
 
+-- `A-from-B` is the state A as the later state B has it.
+abbrev start-from-known-told : tie.After-known-told → tie.Start
+start-from-known-told c = c .before .before .before
+
 add-result : tie.Need-add-result
-add-result c = omega (arith, inner-few (c .before .before .before .args .node) (c .before .node .given .1) (c .before .before .before .pre))
+add-result c =
+    let start = start-from-known-told c in
+    omega (arith, inner-few (start .args .node) (c .before .node .given .1) (start .pre))
 
 returns : tie.Need-returns
 returns c = search needs
@@ -24,7 +30,7 @@ returns-2 : tie.Need-returns-2
 returns-2 c = search needs
 
 returns-3 : tie.Need-returns-3
-returns-3 c = inner-leaves (c .before .before .before .args .node) (c .before .node .given .1)
+returns-3 c = inner-leaves (start-from-known-told c .args .node) (c .before .node .given .1)
 
 pub leaves-of-spec : {M : Type 1} → statement M
 leaves-of-spec =

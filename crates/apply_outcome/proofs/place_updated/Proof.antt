@@ -11,6 +11,10 @@ use Rattle.apply_outcome.proofs.place_updated.Tie as tie
 enum-told : tie.Need-enum-told
 enum-told c = search needs
 
+-- `A-from-B` is the state A as the later state B has it.
+abbrev start-from-place-node-arg : tie.After-place-node-arg → tie.Start
+start-from-place-node-arg c = c .before .before .before .before
+
 returns : tie.Need-returns
 returns c =
     let c2 = c .before .before in
@@ -18,14 +22,13 @@ returns c =
 
 place-node-requires : tie.Need-place-node-requires
 place-node-requires c κs =
-    let c1 = c .before in
-    let c4 = c1 .before .before .before in
-    let e = is-updated (placeOf (c4 .args .place)) (c4 .args .out) (c1 .enum-told .given .1) in
+    let start = start-from-place-node-arg c in
+    let e = is-updated (placeOf (start .args .place)) (start .args .out) (c .before .enum-told .given .1) in
     record {
-      stored = c4 .pre .stored;
-      starts = c4 .pre .starts;
-      proper = c4 .pre .proper;
-      form = λ w. subst (All RecordForm) e (c4 .pre .form w);
+      stored = start .pre .stored;
+      starts = start .pre .starts;
+      proper = start .pre .proper;
+      form = λ w. subst (All RecordForm) e (start .pre .form w);
     }
 
 same-length : tie.Need-same-length
@@ -33,10 +36,10 @@ same-length c = search needs
 
 returns-2 : tie.Need-returns-2
 returns-2 c =
-    let c2 = c .before .before in
-    let c4 = c2 .before .before in
-    let c7 = c4 .before .before .before in
-    some-placed (c7 .args .writes) (is-updated (placeOf (c7 .args .place)) (c7 .args .out) (c4 .enum-told .given .1)) (c2 .place-node .ensures)
+    let after-place-node = c .before .before in
+    let after-place-node-arg = after-place-node .before in
+    let start = start-from-place-node-arg after-place-node-arg in
+    some-placed (start .args .writes) (is-updated (placeOf (start .args .place)) (start .args .out) (after-place-node-arg .before .enum-told .given .1)) (after-place-node .place-node .ensures)
 
 pub place-updated-spec : {M : Type 1} → statement M
 place-updated-spec =

@@ -14,10 +14,15 @@ use borrow.Author.Needs.{needs}
 use Rattle.apply_publish.proofs.publish.Statement.{statement}
 use Rattle.apply_publish.proofs.publish.Tie as tie
 
+-- `A-from-B` is the state A as the later state B has it.
+abbrev at-root-from-count-free-arg : tie.After-count-free-arg → tie.After-at-root
+at-root-from-count-free-arg c = c .before .before .before
+
+abbrev start-from-shared-slice-known : tie.After-shared-slice-known → tie.Start
+start-from-shared-slice-known c = c .before .before
+
 latest-of-requires : tie.Need-latest-of-requires
-latest-of-requires c κs =
-    let c3 = c .before .before .before in
-    omega (arith, sound-long (c3 .pre .sound))
+latest-of-requires c κs = omega (arith, sound-long (start-from-shared-slice-known (c .before) .pre .sound))
 
 same-length : tie.Need-same-length
 same-length c = search needs
@@ -25,9 +30,9 @@ same-length c = search needs
 returns : tie.Need-returns
 unfolding appliedSays
 returns c =
-    let c1 = c .before in
-    let c5 = c1 .before .before .before .before in
-    refused-18 (c5 .args .number) (c5 .pre) (omega (arith, c1 .latest-of .ensures, c .if1 .taken))
+    let after-latest-of = c .before in
+    let start = start-from-shared-slice-known (after-latest-of .before .before) in
+    refused-18 (start .args .number) (start .pre) (omega (arith, after-latest-of .latest-of .ensures, c .if1 .taken))
 
 top-requires : tie.Need-top-requires
 top-requires c κs = search needs
@@ -42,10 +47,11 @@ root-version-requires c κs =
 
 guess-all-requires : tie.Need-guess-all-requires
 guess-all-requires c κs =
-    let c9 = c .before .before .before .before .before .before .before .before .before in
-    let c10 = c9 .before in
-    let b = all-of Byte (c10 .args .store .now) 0 (λ i _. omega (arith, c9 .slice-known .given i)) in
-    stored (c10 .pre) b
+    let else1 = c .before .before .before .before .before in
+    let after-shared-slice-known = else1 .before .before .before in
+    let start = start-from-shared-slice-known after-shared-slice-known in
+    let b = all-of Byte (start .args .store .now) 0 (λ i _. omega (arith, after-shared-slice-known .before .slice-known .given i)) in
+    stored (start .pre) b
 
 at-root-requires : tie.Need-at-root-requires
 at-root-requires c κs =
@@ -61,9 +67,7 @@ at-root-requires c κs =
     first-time (c13 .pre) b d (c9 .latest-of .ensures) (c8 .if1 .left) (c7 .top .ensures) (c5 .root-version .ensures) false
 
 count-free-requires : tie.Need-count-free-requires
-count-free-requires c κs =
-    let c3 = c .before .before .before in
-    changed-stored (c3 .at-root .ensures .bytes)
+count-free-requires c κs = changed-stored (at-root-from-count-free-arg c .at-root .ensures .bytes)
 
 same-length-2 : tie.Need-same-length-2
 same-length-2 c = search needs
@@ -71,32 +75,32 @@ same-length-2 c = search needs
 returns-2 : tie.Need-returns-2
 unfolding appliedSays
 returns-2 c =
-    let c2 = c .before .before in
-    let c6 = c2 .before .before .before .before in
-    let c12 = c6 .before .before .before .before .before .before in
-    let c14 = c12 .before .before in
-    let c15 = c14 .before in
-    let c16 = c15 .before in
-    let c18 = c16 .before .before in
-    let c19 = c18 .before in
-    let c20 = c19 .before in
-    let b = all-of Byte (c20 .args .store .now) 0 (λ i _. omega (arith, c19 .slice-known .given i)) in
-    let d = all-of Byte (c20 .args .batch .now) 0 (λ i _. omega (arith, c18 .shared-slice-known .given i)) in
-    no-room (c20 .pre) b d (c16 .latest-of .ensures) (c15 .if1 .left) (c14 .top .ensures) (c12 .root-version .ensures) (c6 .at-root .ensures) (c2 .count-free .ensures) (c .if2 .taken)
+    let after-count-free = c .before .before in
+    let after-at-root = after-count-free .before .before .before .before in
+    let after-guesses = after-at-root .before .before .before .before in
+    let after-root-version = after-guesses .before .before in
+    let after-top = after-root-version .before .before in
+    let else1 = after-top .before in
+    let after-latest-of = else1 .before in
+    let after-shared-slice-known = after-latest-of .before .before in
+    let start = start-from-shared-slice-known after-shared-slice-known in
+    let b = all-of Byte (start .args .store .now) 0 (λ i _. omega (arith, after-shared-slice-known .before .slice-known .given i)) in
+    let d = all-of Byte (start .args .batch .now) 0 (λ i _. omega (arith, after-shared-slice-known .shared-slice-known .given i)) in
+    no-room (start .pre) b d (after-latest-of .latest-of .ensures) (else1 .if1 .left) (after-top .top .ensures) (after-root-version .root-version .ensures) (after-at-root .at-root .ensures) (after-count-free .count-free .ensures) (c .if2 .taken)
 
 at-root-requires-2 : tie.Need-at-root-requires-2
 at-root-requires-2 c κs =
-    let c8 = c .before .before .before .before .before .before .before .before in
-    let c14 = c8 .before .before .before .before .before .before in
-    let c16 = c14 .before .before in
-    let c17 = c16 .before in
-    let c18 = c17 .before in
-    let c20 = c18 .before .before in
-    let c21 = c20 .before in
-    let c22 = c21 .before in
-    let b = all-of Byte (c22 .args .store .now) 0 (λ i _. omega (arith, c21 .slice-known .given i)) in
-    let d = all-of Byte (c22 .args .batch .now) 0 (λ i _. omega (arith, c20 .shared-slice-known .given i)) in
-    second-time (c22 .pre) b d (c18 .latest-of .ensures) (c17 .if1 .left) (c16 .top .ensures) (c14 .root-version .ensures) (c8 .at-root .ensures)
+    let after-count-free-arg = c .before .before .before .before .before in
+    let after-guesses2 = after-count-free-arg .before .before .before .before in
+    let after-root-version = after-guesses2 .before .before .before .before .before in
+    let after-top = after-root-version .before .before in
+    let else1 = after-top .before in
+    let after-latest-of = else1 .before in
+    let after-shared-slice-known = after-latest-of .before .before in
+    let start = start-from-shared-slice-known after-shared-slice-known in
+    let b = all-of Byte (start .args .store .now) 0 (λ i _. omega (arith, after-shared-slice-known .before .slice-known .given i)) in
+    let d = all-of Byte (start .args .batch .now) 0 (λ i _. omega (arith, after-shared-slice-known .shared-slice-known .given i)) in
+    second-time (start .pre) b d (after-latest-of .latest-of .ensures) (else1 .if1 .left) (after-top .top .ensures) (after-root-version .root-version .ensures) (at-root-from-count-free-arg after-count-free-arg .at-root .ensures)
 
 put-latest-requires : tie.Need-put-latest-requires
 put-latest-requires c κs =
@@ -108,8 +112,9 @@ child-of-requires c κs = search needs
 
 cast-count : tie.Need-cast-count
 cast-count c =
-    let c18 = c .before .before .before .before .before .before .before .before .before .before .before .before .before .before .before .before .before .before in
-    omega (arith, c18 .at-root .ensures .reach .starts .few)
+    let after-put-latest = c .before .before .before .before .before in
+    let after-guesses3 = after-put-latest .before .before .before .before .before in
+    omega (arith, at-root-from-count-free-arg (after-guesses3 .before .before .before .before .before) .at-root .ensures .reach .starts .few)
 
 same-length-3 : tie.Need-same-length-3
 same-length-3 c = search needs
@@ -117,22 +122,22 @@ same-length-3 c = search needs
 returns-3 : tie.Need-returns-3
 unfolding appliedSays
 returns-3 c =
-    let c2 = c .before .before in
-    let c5 = c2 .before .before .before in
-    let c9 = c5 .before .before .before .before in
-    let c12 = c9 .before .before .before in
-    let c14 = c12 .before .before in
-    let c18 = c14 .before .before .before .before in
-    let c24 = c18 .before .before .before .before .before .before in
-    let c26 = c24 .before .before in
-    let c27 = c26 .before in
-    let c28 = c27 .before in
-    let c30 = c28 .before .before in
-    let c31 = c30 .before in
-    let c32 = c31 .before in
-    let b = all-of Byte (c32 .args .store .now) 0 (λ i _. omega (arith, c31 .slice-known .given i)) in
-    let d = all-of Byte (c32 .args .batch .now) 0 (λ i _. omega (arith, c30 .shared-slice-known .given i)) in
-    published (c32 .pre) b d (c28 .latest-of .ensures) (c27 .if1 .left) (c26 .top .ensures) (c24 .root-version .ensures) (c18 .at-root .ensures) (c14 .count-free .ensures) (c12 .if2 .left) (c2 .child-of .result) (c9 .at-root2 .ensures) (c5 .put-latest .ensures) (c2 .child-of .ensures)
+    let after-child-of = c .before .before in
+    let after-put-latest = after-child-of .before .before .before in
+    let after-at-root2 = after-put-latest .before .before .before .before in
+    let else2 = after-at-root2 .before .before .before in
+    let after-count-free = else2 .before .before in
+    let after-at-root = after-count-free .before .before .before .before in
+    let after-guesses = after-at-root .before .before .before .before in
+    let after-root-version = after-guesses .before .before in
+    let after-top = after-root-version .before .before in
+    let else1 = after-top .before in
+    let after-latest-of = else1 .before in
+    let after-shared-slice-known = after-latest-of .before .before in
+    let start = start-from-shared-slice-known after-shared-slice-known in
+    let b = all-of Byte (start .args .store .now) 0 (λ i _. omega (arith, after-shared-slice-known .before .slice-known .given i)) in
+    let d = all-of Byte (start .args .batch .now) 0 (λ i _. omega (arith, after-shared-slice-known .shared-slice-known .given i)) in
+    published (start .pre) b d (after-latest-of .latest-of .ensures) (else1 .if1 .left) (after-top .top .ensures) (after-root-version .root-version .ensures) (after-at-root .at-root .ensures) (after-count-free .count-free .ensures) (else2 .if2 .left) (after-child-of .child-of .result) (after-at-root2 .at-root2 .ensures) (after-put-latest .put-latest .ensures) (after-child-of .child-of .ensures)
 
 pub publish-spec : {M : Type 1} → statement M
 publish-spec =

@@ -14,23 +14,22 @@ enum-told : tie.Need-enum-told
 enum-told c = search needs
 
 -- `A-from-B` is the state A as the later state B has it.
-abbrev start-from-slot-of : tie.After-slot-of → tie.Start
-start-from-slot-of c = c .before .before .before .before .before
+abbrev found-from-is-leaf : tie.After-is-leaf → tie.After-found
+found-from-is-leaf c = c .before .before .before
 
-abbrev start-from-is-leaf : tie.After-is-leaf → tie.Start
-start-from-is-leaf c = start-from-slot-of (c .before)
+abbrev start-from-found : tie.After-found → tie.Start
+start-from-found c = c .before .before .before
 
-abbrev start-from-child-version-at : tie.After-child-version-at → tie.Start
-start-from-child-version-at c = start-from-is-leaf (c .before .before)
+abbrev start-from-else1 : tie.Else1 → tie.Start
+start-from-else1 c = start-from-found (c .before .before .before .before)
 
 returns : tie.Need-returns
 returns c = subst (λ f. GoesOn (c .before .before .before .args .store .now) f _) (sym (c .enum-told .given .1)) refl
 
 slot-of-requires : tie.Need-slot-of-requires
 slot-of-requires c κs =
-    let after-found = c .before in
-    let start = after-found .before .before .before in
-    slot-there (subst (UsedAt (start .args .store .now)) (after-found .found .given .1) (start .pre))
+    let start = start-from-found (c .before) in
+    slot-there (subst (UsedAt (start .args .store .now)) (c .before .found .given .1) (start .pre))
 
 is-leaf-requires : tie.Need-is-leaf-requires
 is-leaf-requires c κs = search needs
@@ -38,28 +37,28 @@ is-leaf-requires c κs = search needs
 returns-2 : tie.Need-returns-2
 returns-2 c =
     let after-is-leaf = c .before in
-    let after-slot-of = after-is-leaf .before in
-    let start = start-from-slot-of after-slot-of in
-    ends-held (subst (UsedAt (start .args .store .now)) (after-slot-of .before .before .found .given .1) (start .pre)) refl (after-slot-of .before .before .found .given .1) (after-is-leaf .is-leaf .ensures ∙ ap isLeaf (after-slot-of .slot-of .ensures .0)) (c .if1 .taken)
+    let after-found = found-from-is-leaf after-is-leaf in
+    let start = start-from-found after-found in
+    ends-held (subst (UsedAt (start .args .store .now)) (after-found .found .given .1) (start .pre)) refl (after-found .found .given .1) (after-is-leaf .is-leaf .ensures ∙ ap isLeaf (after-is-leaf .before .slot-of .ensures .0)) (c .if1 .taken)
 
 child-version-at-requires : tie.Need-child-version-at-requires
 child-version-at-requires c κs =
-    let start = start-from-is-leaf (c .before) in
-    slot-there (subst (UsedAt (start .args .store .now)) (c .before .before .before .before .found .given .1) (start .pre))
+    let start = start-from-else1 c in
+    slot-there (subst (UsedAt (start .args .store .now)) (found-from-is-leaf (c .before) .found .given .1) (start .pre))
 
 child-version-at-requires-2 : tie.Need-child-version-at-requires-2
 child-version-at-requires-2 c κs =
-    let start = start-from-child-version-at c in
-    slot-there (subst (UsedAt (start .args .store .now)) (c .before .before .before .before .before .found .given .1) (start .pre))
+    let start = start-from-else1 (c .before) in
+    slot-there (subst (UsedAt (start .args .store .now)) (found-from-is-leaf (c .before .before) .found .given .1) (start .pre))
 
 returns-3 : tie.Need-returns-3
 returns-3 c =
     let after-child-version-at = c .before in
     let else1 = after-child-version-at .before in
     let after-is-leaf = else1 .before in
-    let after-slot-of = after-is-leaf .before in
-    let start = start-from-slot-of after-slot-of in
-    goes-held (subst (UsedAt (start .args .store .now)) (after-slot-of .before .before .found .given .1) (start .pre)) refl (after-slot-of .before .before .found .given .1) (after-is-leaf .is-leaf .ensures ∙ ap isLeaf (after-slot-of .slot-of .ensures .0)) (else1 .if1 .left) (after-child-version-at .child-version-at .ensures) (c .child-version-at2 .ensures)
+    let after-found = found-from-is-leaf after-is-leaf in
+    let start = start-from-found after-found in
+    goes-held (subst (UsedAt (start .args .store .now)) (after-found .found .given .1) (start .pre)) refl (after-found .found .given .1) (after-is-leaf .is-leaf .ensures ∙ ap isLeaf (after-is-leaf .before .slot-of .ensures .0)) (else1 .if1 .left) (after-child-version-at .child-version-at .ensures) (c .child-version-at2 .ensures)
 
 pub onward-from-spec : {M : Type 1} → statement M
 onward-from-spec =

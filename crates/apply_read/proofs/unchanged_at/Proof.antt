@@ -5,6 +5,10 @@ use borrow.Author.Needs.{needs}
 use Rattle.apply_read.proofs.unchanged_at.Statement.{statement}
 use Rattle.apply_read.proofs.unchanged_at.Tie as tie
 
+-- `A-from-B` is the state A as the later state B has it.
+abbrev start-from-find-near : tie.After-find-near → tie.Start
+start-from-find-near c = c .before .before
+
 find-near-requires : tie.Need-find-near-requires
 find-near-requires c κs =
     let c1 = c .before in
@@ -18,23 +22,20 @@ enum-told c = search needs
 
 returns : tie.Need-returns
 returns c =
-    let c2 = c .before .before in
-    let c4 = c2 .before .before in
-    record { change = refl; node = node-none (c4 .pre .0) (c2 .find-near .ensures) (c .enum-told .given .1); reach = refl }
+    let after-find-near = c .before .before in
+    record { change = refl; node = node-none (start-from-find-near after-find-near .pre .0) (after-find-near .find-near .ensures) (c .enum-told .given .1); reach = refl }
 
 node-in-requires : tie.Need-node-in-requires
 node-in-requires c κs =
-    let c1 = c .before in
-    let c3 = c1 .before .before in
-    let c5 = c3 .before .before in
-    slot-used (c5 .pre .0) (c3 .find-near .ensures) (c1 .found .given .1)
+    let after-found = c .before in
+    let after-find-near = after-found .before .before in
+    slot-used (start-from-find-near after-find-near .pre .0) (after-find-near .find-near .ensures) (after-found .found .given .1)
 
 returns-2 : tie.Need-returns-2
 returns-2 c =
-    let c2 = c .before .before in
-    let c4 = c2 .before .before in
-    let c6 = c4 .before .before in
-    record { change = refl; node = node-there (c6 .pre .0) (c4 .find-near .ensures) (c2 .found .given .1) (c .node-in .result) (c .node-in .ensures); reach = refl }
+    let after-found = c .before .before in
+    let after-find-near = after-found .before .before in
+    record { change = refl; node = node-there (start-from-find-near after-find-near .pre .0) (after-find-near .find-near .ensures) (after-found .found .given .1) (c .node-in .result) (c .node-in .ensures); reach = refl }
 
 pub unchanged-at-spec : {M : Type 1} → statement M
 unchanged-at-spec =

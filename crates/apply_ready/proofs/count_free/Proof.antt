@@ -17,6 +17,13 @@ Inv-loop store n free₀ i₀ free i = Counted store n free i
 abbrev μ-loop : tie.MeasureT-loop
 μ-loop store n free₀ i₀ free i = n - i
 
+-- `A-from-B` is the state A as the later state B has it.
+abbrev at-loop-from-all-zero : tie.After-all-zero Inv-loop μ-loop → tie.At-loop Inv-loop μ-loop
+at-loop-from-all-zero c = c .before .before .before
+
+abbrev in-loop-from-all-zero : tie.After-all-zero Inv-loop μ-loop → tie.In-loop Inv-loop μ-loop
+in-loop-from-all-zero c = c .before .before
+
 slot-count-requires : tie.Need-slot-count-requires Inv-loop μ-loop
 slot-count-requires c κs = stored-size (c .before .pre)
 
@@ -30,25 +37,29 @@ all-zero-requires : tie.Need-all-zero-requires Inv-loop μ-loop
 all-zero-requires c κs = search needs
 
 add-free : tie.Need-add-free Inv-loop μ-loop
-add-free c = let w = c .before .before .before .before .loop .inv in omega (arith, w .few, w .scan .within, w .scan .small)
+add-free c = let w = at-loop-from-all-zero (c .before) .loop .inv in omega (arith, w .few, w .scan .within, w .scan .small)
 
 add-i : tie.Need-add-i Inv-loop μ-loop
-add-i c = let w = c .before .before .before .before .loop .inv in omega (arith, w .scan .within, w .scan .small)
+add-i c = let w = at-loop-from-all-zero (c .before) .loop .inv in omega (arith, w .scan .within, w .scan .small)
 
 loop-less : tie.Need-loop-less Inv-loop μ-loop
-loop-less c = omega (arith, c .before .before .before .loop-test)
+loop-less c = omega (arith, in-loop-from-all-zero (c .before) .loop-test)
 
 loop-again : tie.Need-loop-again Inv-loop μ-loop
-loop-again c = one-free (c .before .before .before .before .loop .inv) (c .before .before .before .loop-test .taken) (ap allZero (sym (c .before .before .slot-of .ensures .0)) ∙ sym (c .before .all-zero .ensures) ∙ c .if1 .taken)
+loop-again c =
+    let after-all-zero = c .before in
+    one-free (at-loop-from-all-zero after-all-zero .loop .inv) (in-loop-from-all-zero after-all-zero .loop-test .taken) (ap allZero (sym (after-all-zero .before .slot-of .ensures .0)) ∙ sym (after-all-zero .all-zero .ensures) ∙ c .if1 .taken)
 
 add-i-2 : tie.Need-add-i-2 Inv-loop μ-loop
-add-i-2 c = let w = c .before .before .before .before .loop .inv in omega (arith, w .scan .within, w .scan .small)
+add-i-2 c = let w = at-loop-from-all-zero (c .before) .loop .inv in omega (arith, w .scan .within, w .scan .small)
 
 loop-less-2 : tie.Need-loop-less-2 Inv-loop μ-loop
-loop-less-2 c = omega (arith, c .before .before .before .loop-test)
+loop-less-2 c = omega (arith, in-loop-from-all-zero (c .before) .loop-test)
 
 loop-again-2 : tie.Need-loop-again-2 Inv-loop μ-loop
-loop-again-2 c = not-one (c .before .before .before .before .loop .inv) (c .before .before .before .loop-test .taken) (ap allZero (sym (c .before .before .slot-of .ensures .0)) ∙ sym (c .before .all-zero .ensures) ∙ c .if1 .left)
+loop-again-2 c =
+    let after-all-zero = c .before in
+    not-one (at-loop-from-all-zero after-all-zero .loop .inv) (in-loop-from-all-zero after-all-zero .loop-test .taken) (ap allZero (sym (after-all-zero .before .slot-of .ensures .0)) ∙ sym (after-all-zero .all-zero .ensures) ∙ c .if1 .left)
 
 returns : tie.Need-returns Inv-loop μ-loop
 returns c = all-counted (c .before .loop .inv) (c .loop-test .left)

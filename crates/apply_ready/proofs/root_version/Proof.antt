@@ -13,6 +13,10 @@ use borrow.Author.Needs.{needs}
 use Rattle.apply_ready.proofs.root_version.Statement.{statement}
 use Rattle.apply_ready.proofs.root_version.Tie as tie
 
+-- `A-from-B` is the state A as the later state B has it.
+abbrev start-from-find-root : tie.After-find-root → tie.Start
+start-from-find-root c = c .before .before
+
 find-root-requires : tie.Need-find-root-requires
 find-root-requires c κs = stored-size (c .before .pre)
 
@@ -24,32 +28,35 @@ enum-told c = search needs
 
 returns : tie.Need-returns
 returns c =
-    let f = c .before .before in
-    let a = f .before .before .args in
+    let after-find-root = c .before .before in
+    let a = start-from-find-root after-find-root .args in
     let s = a .store .now in
     let o = rootOf (storeOf s) (a .version) in
-    sym (ap rootVersion (subst (Located (storeOf s .slots) o) (c .enum-told .given .1) (f .find-root .ensures)))
+    sym (ap rootVersion (subst (Located (storeOf s .slots) o) (c .enum-told .given .1) (after-find-root .find-root .ensures)))
 
 version-at-requires : tie.Need-version-at-requires
 version-at-requires c κs =
-    let f = c .before .before .before in
-    let a = f .before .before .args in
+    let after-found = c .before in
+    let after-find-root = after-found .before .before in
+    let start = start-from-find-root after-find-root in
+    let a = start .args in
     let s = a .store .now in
     let o = rootOf (storeOf s) (a .version) in
-    slot-within (f .before .before .pre) (c .before .found .given .0 .0)
-    (subst (Located (storeOf s .slots) o) (c .before .found .given .1) (f .find-root .ensures) .0)
+    slot-within (start .pre) (after-found .found .given .0 .0)
+    (subst (Located (storeOf s .slots) o) (after-found .found .given .1) (after-find-root .find-root .ensures) .0)
 
 returns-2 : tie.Need-returns-2
 returns-2 c =
-    let g = c .before .before in
-    let f = g .before .before in
-    let a = f .before .before .args in
+    let after-found = c .before .before in
+    let after-find-root = after-found .before .before in
+    let start = start-from-find-root after-find-root in
+    let a = start .args in
     let s = a .store .now in
-    let b = all-of Byte s 0 (λ i _. omega (arith, f .before .shared-slice-known .given i)) in
+    let b = all-of Byte s 0 (λ i _. omega (arith, after-find-root .before .shared-slice-known .given i)) in
     let o = rootOf (storeOf s) (a .version) in
     c .version-at .ensures
-    ∙ found-version (f .before .before .pre) b o (g .found .given .0 .0)
-    (subst (Located (storeOf s .slots) o) (g .found .given .1) (f .find-root .ensures))
+    ∙ found-version (start .pre) b o (after-found .found .given .0 .0)
+    (subst (Located (storeOf s .slots) o) (after-found .found .given .1) (after-find-root .find-root .ensures))
 
 pub root-version-spec : {M : Type 1} → statement M
 root-version-spec = tie.close (tie.spec find-root-requires enum-known-found enum-told returns version-at-requires returns-2)

@@ -14,9 +14,15 @@ use Rattle.apply_sound.proofs.apply_sound.Tie as tie
 batch-form-requires : tie.Need-batch-form-requires
 batch-form-requires c κs = search needs
 
+-- `A-from-B` is the state A as the later state B has it.
+abbrev start-from-batch-form : tie.After-batch-form → tie.Start
+start-from-batch-form c = c .before .before .before
+
 returns : tie.Need-returns
 unfolding appliedSays
-returns c = let a = c .before .before .before .before in refused-4 (a .pre) (a .args .number) (a .args .batch .now) (sym (c .before .batch-form .ensures) ∙ not-true _ (c .if1 .taken))
+returns c =
+    let start = start-from-batch-form (c .before) in
+    refused-4 (start .pre) (start .args .number) (start .args .batch .now) (sym (c .before .batch-form .ensures) ∙ not-true _ (c .if1 .taken))
 
 batch-order-requires : tie.Need-batch-order-requires
 batch-order-requires c κs = search needs
@@ -24,17 +30,25 @@ batch-order-requires c κs = search needs
 returns-2 : tie.Need-returns-2
 unfolding appliedSays
 returns-2 c =
-    let a = c .before .before .before .before .before .before in
-    refused-5 (a .pre) (a .args .number) (a .args .batch .now) (sym (c .before .before .before .batch-form .ensures) ∙ not-false _ (c .before .before .if1 .left)) (sym (c .before .batch-order .ensures) ∙ not-true _ (c .if2 .taken))
+    let after-batch-order = c .before in
+    let else1 = after-batch-order .before in
+    let after-batch-form = else1 .before in
+    let start = start-from-batch-form after-batch-form in
+    refused-5 (start .pre) (start .args .number) (start .args .batch .now) (sym (after-batch-form .batch-form .ensures) ∙ not-false _ (else1 .if1 .left)) (sym (after-batch-order .batch-order .ensures) ∙ not-true _ (c .if2 .taken))
 
 publish-requires : tie.Need-publish-requires
 publish-requires c κs =
-    let a = c .before .before .before .before .before .before .before .args .batch .now in
-    let f = sym (c .before .before .before .before .batch-form .ensures) ∙ not-false _ (c .before .before .before .if1 .left) in
+    let else2 = c .before in
+    let after-batch-order = else2 .before in
+    let else1 = after-batch-order .before in
+    let after-batch-form = else1 .before in
+    let start = start-from-batch-form after-batch-form in
+    let a = start .args .batch .now in
+    let f = sym (after-batch-form .batch-form .ensures) ∙ not-false _ (else1 .if1 .left) in
     record {
-      sound = c .before .before .before .before .before .before .before .pre;
+      sound = start .pre;
       form = f;
-      run = run-of-batch a (all-of Byte a 0 (λ i _. omega (arith, c .before .before .before .before .before .shared-slice-known .given i))) f (sym (c .before .before .batch-order .ensures) ∙ not-false _ (c .before .if2 .left));
+      run = run-of-batch a (all-of Byte a 0 (λ i _. omega (arith, after-batch-form .before .shared-slice-known .given i))) f (sym (after-batch-order .batch-order .ensures) ∙ not-false _ (else2 .if2 .left));
     }
 
 same-length : tie.Need-same-length

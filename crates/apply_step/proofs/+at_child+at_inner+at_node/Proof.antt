@@ -102,44 +102,61 @@ at-node-calls t = (
 abbrev at-inner-start-from-left : (t : ℕ) → at-inner-lts.After-left (at-inner-calls t) (at-inner-at t) at-inner.Post → at-inner-lts.Start (at-inner-calls t) (at-inner-at t) at-inner.Post
 at-inner-start-from-left t c = c .before .before .before .before
 
+abbrev at-child-start-from-unchanged-at-arg : (t : ℕ) → at-child-lts.After-unchanged-at-arg (at-child-calls t) (at-child-at t) at-child.Post → at-child-lts.Start (at-child-calls t) (at-child-at t) at-child.Post
+at-child-start-from-unchanged-at-arg t c = c .before .before .before .before
+
+abbrev at-child-start-from-at-node-arg : (t : ℕ) → at-child-lts.After-at-node-arg (at-child-calls t) (at-child-at t) at-child.Post → at-child-lts.Start (at-child-calls t) (at-child-at t) at-child.Post
+at-child-start-from-at-node-arg t c = c .before .before .before .before
+
+abbrev at-inner-start-from-at-child-arg : (t : ℕ) → at-inner-lts.After-at-child-arg (at-inner-calls t) (at-inner-at t) at-inner.Post → at-inner-lts.Start (at-inner-calls t) (at-inner-at t) at-inner.Post
+at-inner-start-from-at-child-arg t c = c .before .before .before
+
+abbrev at-node-find-near-from-onward-from : (t : ℕ) → at-node-lts.After-onward-from (at-node-calls t) (at-node-at t) at-node.Post → at-node-lts.After-find-near (at-node-calls t) (at-node-at t) at-node.Post
+at-node-find-near-from-onward-from t c = c .before .before
+
+abbrev at-node-start-from-find-near-arg : (t : ℕ) → at-node-lts.After-find-near-arg (at-node-calls t) (at-node-at t) at-node.Post → at-node-lts.Start (at-node-calls t) (at-node-at t) at-node.Post
+at-node-start-from-find-near-arg t c = c .before .before .before
+
 abbrev at-inner-start-from-left-run : (t : ℕ) → at-inner-lts.After-left-run (at-inner-calls t) (at-inner-at t) at-inner.Post → at-inner-lts.Start (at-inner-calls t) (at-inner-at t) at-inner.Post
-at-inner-start-from-left-run t c = at-inner-start-from-left t (c .before)
+at-inner-start-from-left-run t c = at-inner-start-from-at-child-arg t (c .before .before)
 
 abbrev at-node-start-from-find-near : (t : ℕ) → at-node-lts.After-find-near (at-node-calls t) (at-node-at t) at-node.Post → at-node-lts.Start (at-node-calls t) (at-node-at t) at-node.Post
-at-node-start-from-find-near t c = c .before .before .before .before
+at-node-start-from-find-near t c = at-node-start-from-find-near-arg t (c .before)
+
+abbrev at-inner-start-from-at-child-arg2 : (t : ℕ) → at-inner-lts.After-at-child-arg2 (at-inner-calls t) (at-inner-at t) at-inner.Post → at-inner-lts.Start (at-inner-calls t) (at-inner-at t) at-inner.Post
+at-inner-start-from-at-child-arg2 t c = at-inner-start-from-left-run t (c .before .before .before .before)
+
+abbrev at-node-start-from-enum-told : (t : ℕ) → at-node-lts.After-enum-told (at-node-calls t) (at-node-at t) at-node.Post → at-node-lts.Start (at-node-calls t) (at-node-at t) at-node.Post
+at-node-start-from-enum-told t c = at-node-start-from-find-near t (c .before .before .before .before)
 
 at-child-unchanged-at-requires : (t : ℕ) → at-child-lts.Need-unchanged-at-requires (at-child-calls t) (at-child-at t) at-child.Post
 at-child-unchanged-at-requires t c κs =
-    let c4 = c .before .before .before .before in
-    (c4 .pre .1 .standing, is-once (c4 .pre .1))
+    let start = at-child-start-from-unchanged-at-arg t c in
+    (start .pre .1 .standing, is-once (start .pre .1))
 
 at-child-same-length : (t : ℕ) → at-child-lts.Need-same-length (at-child-calls t) (at-child-at t) at-child.Post
 at-child-same-length t c = search needs
 
 at-child-returns : (t : ℕ) → at-child-lts.Need-returns (at-child-calls t) (at-child-at t) at-child.Post
-at-child-returns t c =
-    let c2 = c .before .before in
-    let c5 = c2 .before .before .before in
-    child-stays (c5 .pre .1) (c2 .if1 .taken) (c .unchanged-at .ensures)
+at-child-returns t c = child-stays (at-child-start-from-unchanged-at-arg t (c .before) .pre .1) (c .before .before .if1 .taken) (c .unchanged-at .ensures)
 
 at-child-at-node-requires : (t : ℕ) → at-child-lts.Need-at-node-requires (at-child-calls t) (at-child-at t) at-child.Post
 at-child-at-node-requires t c κs =
-    let c4 = c .before .before .before .before in
-    (omega (arith, c4 .pre .0), c4 .pre .1)
+    let start = at-child-start-from-at-node-arg t c in
+    (omega (arith, start .pre .0), start .pre .1)
 
 at-child-same-length-2 : (t : ℕ) → at-child-lts.Need-same-length-2 (at-child-calls t) (at-child-at t) at-child.Post
 at-child-same-length-2 t c = search needs
 
 at-child-returns-2 : (t : ℕ) → at-child-lts.Need-returns-2 (at-child-calls t) (at-child-at t) at-child.Post
 at-child-returns-2 t c =
-    let c2 = c .before .before in
-    let c7 = c2 .before .before .before .before .before in
-    child-steps (c7 .pre .1) (c2 .at-node .ensures)
+    let after-at-node = c .before .before in
+    child-steps (at-child-start-from-at-node-arg t (after-at-node .before) .pre .1) (after-at-node .at-node .ensures)
 
 at-inner-left-requires : (t : ℕ) → at-inner-lts.Need-left-requires (at-inner-calls t) (at-inner-at t) at-inner.Post
 at-inner-left-requires t c κs =
-    let c3 = c .before .before .before in
-    (c3 .pre .1 .here .standing .proper, is-short (c3 .pre .1))
+    let start = at-inner-start-from-at-child-arg t c in
+    (start .pre .1 .here .standing .proper, is-short (start .pre .1))
 
 at-inner-left-run-requires : (t : ℕ) → at-inner-lts.Need-left-run-requires (at-inner-calls t) (at-inner-at t) at-inner.Post
 at-inner-left-run-requires t c κs =
@@ -153,12 +170,12 @@ at-inner-at-child-requires t c κs =
 
 at-inner-right-requires : (t : ℕ) → at-inner-lts.Need-right-requires (at-inner-calls t) (at-inner-at t) at-inner.Post
 at-inner-right-requires t c κs =
-    let start = at-inner-start-from-left-run t (c .before .before .before .before) in
+    let start = at-inner-start-from-at-child-arg2 t c in
     (start .pre .1 .here .standing .proper, is-short (start .pre .1))
 
 at-inner-right-run-requires : (t : ℕ) → at-inner-lts.Need-right-run-requires (at-inner-calls t) (at-inner-at t) at-inner.Post
 at-inner-right-run-requires t c κs =
-    let start = at-inner-start-from-left-run t (c .before .before .before .before .before) in
+    let start = at-inner-start-from-at-child-arg2 t (c .before) in
     run-at (start .args .place) (start .args .run .now) (start .pre .1 .here .standing .proper) (is-short (start .pre .1)) (start .pre .1 .here .run)
 
 at-inner-at-child-requires-2 : (t : ℕ) → at-inner-lts.Need-at-child-requires-2 (at-inner-calls t) (at-inner-at t) at-inner.Post
@@ -220,9 +237,7 @@ at-inner-returns-2 t c =
     inner-did (at-inner-start-from-left-run t after-left-run .pre .1) (after-left-run .before .left .ensures) (after-left-run .left-run .ensures) (after-at-child .at-child .ensures) (after-right .right .ensures) (after-right-run .right-run .ensures) (after-at-child2 .at-child2 .ensures) false (else1 .if1 .left) (after-settle-in2 .settle-in2 .ensures)
 
 at-node-find-near-requires : (t : ℕ) → at-node-lts.Need-find-near-requires (at-node-calls t) (at-node-at t) at-node.Post
-at-node-find-near-requires t c κs =
-    let c3 = c .before .before .before in
-    is-once (c3 .pre .1)
+at-node-find-near-requires t c κs = is-once (at-node-start-from-find-near-arg t c .pre .1)
 
 at-node-onward-from-requires : (t : ℕ) → at-node-lts.Need-onward-from-requires (at-node-calls t) (at-node-at t) at-node.Post
 at-node-onward-from-requires t c κs =
@@ -240,7 +255,7 @@ at-node-at-tip-requires t c κs =
     let then1 = c .before in
     let after-enum-told = then1 .before in
     let after-onward-from = after-enum-told .before .before in
-    let after-find-near = after-onward-from .before .before in
+    let after-find-near = at-node-find-near-from-onward-from t after-onward-from in
     let start = at-node-start-from-find-near t after-find-near in
     tip-when (start .args .writes) true (then1 .if1 .taken) (at-tip-here (start .pre .1) (after-find-near .find-near .result) (after-find-near .find-near .ensures) (after-enum-told .enum-told .given .1) (after-onward-from .onward-from .ensures))
 
@@ -251,14 +266,14 @@ at-node-returns : (t : ℕ) → at-node-lts.Need-returns (at-node-calls t) (at-n
 at-node-returns t c =
     let after-at-tip = c .before .before in
     let then1 = after-at-tip .before .before in
-    did-when (at-node-start-from-find-near t (then1 .before .before .before .before .before) .args .writes) true (then1 .if1 .taken) (after-at-tip .at-tip .ensures)
+    did-when (at-node-start-from-enum-told t (then1 .before) .args .writes) true (then1 .if1 .taken) (after-at-tip .at-tip .ensures)
 
 at-node-at-tip-requires-2 : (t : ℕ) → at-node-lts.Need-at-tip-requires-2 (at-node-calls t) (at-node-at t) at-node.Post
 at-node-at-tip-requires-2 t c κs =
     let else1 = c .before in
     let after-enum-told = else1 .before in
     let after-onward-from = after-enum-told .before .before in
-    let after-find-near = after-onward-from .before .before in
+    let after-find-near = at-node-find-near-from-onward-from t after-onward-from in
     let start = at-node-start-from-find-near t after-find-near in
     tip-when (start .args .writes) false (else1 .if1 .left) (at-tip-here (start .pre .1) (after-find-near .find-near .result) (after-find-near .find-near .ensures) (after-enum-told .enum-told .given .1) (after-onward-from .onward-from .ensures))
 
@@ -269,13 +284,13 @@ at-node-returns-2 : (t : ℕ) → at-node-lts.Need-returns-2 (at-node-calls t) (
 at-node-returns-2 t c =
     let after-at-tip2 = c .before .before in
     let else1 = after-at-tip2 .before .before in
-    did-when (at-node-start-from-find-near t (else1 .before .before .before .before .before) .args .writes) false (else1 .if1 .left) (after-at-tip2 .at-tip2 .ensures)
+    did-when (at-node-start-from-enum-told t (else1 .before) .args .writes) false (else1 .if1 .left) (after-at-tip2 .at-tip2 .ensures)
 
 at-node-at-inner-requires : (t : ℕ) → at-node-lts.Need-at-inner-requires (at-node-calls t) (at-node-at t) at-node.Post
 at-node-at-inner-requires t c κs =
     let after-onward = c .before .before in
     let after-onward-from = after-onward .before .before in
-    let after-find-near = after-onward-from .before .before in
+    let after-find-near = at-node-find-near-from-onward-from t after-onward-from in
     let start = at-node-start-from-find-near t after-find-near in
     (omega (arith, start .pre .0), goes-on (start .pre .1) (after-find-near .find-near .result) (after-find-near .find-near .ensures) (after-onward .onward .given .1) (after-onward-from .onward-from .ensures))
 
@@ -287,7 +302,7 @@ at-node-returns-3 t c =
     let after-at-inner = c .before .before in
     let after-onward = after-at-inner .before .before .before in
     let after-onward-from = after-onward .before .before in
-    let after-find-near = after-onward-from .before .before in
+    let after-find-near = at-node-find-near-from-onward-from t after-onward-from in
     went-on (at-node-start-from-find-near t after-find-near .pre .1) (after-find-near .find-near .result) (after-find-near .find-near .ensures) (after-onward .onward .given .1) (after-onward-from .onward-from .ensures) (after-at-inner .at-inner .ensures)
 
 pub +at-child+at-inner+at-node-spec : {M : Type 1} → statement M

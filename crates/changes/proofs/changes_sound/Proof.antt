@@ -19,15 +19,40 @@ enum-told c = search needs
 enum-told-2 : tie.Need-enum-told-2
 enum-told-2 c = search needs
 
+-- `A-from-B` is the state A as the later state B has it.
+abbrev n-from-walk-arg2 : tie.After-walk-arg2 → tie.After-n
+n-from-walk-arg2 c = c .before .before .before
+
+abbrev open-from-open2 : tie.After-open2 → tie.After-open
+open-from-open2 c = c .before .before .before
+
+abbrev open2-from-top : tie.After-top → tie.After-open2
+open2-from-top c = c .before .before .before
+
+abbrev root-top2-from-walk : tie.After-walk → tie.After-root-top2
+root-top2-from-walk c = c .before .before
+
+abbrev top-from-root-top2 : tie.After-root-top2 → tie.After-top
+top-from-root-top2 c = c .before .before
+
+abbrev walk-from-n : tie.After-n → tie.After-walk
+walk-from-n c = c .before .before .before .before
+
+abbrev start-from-open : tie.After-open → tie.Start
+start-from-open c = c .before .before .before
+
+abbrev start-from-open2 : tie.After-open2 → tie.Start
+start-from-open2 c = start-from-open (c .before .before .before)
+
 returns : tie.Need-returns
 returns c =
-    let m1 = c .before in
-    let o1 = m1 .before in
-    let start = o1 .before .before .before in
+    let at-match-keys2 = c .before in
+    let after-open = at-match-keys2 .before in
+    let start = start-from-open after-open in
     let a = start .args in
     let w = start .pre in
     let s = a .store .now in
-    first-refused w (a .first) (a .second) (a .limit) (a .room .now) (not-kept w (a .first) (o1 .«open» .result) (o1 .«open» .ensures) (m1 .match .keys2))
+    first-refused w (a .first) (a .second) (a .limit) (a .room .now) (not-kept w (a .first) (after-open .«open» .result) (after-open .«open» .ensures) (at-match-keys2 .match .keys2))
 
 open-requires-2 : tie.Need-open-requires-2
 open-requires-2 c κs = search needs
@@ -40,13 +65,13 @@ enum-told-4 c = search needs
 
 returns-2 : tie.Need-returns-2
 returns-2 c =
-    let m2 = c .before in
-    let o2 = m2 .before in
-    let start = o2 .before .before .before .before .before .before in
+    let at-match2-keys2 = c .before in
+    let after-open2 = at-match2-keys2 .before in
+    let start = start-from-open2 after-open2 in
     let a = start .args in
     let w = start .pre in
     let s = a .store .now in
-    second-refused w (a .first) (a .second) (a .limit) (a .room .now) (not-kept w (a .second) (o2 .open2 .result) (o2 .open2 .ensures) (m2 .match2 .keys2))
+    second-refused w (a .first) (a .second) (a .limit) (a .room .now) (not-kept w (a .second) (after-open2 .open2 .result) (after-open2 .open2 .ensures) (at-match2-keys2 .match2 .keys2))
 
 top-requires : tie.Need-top-requires
 top-requires c κs = search needs
@@ -58,26 +83,21 @@ root-top-requires c κs =
     (sound-size (start .pre), tp .top .ensures)
 
 root-top-requires-2 : tie.Need-root-top-requires-2
-root-top-requires-2 c κs =
-    let tp = c .before in
-    let start = tp .before .before .before .before .before .before .before .before .before in
-    (sound-size (start .pre), tp .top .ensures)
+root-top-requires-2 c κs = (sound-size (start-from-open2 (c .before .before .before .before) .pre), c .before .top .ensures)
 
 walk-requires : tie.Need-walk-requires
 walk-requires c κs =
-    let r2 = c .before in
-    let r1 = r2 .before in
-    let tp = r1 .before in
-    let t2 = tp .before in
-    let o2 = t2 .before .before in
-    let t1 = o2 .before in
-    let o1 = t1 .before .before in
-    let start = o1 .before .before .before in
+    let after-root-top2 = c .before in
+    let after-root-top = after-root-top2 .before in
+    let after-top = after-root-top .before in
+    let after-open2 = open2-from-top after-top in
+    let after-open = open-from-open2 after-open2 in
+    let start = start-from-open after-open in
     let a = start .args in
     let w = start .pre in
     let s = a .store .now in
-    may-count w (a .first) (a .second) (a .limit) (a .room .now) (is-kept w (a .first) (o1 .«open» .result) (o1 .«open» .ensures) (t1 .enum-told .given .1)) (is-kept w (a .second) (o2 .open2 .result) (o2 .open2 .ensures) (t2 .enum-told3 .given .1))
-    (tp .top .ensures) (r1 .root-top .ensures) (r2 .root-top2 .ensures)
+    may-count w (a .first) (a .second) (a .limit) (a .room .now) (is-kept w (a .first) (after-open .«open» .result) (after-open .«open» .ensures) (after-open2 .before .enum-told .given .1)) (is-kept w (a .second) (after-open2 .open2 .result) (after-open2 .open2 .ensures) (after-top .before .enum-told3 .given .1))
+    (after-top .top .ensures) (after-root-top .root-top .ensures) (after-root-top2 .root-top2 .ensures)
     (omega (arith, start .fits))
 
 enum-known-n : tie.Need-enum-known-n
@@ -91,91 +111,78 @@ same-length c = search needs
 
 returns-3 : tie.Need-returns-3
 returns-3 c =
-    let wk = c .before .before .before .before in
-    let r2 = wk .before .before in
-    let r1 = r2 .before in
-    let tp = r1 .before in
-    let t2 = tp .before in
-    let o2 = t2 .before .before in
-    let t1 = o2 .before in
-    let o1 = t1 .before .before in
-    let start = o1 .before .before .before in
+    let after-walk = c .before .before .before .before in
+    let after-root-top2 = root-top2-from-walk after-walk in
+    let after-top = top-from-root-top2 after-root-top2 in
+    let after-open2 = open2-from-top after-top in
+    let after-open = open-from-open2 after-open2 in
+    let start = start-from-open after-open in
     let a = start .args in
     let w = start .pre in
     let s = a .store .now in
-    let x = wk .walk .last .1 .1 .1 .1 .1 .1 .1 .0 in
-    let q = subst (λ z. WalkSays s (tp .top .result) (r1 .root-top .result) (r2 .root-top2 .result) (a .limit) false (a .room .now) 0 z x) (c .enum-told5 .given .1) (wk .walk .ensures) in
-    limit-passed w (a .first) (a .second) (a .limit) (a .room .now) (is-kept w (a .first) (o1 .«open» .result) (o1 .«open» .ensures) (t1 .enum-told .given .1)) (is-kept w (a .second) (o2 .open2 .result) (o2 .open2 .ensures) (t2 .enum-told3 .given .1))
-    (tp .top .ensures) (r1 .root-top .ensures) (r2 .root-top2 .ensures) x q
+    let x = after-walk .walk .last .1 .1 .1 .1 .1 .1 .1 .0 in
+    let q = subst (λ z. WalkSays s (after-top .top .result) (after-root-top2 .before .root-top .result) (after-root-top2 .root-top2 .result) (a .limit) false (a .room .now) 0 z x) (c .enum-told5 .given .1) (after-walk .walk .ensures) in
+    limit-passed w (a .first) (a .second) (a .limit) (a .room .now) (is-kept w (a .first) (after-open .«open» .result) (after-open .«open» .ensures) (after-open2 .before .enum-told .given .1)) (is-kept w (a .second) (after-open2 .open2 .result) (after-open2 .open2 .ensures) (after-top .before .enum-told3 .given .1))
+    (after-top .top .ensures) (after-root-top2 .before .root-top .ensures) (after-root-top2 .root-top2 .ensures) x q
 
 same-length-2 : tie.Need-same-length-2
 same-length-2 c = search needs
 
 returns-4 : tie.Need-returns-4
 returns-4 c =
-    let nn = c .before .before in
-    let wk = nn .before .before .before .before in
-    let r2 = wk .before .before in
-    let r1 = r2 .before in
-    let tp = r1 .before in
-    let t2 = tp .before in
-    let o2 = t2 .before .before in
-    let t1 = o2 .before in
-    let o1 = t1 .before .before in
-    let start = o1 .before .before .before in
+    let after-n = c .before .before in
+    let after-walk = walk-from-n after-n in
+    let after-root-top2 = root-top2-from-walk after-walk in
+    let after-top = top-from-root-top2 after-root-top2 in
+    let after-open2 = open2-from-top after-top in
+    let after-open = open-from-open2 after-open2 in
+    let start = start-from-open after-open in
     let a = start .args in
     let w = start .pre in
     let s = a .store .now in
-    let x = wk .walk .last .1 .1 .1 .1 .1 .1 .1 .0 in
-    let q = subst (λ z. WalkSays s (tp .top .result) (r1 .root-top .result) (r2 .root-top2 .result) (a .limit) false (a .room .now) 0 z x) (nn .n .given .1) (wk .walk .ensures) in
-    list-too-long w (a .first) (a .second) (a .limit) (a .room .now) (is-kept w (a .first) (o1 .«open» .result) (o1 .«open» .ensures) (t1 .enum-told .given .1)) (is-kept w (a .second) (o2 .open2 .result) (o2 .open2 .ensures) (t2 .enum-told3 .given .1))
-    (tp .top .ensures) (r1 .root-top .ensures) (r2 .root-top2 .ensures)
-    (nn .n .given .0 .0) (nn .n .given .0 .1 .0) x q (c .if1 .taken)
+    let x = after-walk .walk .last .1 .1 .1 .1 .1 .1 .1 .0 in
+    let q = subst (λ z. WalkSays s (after-top .top .result) (after-root-top2 .before .root-top .result) (after-root-top2 .root-top2 .result) (a .limit) false (a .room .now) 0 z x) (after-n .n .given .1) (after-walk .walk .ensures) in
+    list-too-long w (a .first) (a .second) (a .limit) (a .room .now) (is-kept w (a .first) (after-open .«open» .result) (after-open .«open» .ensures) (after-open2 .before .enum-told .given .1)) (is-kept w (a .second) (after-open2 .open2 .result) (after-open2 .open2 .ensures) (after-top .before .enum-told3 .given .1))
+    (after-top .top .ensures) (after-root-top2 .before .root-top .ensures) (after-root-top2 .root-top2 .ensures)
+    (after-n .n .given .0 .0) (after-n .n .given .0 .1 .0) x q (c .if1 .taken)
 
 walk-requires-2 : tie.Need-walk-requires-2
 walk-requires-2 c κs =
-    let i1 = c .before in
-    let nn = i1 .before .before in
-    let wk = nn .before .before .before .before in
-    let r2 = wk .before .before in
-    let r1 = r2 .before in
-    let tp = r1 .before in
-    let t2 = tp .before in
-    let o2 = t2 .before .before in
-    let t1 = o2 .before in
-    let o1 = t1 .before .before in
-    let start = o1 .before .before .before in
+    let after-n = n-from-walk-arg2 c in
+    let after-walk = walk-from-n after-n in
+    let after-root-top2 = root-top2-from-walk after-walk in
+    let after-top = top-from-root-top2 after-root-top2 in
+    let after-open2 = open2-from-top after-top in
+    let after-open = open-from-open2 after-open2 in
+    let start = start-from-open after-open in
     let a = start .args in
     let w = start .pre in
     let s = a .store .now in
-    let x = wk .walk .last .1 .1 .1 .1 .1 .1 .1 .0 in
-    let q = subst (λ z. WalkSays s (tp .top .result) (r1 .root-top .result) (r2 .root-top2 .result) (a .limit) false (a .room .now) 0 z x) (nn .n .given .1) (wk .walk .ensures) in
-    may-write w (a .first) (a .second) (a .limit) (a .room .now) (is-kept w (a .first) (o1 .«open» .result) (o1 .«open» .ensures) (t1 .enum-told .given .1)) (is-kept w (a .second) (o2 .open2 .result) (o2 .open2 .ensures) (t2 .enum-told3 .given .1))
-    (tp .top .ensures) (r1 .root-top .ensures) (r2 .root-top2 .ensures)
-    (nn .n .given .0 .0) (nn .n .given .0 .1 .0) x q (λ h. omega (arith, h, i1 .if1 .left)) (omega (arith, start .fits))
+    let x = after-walk .walk .last .1 .1 .1 .1 .1 .1 .1 .0 in
+    let q = subst (λ z. WalkSays s (after-top .top .result) (after-root-top2 .before .root-top .result) (after-root-top2 .root-top2 .result) (a .limit) false (a .room .now) 0 z x) (after-n .n .given .1) (after-walk .walk .ensures) in
+    may-write w (a .first) (a .second) (a .limit) (a .room .now) (is-kept w (a .first) (after-open .«open» .result) (after-open .«open» .ensures) (after-open2 .before .enum-told .given .1)) (is-kept w (a .second) (after-open2 .open2 .result) (after-open2 .open2 .ensures) (after-top .before .enum-told3 .given .1))
+    (after-top .top .ensures) (after-root-top2 .before .root-top .ensures) (after-root-top2 .root-top2 .ensures)
+    (after-n .n .given .0 .0) (after-n .n .given .0 .1 .0) x q (λ h. omega (arith, h, c .before .if1 .left)) (omega (arith, start .fits))
 
 cast-many : tie.Need-cast-many
 cast-many c =
-    let nn = c .before .before .before .before .before .before in
-    let wk = nn .before .before .before .before in
-    let r2 = wk .before .before in
-    let r1 = r2 .before in
-    let tp = r1 .before in
-    let t2 = tp .before in
-    let o2 = t2 .before .before in
-    let t1 = o2 .before in
-    let o1 = t1 .before .before in
-    let start = o1 .before .before .before in
+    let after-n = n-from-walk-arg2 (c .before .before .before) in
+    let after-walk = walk-from-n after-n in
+    let after-root-top2 = root-top2-from-walk after-walk in
+    let after-top = top-from-root-top2 after-root-top2 in
+    let after-open2 = open2-from-top after-top in
+    let after-open = open-from-open2 after-open2 in
+    let start = start-from-open after-open in
     let a = start .args in
     let w = start .pre in
     let s = a .store .now in
-    let x = wk .walk .last .1 .1 .1 .1 .1 .1 .1 .0 in
-    let q = subst (λ z. WalkSays s (tp .top .result) (r1 .root-top .result) (r2 .root-top2 .result) (a .limit) false (a .room .now) 0 z x) (nn .n .given .1) (wk .walk .ensures) in
+    let x = after-walk .walk .last .1 .1 .1 .1 .1 .1 .1 .0 in
+    let q = subst (λ z. WalkSays s (after-top .top .result) (after-root-top2 .before .root-top .result) (after-root-top2 .root-top2 .result) (a .limit) false (a .room .now) 0 z x) (after-n .n .given .1) (after-walk .walk .ensures) in
     omega (
       arith,
-      list-small w (a .first) (a .second) (a .limit) (a .room .now) (is-kept w (a .first) (o1 .«open» .result) (o1 .«open» .ensures) (t1 .enum-told .given .1)) (is-kept w (a .second) (o2 .open2 .result) (o2 .open2 .ensures) (t2 .enum-told3 .given .1))
-          (tp .top .ensures) (r1 .root-top .ensures) (r2 .root-top2 .ensures)
-          (nn .n .given .0 .0) (nn .n .given .0 .1 .0) x q,
+      list-small w (a .first) (a .second) (a .limit) (a .room .now) (is-kept w (a .first) (after-open .«open» .result) (after-open .«open» .ensures) (after-open2 .before .enum-told .given .1)) (is-kept w (a .second) (after-open2 .open2 .result) (after-open2 .open2 .ensures) (after-top .before .enum-told3 .given .1))
+          (after-top .top .ensures) (after-root-top2 .before .root-top .ensures) (after-root-top2 .root-top2 .ensures)
+          (after-n .n .given .0 .0) (after-n .n .given .0 .1 .0) x q,
     )
 
 same-length-3 : tie.Need-same-length-3
@@ -183,28 +190,24 @@ same-length-3 c = search needs
 
 returns-5 : tie.Need-returns-5
 returns-5 c =
-    let w2 = c .before .before in
-    let i1 = w2 .before .before in
-    let nn = i1 .before .before in
-    let wk = nn .before .before .before .before in
-    let r2 = wk .before .before in
-    let r1 = r2 .before in
-    let tp = r1 .before in
-    let t2 = tp .before in
-    let o2 = t2 .before .before in
-    let t1 = o2 .before in
-    let o1 = t1 .before .before in
-    let shared = o1 .before .before in
-    let start = shared .before in
+    let after-walk2 = c .before .before in
+    let after-walk-arg2 = after-walk2 .before in
+    let after-n = n-from-walk-arg2 after-walk-arg2 in
+    let after-walk = walk-from-n after-n in
+    let after-root-top2 = root-top2-from-walk after-walk in
+    let after-top = top-from-root-top2 after-root-top2 in
+    let after-open2 = open2-from-top after-top in
+    let after-open = open-from-open2 after-open2 in
+    let start = start-from-open after-open in
     let a = start .args in
     let w = start .pre in
     let s = a .store .now in
-    let x = wk .walk .last .1 .1 .1 .1 .1 .1 .1 .0 in
-    let q = subst (λ z. WalkSays s (tp .top .result) (r1 .root-top .result) (r2 .root-top2 .result) (a .limit) false (a .room .now) 0 z x) (nn .n .given .1) (wk .walk .ensures) in
-    list-written w (a .first) (a .second) (a .limit) (a .room .now) (is-kept w (a .first) (o1 .«open» .result) (o1 .«open» .ensures) (t1 .enum-told .given .1)) (is-kept w (a .second) (o2 .open2 .result) (o2 .open2 .ensures) (t2 .enum-told3 .given .1))
-    (tp .top .ensures) (r1 .root-top .ensures) (r2 .root-top2 .ensures)
-    (nn .n .given .0 .0) (nn .n .given .0 .1 .0) x q (λ h. omega (arith, h, i1 .if1 .left)) (omega (arith, start .fits)) (w2 .walk2 .result) _ (w2 .walk2 .ensures)
-    (all-of Byte s 0 (λ i _. omega (arith, shared .shared-slice-known .given i)))
+    let x = after-walk .walk .last .1 .1 .1 .1 .1 .1 .1 .0 in
+    let q = subst (λ z. WalkSays s (after-top .top .result) (after-root-top2 .before .root-top .result) (after-root-top2 .root-top2 .result) (a .limit) false (a .room .now) 0 z x) (after-n .n .given .1) (after-walk .walk .ensures) in
+    list-written w (a .first) (a .second) (a .limit) (a .room .now) (is-kept w (a .first) (after-open .«open» .result) (after-open .«open» .ensures) (after-open2 .before .enum-told .given .1)) (is-kept w (a .second) (after-open2 .open2 .result) (after-open2 .open2 .ensures) (after-top .before .enum-told3 .given .1))
+    (after-top .top .ensures) (after-root-top2 .before .root-top .ensures) (after-root-top2 .root-top2 .ensures)
+    (after-n .n .given .0 .0) (after-n .n .given .0 .1 .0) x q (λ h. omega (arith, h, after-walk-arg2 .before .if1 .left)) (omega (arith, start .fits)) (after-walk2 .walk2 .result) _ (after-walk2 .walk2 .ensures)
+    (all-of Byte s 0 (λ i _. omega (arith, after-open .before .before .shared-slice-known .given i)))
 
 pub changes-sound-spec : {M : Type 1} → statement M
 changes-sound-spec =

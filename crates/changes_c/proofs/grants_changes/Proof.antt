@@ -19,19 +19,24 @@ put-u32-requires c κs = search needs
 same-length : tie.Need-same-length
 same-length c = search needs
 
+-- `A-from-B` is the state A as the later state B has it.
+abbrev changes-from-compared2 : tie.After-compared2 → tie.After-changes
+changes-from-compared2 c = c .before .before .before .before
+
 returns : tie.Need-returns
 returns c =
-    let a = c .before .before .before .before .before .before .before .before .before .args in
-    let d = c .before .before .before .before .before .changes in
-    changes-refused (d .result) (d .ensures) (a .records .now) (c .before .compared .given .1)
+    let after-compared = c .before in
+    let after-changes = after-compared .before .before .before .before in
+    let a = after-changes .before .before .before .before .args in
+    let d = after-changes .changes in
+    changes-refused (d .result) (d .ensures) (a .records .now) (after-compared .compared .given .1)
 
 same-length-2 : tie.Need-same-length-2
 same-length-2 c = search needs
 
 returns-2 : tie.Need-returns-2
-returns-2 c =
-    let a = c .before .before .before .before .before .before .before .before .before .before .before .args in
-    let d = c .before .before .before .before .before .before .before .changes in
+returns-2 c = let a = c .before .before .before .before .before .before .before .before .before .before .before .args in
+    let d = changes-from-compared2 (c .before .before .before) .changes in
     changes-listed (d .result) (d .ensures) (a .records .now) (c .before .before .before .compared2 .given .1) (search needs) (c .put-u32 .ensures)
 
 pub grants-changes-spec : {M : Type 1} → statement M

@@ -10,21 +10,25 @@ use borrow.Author.Needs.{needs}
 use Rattle.changes_put.proofs.put_pair.Statement.{statement}
 use Rattle.changes_put.proofs.put_pair.Tie as tie
 
+-- `A-from-B` is the state A as the later state B has it.
+abbrev start-from-put-record-arg : tie.After-put-record-arg → tie.Start
+start-from-put-record-arg c = c .before .before .before
+
 put-record-requires : tie.Need-put-record-requires
-put-record-requires c κs = let h = c .before .before .before .pre in (h .0 .0, fits-less 1 (omega arith) (h .1))
+put-record-requires c κs = let h = start-from-put-record-arg c .pre in (h .0 .0, fits-less 1 (omega arith) (h .1))
 
 add-put-record : tie.Need-add-put-record
 add-put-record c = search needs
 
 put-record-requires-2 : tie.Need-put-record-requires-2
 put-record-requires-2 c κs =
-    let c3 = c .before .before .before in
-    let start = c3 .before .before .before .before in
+    let after-put-record = c .before .before .before in
+    let start = start-from-put-record-arg (after-put-record .before) in
     let a = start .args in
     let h = start .pre in
     let f = itemAs (a .kind) (grantAt (a .i) (a .store .now)) in (
       h .0 .1,
-      subst (Fits (a .writes) 1 (a .at + 1)) (sym (c3 .put-record .ensures))
+      subst (Fits (a .writes) 1 (a .at + 1)) (sym (after-put-record .put-record .ensures))
           (fits-next (a .writes) (a .at) 1 1 f (a .room .now) (item-sized (a .store .now) (a .i) (h .0 .0) (a .kind)) (h .1)),
     )
 
@@ -36,17 +40,17 @@ same-length c = search needs
 
 returns : tie.Need-returns
 returns c =
-    let c2 = c .before .before in
-    let c6 = c2 .before .before .before .before in
-    let start = c6 .before .before .before .before in
+    let after-put-record2 = c .before .before in
+    let after-put-record = after-put-record2 .before .before .before .before in
+    let start = start-from-put-record-arg (after-put-record .before) in
     let a = start .args in
     let h = start .pre in
     let s = a .store .now in
     let f = itemAs (a .kind) (grantAt (a .i) s) in
     let g = itemAs (a .other) (grantAt (a .j) s) in (
       refl,
-      c2 .put-record2 .ensures
-          ∙ ap (putInto (a .writes) (a .at + 1) g) (c6 .put-record .ensures)
+      after-put-record2 .put-record2 .ensures
+          ∙ ap (putInto (a .writes) (a .at + 1) g) (after-put-record .put-record .ensures)
           ∙ put-on (a .writes) (a .at) 1 1 f g (a .room .now) (item-sized s (a .i) (h .0 .0) (a .kind)) (item-sized s (a .j) (h .0 .1) (a .other)) (h .1),
     )
 

@@ -9,15 +9,19 @@ use borrow.Author.Needs.{needs}
 use Rattle.changes_put.proofs.put_record.Statement.{statement}
 use Rattle.changes_put.proofs.put_record.Tie as tie
 
+-- `A-from-B` is the state A as the later state B has it.
+abbrev start-from-else1 : tie.Else1 → tie.Start
+start-from-else1 c = c .before .before .before
+
 returns : tie.Need-returns
 returns c =
     let a = c .before .before .before .args in not-put (a .writes) (a .at) _ (a .room .now) (not-true _ (c .if1 .taken))
 
 mul-start : tie.Need-mul-start
-mul-start c = omega (arith, c .before .before .before .pre .1 .within (not-false _ (c .if1 .left)))
+mul-start c = omega (arith, start-from-else1 c .pre .1 .within (not-false _ (c .if1 .left)))
 
 add-end : tie.Need-add-end
-add-end c = omega (arith, c .before .before .before .pre .1 .within (not-false _ (c .if1 .left)))
+add-end c = omega (arith, start-from-else1 c .pre .1 .within (not-false _ (c .if1 .left)))
 
 sub-put-item : tie.Need-sub-put-item
 sub-put-item c = search needs
@@ -26,7 +30,7 @@ part-put-item-start : tie.Need-part-put-item-start
 part-put-item-start c = search needs
 
 part-put-item-end : tie.Need-part-put-item-end
-part-put-item-end c = omega (arith, c .before .before .before .pre .1 .within (not-false _ (c .if1 .left)))
+part-put-item-end c = omega (arith, start-from-else1 c .pre .1 .within (not-false _ (c .if1 .left)))
 
 slot-of-requires : tie.Need-slot-of-requires
 slot-of-requires c κs = search needs
@@ -42,12 +46,14 @@ same-length c = search needs
 
 returns-2 : tie.Need-returns-2
 returns-2 c =
-    let c2 = c .before .before in
-    let c6 = c2 .before .before .before .before in
-    let start = c6 .before .before .before in
+    let after-put-item = c .before .before in
+    let after-grant-of = after-put-item .before in
+    let after-slot-of = after-grant-of .before in
+    let else1 = after-slot-of .before .before in
+    let start = start-from-else1 else1 in
     let a = start .args in
-    record-put (a .store .now) (a .i) (start .pre .0) (a .kind) (a .writes) (a .at) (a .room .now) (not-false _ (c6 .if1 .left))
-    (c2 .before .before .slot-of .ensures .0) (c2 .before .grant-of .ensures .0) (c2 .put-item .ensures)
+    record-put (a .store .now) (a .i) (start .pre .0) (a .kind) (a .writes) (a .at) (a .room .now) (not-false _ (else1 .if1 .left))
+    (after-slot-of .slot-of .ensures .0) (after-grant-of .grant-of .ensures .0) (after-put-item .put-item .ensures)
 
 pub put-record-spec : {M : Type 1} → statement M
 put-record-spec =

@@ -15,14 +15,16 @@ returns c = let a = c .before .before .args in neither-inner (a .first) (a .seco
 
 returns-2 : tie.Need-returns-2
 returns-2 c =
-    let a = c .before .before .before .args in second-inner (a .first) (a .second) (c .before .before .match .keys2) (c .enum-told .given .1)
+    let at-match-keys2 = c .before .before in
+    let a = at-match-keys2 .before .args in second-inner (a .first) (a .second) (at-match-keys2 .match .keys2) (c .enum-told .given .1)
 
 enum-known-second : tie.Need-enum-known-second
 enum-known-second c = search needs
 
 returns-3 : tie.Need-returns-3
 returns-3 c =
-    let a = c .before .before .before .before .args in first-inner (a .first) (a .second) (c .before .before .first .given .1) (c .match3 .keys2)
+    let after-first = c .before .before in
+    let a = after-first .before .before .args in first-inner (a .first) (a .second) (after-first .first .given .1) (c .match3 .keys2)
 
 returns-4 : tie.Need-returns-4
 returns-4 c =

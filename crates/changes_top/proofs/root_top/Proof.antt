@@ -21,36 +21,40 @@ enum-known-found c = search needs
 enum-told : tie.Need-enum-told
 enum-told c = search needs
 
+-- `A-from-B` is the state A as the later state B has it.
+abbrev start-from-find-root : tie.After-find-root → tie.Start
+start-from-find-root c = c .before .before
+
 returns : tie.Need-returns
 returns c =
-    let c2 = c .before .before in
-    let c3 = c2 .before in
-    let a = c3 .before .args in
+    let after-find-root = c .before .before in
+    let start = start-from-find-root after-find-root in
+    let a = start .args in
     let s = a .store .now in
-    root-missing s (c3 .before .pre .0) (all-of Byte s 0 (λ i _. omega (arith, c3 .shared-slice-known .given i))) (a .top) (a .version)
-    (subst (Located (storeOf s .slots) (rootOf (storeOf s) (a .version))) (c .enum-told .given .1) (c2 .find-root .ensures))
+    root-missing s (start .pre .0) (all-of Byte s 0 (λ i _. omega (arith, after-find-root .before .shared-slice-known .given i))) (a .top) (a .version)
+    (subst (Located (storeOf s .slots) (rootOf (storeOf s) (a .version))) (c .enum-told .given .1) (after-find-root .find-root .ensures))
 
 top-in-requires : tie.Need-top-in-requires
 top-in-requires c κs =
-    let c1 = c .before in
-    let c3 = c1 .before .before in
-    let c4 = c3 .before in
-    let a = c4 .before .args in
+    let after-found = c .before in
+    let after-find-root = after-found .before .before in
+    let start = start-from-find-root after-find-root in
+    let a = start .args in
     let s = a .store .now in
-    let b = all-of Byte s 0 (λ i _. omega (arith, c4 .shared-slice-known .given i)) in
-    let f = subst (Located (storeOf s .slots) (rootOf (storeOf s) (a .version))) (c1 .found .given .1) (c3 .find-root .ensures) in
-    its-slot s (c4 .before .pre .0) b _ (f .1 .0) (f .0) (f .1 .1)
+    let b = all-of Byte s 0 (λ i _. omega (arith, after-find-root .before .shared-slice-known .given i)) in
+    let f = subst (Located (storeOf s .slots) (rootOf (storeOf s) (a .version))) (after-found .found .given .1) (after-find-root .find-root .ensures) in
+    its-slot s (start .pre .0) b _ (f .1 .0) (f .0) (f .1 .1)
 
 returns-2 : tie.Need-returns-2
 returns-2 c =
-    let c2 = c .before .before in
-    let c4 = c2 .before .before in
-    let c5 = c4 .before in
-    let a = c5 .before .args in
-    let h = c5 .before .pre in
+    let after-found = c .before .before in
+    let after-find-root = after-found .before .before in
+    let start = start-from-find-root after-find-root in
+    let a = start .args in
+    let h = start .pre in
     let s = a .store .now in
-    let b = all-of Byte s 0 (λ i _. omega (arith, c5 .shared-slice-known .given i)) in
-    let f = subst (Located (storeOf s .slots) (rootOf (storeOf s) (a .version))) (c2 .found .given .1) (c4 .find-root .ensures) in
+    let b = all-of Byte s 0 (λ i _. omega (arith, after-find-root .before .shared-slice-known .given i)) in
+    let f = subst (Located (storeOf s .slots) (rootOf (storeOf s) (a .version))) (after-found .found .given .1) (after-find-root .find-root .ensures) in
     subst (TopSays s (a .top) (treeAtVersion (storeOf s) (a .version))) (sym (c .top-in .ensures))
     (root-found s (h .0) b _ (f .1 .0) (f .0) (f .1 .1) (a .top) (h .1) (a .version) (f .1 .2))
 

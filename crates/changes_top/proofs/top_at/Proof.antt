@@ -12,6 +12,13 @@ use borrow.Author.Needs.{needs}
 use Rattle.changes_top.proofs.top_at.Statement.{statement}
 use Rattle.changes_top.proofs.top_at.Tie as tie
 
+-- `A-from-B` is the state A as the later state B has it.
+abbrev shared-slice-known-from-find-near : tie.After-find-near → tie.After-shared-slice-known
+shared-slice-known-from-find-near c = c .before .before
+
+abbrev start-from-find-near : tie.After-find-near → tie.Start
+start-from-find-near c = c .before .before .before
+
 returns : tie.Need-returns
 returns c =
     let c1 = c .before in
@@ -30,36 +37,36 @@ enum-told c = search needs
 
 returns-2 : tie.Need-returns-2
 returns-2 c =
-    let c2 = c .before .before in
-    let c4 = c2 .before .before in
-    let a = c4 .before .args in
+    let after-find-near = c .before .before in
+    let start = start-from-find-near after-find-near in
+    let a = start .args in
     let s = a .store .now in
-    child-missing s (c4 .before .pre .0 .0) (all-of Byte s 0 (λ i _. omega (arith, c4 .shared-slice-known .given i))) (a .place) (a .version)
-    (subst (FoundIn (storeOf s .slots) (a .version) (placeOf (a .place))) (c .enum-told .given .1) (c2 .find-near .ensures))
+    child-missing s (start .pre .0 .0) (all-of Byte s 0 (λ i _. omega (arith, shared-slice-known-from-find-near after-find-near .shared-slice-known .given i))) (a .place) (a .version)
+    (subst (FoundIn (storeOf s .slots) (a .version) (placeOf (a .place))) (c .enum-told .given .1) (after-find-near .find-near .ensures))
 
 top-in-requires : tie.Need-top-in-requires
 top-in-requires c κs =
-    let c1 = c .before in
-    let c3 = c1 .before .before in
-    let c5 = c3 .before .before in
-    let a = c5 .before .args in
+    let after-found = c .before in
+    let after-find-near = after-found .before .before in
+    let start = start-from-find-near after-find-near in
+    let a = start .args in
     let s = a .store .now in
-    let b = all-of Byte s 0 (λ i _. omega (arith, c5 .shared-slice-known .given i)) in
-    let f = subst (FoundIn (storeOf s .slots) (a .version) (placeOf (a .place))) (c1 .found .given .1) (c3 .find-near .ensures) in
-    its-slot s (c5 .before .pre .0 .0) b _ (f .1 .0) (f .0) (f .1 .1)
+    let b = all-of Byte s 0 (λ i _. omega (arith, shared-slice-known-from-find-near after-find-near .shared-slice-known .given i)) in
+    let f = subst (FoundIn (storeOf s .slots) (a .version) (placeOf (a .place))) (after-found .found .given .1) (after-find-near .find-near .ensures) in
+    its-slot s (start .pre .0 .0) b _ (f .1 .0) (f .0) (f .1 .1)
 
 returns-3 : tie.Need-returns-3
 returns-3 c =
-    let c2 = c .before .before in
-    let c4 = c2 .before .before in
-    let c6 = c4 .before .before in
-    let a = c6 .before .args in
-    let h = c6 .before .pre in
+    let after-found = c .before .before in
+    let after-find-near = after-found .before .before in
+    let start = start-from-find-near after-find-near in
+    let a = start .args in
+    let h = start .pre in
     let s = a .store .now in
-    let b = all-of Byte s 0 (λ i _. omega (arith, c6 .shared-slice-known .given i)) in
-    let f = subst (FoundIn (storeOf s .slots) (a .version) (placeOf (a .place))) (c2 .found .given .1) (c4 .find-near .ensures) in
+    let b = all-of Byte s 0 (λ i _. omega (arith, shared-slice-known-from-find-near after-find-near .shared-slice-known .given i)) in
+    let f = subst (FoundIn (storeOf s .slots) (a .version) (placeOf (a .place))) (after-found .found .given .1) (after-find-near .find-near .ensures) in
     subst (TopSays s (a .place) (treeHere s (a .place) (a .version))) (sym (c .top-in .ensures))
-    (child-top s (h .0 .0) b _ (f .1 .0) (f .0) (f .1 .1) (a .place) (h .1) (a .version) (f .1 .2) (omega (arith, c4 .before .if1 .left)))
+    (child-top s (h .0 .0) b _ (f .1 .0) (f .0) (f .1 .1) (a .place) (h .1) (a .version) (f .1 .2) (omega (arith, after-find-near .before .if1 .left)))
 
 pub top-at-spec : {M : Type 1} → statement M
 top-at-spec =

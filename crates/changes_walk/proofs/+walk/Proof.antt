@@ -44,6 +44,28 @@ walk-calls t = (
   right-reads.Learnt,
 )
 
+-- `A-from-B` is the state A as the later state B has it.
+abbrev walk-below2-from-walk : (t : ℕ) → walk-lts.After-walk (walk-calls t) (walk-at t) walk.Post → walk-lts.After-below2 (walk-calls t) (walk-at t) walk.Post
+walk-below2-from-walk t c = c .before .before
+
+abbrev walk-done-from-right : (t : ℕ) → walk-lts.After-right (walk-calls t) (walk-at t) walk.Post → walk-lts.After-done (walk-calls t) (walk-at t) walk.Post
+walk-done-from-right t c = c .before .before
+
+abbrev walk-left-from-below2 : (t : ℕ) → walk-lts.After-below2 (walk-calls t) (walk-at t) walk.Post → walk-lts.After-left (walk-calls t) (walk-at t) walk.Post
+walk-left-from-below2 t c = c .before .before
+
+abbrev walk-walk-from-done : (t : ℕ) → walk-lts.After-done (walk-calls t) (walk-at t) walk.Post → walk-lts.After-walk (walk-calls t) (walk-at t) walk.Post
+walk-walk-from-done t c = c .before .before .before .before
+
+abbrev walk-else1-from-else2 : (t : ℕ) → walk-lts.Else2 (walk-calls t) (walk-at t) walk.Post → walk-lts.Else1 (walk-calls t) (walk-at t) walk.Post
+walk-else1-from-else2 t c = c .before .before
+
+abbrev walk-start-from-no-deeper : (t : ℕ) → walk-lts.After-no-deeper (walk-calls t) (walk-at t) walk.Post → walk-lts.Start (walk-calls t) (walk-at t) walk.Post
+walk-start-from-no-deeper t c = c .before .before .before .before
+
+abbrev walk-start-from-else2 : (t : ℕ) → walk-lts.Else2 (walk-calls t) (walk-at t) walk.Post → walk-lts.Start (walk-calls t) (walk-at t) walk.Post
+walk-start-from-else2 t c = walk-start-from-no-deeper t (c .before)
+
 walk-returns : (t : ℕ) → walk-lts.Need-returns (walk-calls t) (walk-at t) walk.Post
 walk-returns t c =
     let start = c .before .before .before in
@@ -60,41 +82,38 @@ walk-no-deeper-requires t c κs = search needs
 
 walk-put-ends-requires : (t : ℕ) → walk-lts.Need-put-ends-requires (walk-calls t) (walk-at t) walk.Post
 walk-put-ends-requires t c κs =
-    let i2 = c .before in
-    let nd = i2 .before in
-    let i1 = nd .before in
-    let start = i1 .before .before .before in
+    let then2 = c .before in
+    let after-no-deeper = then2 .before in
+    let start = walk-start-from-no-deeper t after-no-deeper in
     let a = start .args in
     let s = a .store .now in
     let g = start .pre .1 in
-    let stop = sym (nd .no-deeper .ensures s (a .place)) ∙ i2 .if2 .taken in
-    may-end s (a .place) (a .first) (a .second) (g .here) stop g (i1 .if1 .left)
+    let stop = sym (after-no-deeper .no-deeper .ensures s (a .place)) ∙ then2 .if2 .taken in
+    may-end s (a .place) (a .first) (a .second) (g .here) stop g (after-no-deeper .before .if1 .left)
 
 walk-same-length : (t : ℕ) → walk-lts.Need-same-length (walk-calls t) (walk-at t) walk.Post
 walk-same-length t c = search needs
 
 walk-returns-2 : (t : ℕ) → walk-lts.Need-returns-2 (walk-calls t) (walk-at t) walk.Post
 walk-returns-2 t c =
-    let pe = c .before .before in
-    let i2 = pe .before .before in
-    let nd = i2 .before in
-    let i1 = nd .before in
-    let start = i1 .before .before .before in
+    let after-put-ends = c .before .before in
+    let then2 = after-put-ends .before .before in
+    let after-no-deeper = then2 .before in
+    let start = walk-start-from-no-deeper t after-no-deeper in
     let a = start .args in
     let s = a .store .now in
     let g = start .pre .1 in
-    let stop = sym (nd .no-deeper .ensures s (a .place)) ∙ i2 .if2 .taken in
-    ended s (a .place) (a .first) (a .second) (g .here) stop (a .budget - 1) (a .budget) (omega (arith, i1 .if1 .left)) (pe .put-ends .ensures)
+    let stop = sym (after-no-deeper .no-deeper .ensures s (a .place)) ∙ then2 .if2 .taken in
+    ended s (a .place) (a .first) (a .second) (g .here) stop (a .budget - 1) (a .budget) (omega (arith, after-no-deeper .before .if1 .left)) (after-put-ends .put-ends .ensures)
 
 walk-left-requires : (t : ℕ) → walk-lts.Need-left-requires (walk-calls t) (walk-at t) walk.Post
 walk-left-requires t c κs =
+    let start = walk-start-from-else2 t c in
     let i2 = c in
-    let nd = c .before in
-    let start = nd .before .before .before .before in
     let a = start .args in
     let s = a .store .now in
     let g = start .pre .1 in
-    let on = sym (nd .no-deeper .ensures s (a .place)) ∙ i2 .if2 .left in
+    let on = sym (c .before .no-deeper .ensures s (a .place)) ∙ i2 .if2 .left in
     (g .here .proper, goes-short s (a .place) (a .first) (a .second) (g .here) on)
 
 walk-below-requires : (t : ℕ) → walk-lts.Need-below-requires (walk-calls t) (walk-at t) walk.Post
@@ -111,31 +130,27 @@ walk-below-requires t c κs =
 
 walk-below-requires-2 : (t : ℕ) → walk-lts.Need-below-requires-2 (walk-calls t) (walk-at t) walk.Post
 walk-below-requires-2 t c κs =
-    let lf = c .before in
-    let i2 = lf .before in
-    let nd = i2 .before in
-    let start = nd .before .before .before .before in
+    let after-left = c .before in
+    let else2 = after-left .before in
+    let start = walk-start-from-else2 t else2 in
     let a = start .args in
     let s = a .store .now in
     let g = start .pre .1 in
-    let on = sym (nd .no-deeper .ensures s (a .place)) ∙ i2 .if2 .left in
-    ((g .here .size, g .here .apart), (g .here .proper, goes-short s (a .place) (a .first) (a .second) (g .here) on), g .here .new, lf .left .ensures)
+    let on = sym (else2 .before .no-deeper .ensures s (a .place)) ∙ else2 .if2 .left in
+    ((g .here .size, g .here .apart), (g .here .proper, goes-short s (a .place) (a .first) (a .second) (g .here) on), g .here .new, after-left .left .ensures)
 
 walk-walk-requires : (t : ℕ) → walk-lts.Need-walk-requires (walk-calls t) (walk-at t) walk.Post
 walk-walk-requires t c κs =
-    let b2 = c .before in
-    let b1 = b2 .before in
-    let lf = b1 .before in
-    let i2 = lf .before in
-    let nd = i2 .before in
-    let i1 = nd .before in
-    let start = i1 .before .before .before in
+    let after-below2 = c .before in
+    let after-left = walk-left-from-below2 t after-below2 in
+    let else2 = after-left .before in
+    let start = walk-start-from-else2 t else2 in
     let a = start .args in
     let s = a .store .now in
     let g = start .pre .1 in
-    let on = sym (nd .no-deeper .ensures s (a .place)) ∙ i2 .if2 .left in (
-      omega (arith, start .pre .0, lf .left .ensures .count, goes-short s (a .place) (a .first) (a .second) (g .here) on),
-      goes-left s (a .place) (a .first) (a .second) (g .here) on g (i1 .if1 .left) (lf .left .ensures) (b1 .below .ensures) (b2 .below2 .ensures),
+    let on = sym (else2 .before .no-deeper .ensures s (a .place)) ∙ else2 .if2 .left in (
+      omega (arith, start .pre .0, after-left .left .ensures .count, goes-short s (a .place) (a .first) (a .second) (g .here) on),
+      goes-left s (a .place) (a .first) (a .second) (g .here) on g (walk-else1-from-else2 t else2 .if1 .left) (after-left .left .ensures) (after-below2 .before .below .ensures) (after-below2 .below2 .ensures),
     )
 
 walk-enum-known-done : (t : ℕ) → walk-lts.Need-enum-known-done (walk-calls t) (walk-at t) walk.Post
@@ -149,31 +164,28 @@ walk-same-length-2 t c = search needs
 
 walk-returns-3 : (t : ℕ) → walk-lts.Need-returns-3 (walk-calls t) (walk-at t) walk.Post
 walk-returns-3 t c =
-    let wk = c .before .before .before .before in
-    let b2 = wk .before .before in
-    let b1 = b2 .before in
-    let lf = b1 .before in
-    let i2 = lf .before in
-    let nd = i2 .before in
-    let i1 = nd .before in
-    let start = i1 .before .before .before in
+    let after-walk = c .before .before .before .before in
+    let after-below2 = walk-below2-from-walk t after-walk in
+    let after-left = walk-left-from-below2 t after-below2 in
+    let else2 = after-left .before in
+    let start = walk-start-from-else2 t else2 in
     let a = start .args in
     let s = a .store .now in
     let g = start .pre .1 in
-    let on = sym (nd .no-deeper .ensures s (a .place)) ∙ i2 .if2 .left in
-    let x = wk .walk .last .1 .1 .1 .1 .1 .1 .1 .0 in
-    let q = subst (λ z. WalkSays s (lf .left .result) (b1 .below .result) (b2 .below2 .result) (a .budget - 1) (a .writes) (a .room .now) (a .at) z x) (c .enum-told .given .1) (wk .walk .ensures) in
-    passed-left s (a .place) (a .first) (a .second) (g .here) on g (i1 .if1 .left) (lf .left .ensures) (b1 .below .ensures) (b2 .below2 .ensures) x q
+    let on = sym (else2 .before .no-deeper .ensures s (a .place)) ∙ else2 .if2 .left in
+    let x = after-walk .walk .last .1 .1 .1 .1 .1 .1 .1 .0 in
+    let q = subst (λ z. WalkSays s (after-left .left .result) (after-below2 .before .below .result) (after-below2 .below2 .result) (a .budget - 1) (a .writes) (a .room .now) (a .at) z x) (c .enum-told .given .1) (after-walk .walk .ensures) in
+    passed-left s (a .place) (a .first) (a .second) (g .here) on g (walk-else1-from-else2 t else2 .if1 .left) (after-left .left .ensures) (after-below2 .before .below .ensures) (after-below2 .below2 .ensures) x q
 
 walk-right-requires : (t : ℕ) → walk-lts.Need-right-requires (walk-calls t) (walk-at t) walk.Post
 walk-right-requires t c κs =
-    let i2 = c .before .before .before .before .before .before .before .before .before .before in
-    let nd = i2 .before in
-    let start = nd .before .before .before .before in
+    let after-walk = c .before .before .before .before .before in
+    let else2 = after-walk .before .before .before .before .before in
+    let start = walk-start-from-else2 t else2 in
     let a = start .args in
     let s = a .store .now in
     let g = start .pre .1 in
-    let on = sym (nd .no-deeper .ensures s (a .place)) ∙ i2 .if2 .left in
+    let on = sym (else2 .before .no-deeper .ensures s (a .place)) ∙ else2 .if2 .left in
     (g .here .proper, goes-short s (a .place) (a .first) (a .second) (g .here) on)
 
 walk-below-requires-3 : (t : ℕ) → walk-lts.Need-below-requires-3 (walk-calls t) (walk-at t) walk.Post
@@ -190,39 +202,37 @@ walk-below-requires-3 t c κs =
 
 walk-below-requires-4 : (t : ℕ) → walk-lts.Need-below-requires-4 (walk-calls t) (walk-at t) walk.Post
 walk-below-requires-4 t c κs =
-    let rt = c .before in
-    let i2 = rt .before .before .before .before .before .before .before .before .before .before .before in
-    let nd = i2 .before in
-    let start = nd .before .before .before .before in
+    let after-right = c .before in
+    let after-done = after-right .before .before in
+    let after-walk-arg = after-done .before .before .before .before .before in
+    let else2 = after-walk-arg .before .before .before .before in
+    let start = walk-start-from-else2 t else2 in
     let a = start .args in
     let s = a .store .now in
     let g = start .pre .1 in
-    let on = sym (nd .no-deeper .ensures s (a .place)) ∙ i2 .if2 .left in
-    ((g .here .size, g .here .apart), (g .here .proper, goes-short s (a .place) (a .first) (a .second) (g .here) on), g .here .new, rt .right .ensures)
+    let on = sym (else2 .before .no-deeper .ensures s (a .place)) ∙ else2 .if2 .left in
+    ((g .here .size, g .here .apart), (g .here .proper, goes-short s (a .place) (a .first) (a .second) (g .here) on), g .here .new, after-right .right .ensures)
 
 walk-walk-requires-2 : (t : ℕ) → walk-lts.Need-walk-requires-2 (walk-calls t) (walk-at t) walk.Post
 walk-walk-requires-2 t c κs =
-    let b4 = c .before in
-    let b3 = b4 .before in
-    let rt = b3 .before in
-    let dn = rt .before .before in
-    let wk = dn .before .before .before .before in
-    let b2 = wk .before .before in
-    let b1 = b2 .before in
-    let lf = b1 .before in
-    let i2 = lf .before in
-    let nd = i2 .before in
-    let i1 = nd .before in
-    let start = i1 .before .before .before in
+    let after-below4 = c .before in
+    let after-below3 = after-below4 .before in
+    let after-right = after-below3 .before in
+    let after-done = walk-done-from-right t after-right in
+    let after-walk = walk-walk-from-done t after-done in
+    let after-below2 = walk-below2-from-walk t after-walk in
+    let after-left = walk-left-from-below2 t after-below2 in
+    let else2 = after-left .before in
+    let start = walk-start-from-else2 t else2 in
     let a = start .args in
     let s = a .store .now in
     let g = start .pre .1 in
-    let on = sym (nd .no-deeper .ensures s (a .place)) ∙ i2 .if2 .left in
-    let x = wk .walk .last .1 .1 .1 .1 .1 .1 .1 .0 in
-    let q = subst (λ z. WalkSays s (lf .left .result) (b1 .below .result) (b2 .below2 .result) (a .budget - 1) (a .writes) (a .room .now) (a .at) z x) (dn .done .given .1) (wk .walk .ensures) in (
-      omega (arith, start .pre .0, rt .right .ensures .count, goes-short s (a .place) (a .first) (a .second) (g .here) on),
-      goes-right s (a .place) (a .first) (a .second) (g .here) on g (i1 .if1 .left) (lf .left .ensures) (b1 .below .ensures) (b2 .below2 .ensures) (dn .done .given .0 .0) (dn .done .given .0 .1 .0) x q (wk .walk .kept .1 .1 .1 .1 .1 .1 .1 .0)
-          (rt .right .ensures) (b3 .below3 .ensures) (b4 .below4 .ensures),
+    let on = sym (else2 .before .no-deeper .ensures s (a .place)) ∙ else2 .if2 .left in
+    let x = after-walk .walk .last .1 .1 .1 .1 .1 .1 .1 .0 in
+    let q = subst (λ z. WalkSays s (after-left .left .result) (after-below2 .before .below .result) (after-below2 .below2 .result) (a .budget - 1) (a .writes) (a .room .now) (a .at) z x) (after-done .done .given .1) (after-walk .walk .ensures) in (
+      omega (arith, start .pre .0, after-right .right .ensures .count, goes-short s (a .place) (a .first) (a .second) (g .here) on),
+      goes-right s (a .place) (a .first) (a .second) (g .here) on g (walk-else1-from-else2 t else2 .if1 .left) (after-left .left .ensures) (after-below2 .before .below .ensures) (after-below2 .below2 .ensures) (after-done .done .given .0 .0) (after-done .done .given .0 .1 .0) x q (after-walk .walk .kept .1 .1 .1 .1 .1 .1 .1 .0)
+          (after-right .right .ensures) (after-below3 .below3 .ensures) (after-below4 .below4 .ensures),
     )
 
 walk-same-length-3 : (t : ℕ) → walk-lts.Need-same-length-3 (walk-calls t) (walk-at t) walk.Post
@@ -230,27 +240,24 @@ walk-same-length-3 t c = search needs
 
 walk-returns-4 : (t : ℕ) → walk-lts.Need-returns-4 (walk-calls t) (walk-at t) walk.Post
 walk-returns-4 t c =
-    let w2 = c .before .before in
-    let b4 = w2 .before .before in
-    let b3 = b4 .before in
-    let rt = b3 .before in
-    let dn = rt .before .before in
-    let wk = dn .before .before .before .before in
-    let b2 = wk .before .before in
-    let b1 = b2 .before in
-    let lf = b1 .before in
-    let i2 = lf .before in
-    let nd = i2 .before in
-    let i1 = nd .before in
-    let start = i1 .before .before .before in
+    let after-walk2 = c .before .before in
+    let after-below4 = after-walk2 .before .before in
+    let after-below3 = after-below4 .before in
+    let after-right = after-below3 .before in
+    let after-done = walk-done-from-right t after-right in
+    let after-walk = walk-walk-from-done t after-done in
+    let after-below2 = walk-below2-from-walk t after-walk in
+    let after-left = walk-left-from-below2 t after-below2 in
+    let else2 = after-left .before in
+    let start = walk-start-from-else2 t else2 in
     let a = start .args in
     let s = a .store .now in
     let g = start .pre .1 in
-    let on = sym (nd .no-deeper .ensures s (a .place)) ∙ i2 .if2 .left in
-    let x = wk .walk .last .1 .1 .1 .1 .1 .1 .1 .0 in
-    let q = subst (λ z. WalkSays s (lf .left .result) (b1 .below .result) (b2 .below2 .result) (a .budget - 1) (a .writes) (a .room .now) (a .at) z x) (dn .done .given .1) (wk .walk .ensures) in
-    went-on s (a .place) (a .first) (a .second) (g .here) on g (i1 .if1 .left) (lf .left .ensures) (b1 .below .ensures) (b2 .below2 .ensures) (dn .done .given .0 .0) (dn .done .given .0 .1 .0) x q (wk .walk .kept .1 .1 .1 .1 .1 .1 .1 .0)
-    (rt .right .ensures) (b3 .below3 .ensures) (b4 .below4 .ensures) (w2 .walk2 .result) _ (w2 .walk2 .ensures)
+    let on = sym (else2 .before .no-deeper .ensures s (a .place)) ∙ else2 .if2 .left in
+    let x = after-walk .walk .last .1 .1 .1 .1 .1 .1 .1 .0 in
+    let q = subst (λ z. WalkSays s (after-left .left .result) (after-below2 .before .below .result) (after-below2 .below2 .result) (a .budget - 1) (a .writes) (a .room .now) (a .at) z x) (after-done .done .given .1) (after-walk .walk .ensures) in
+    went-on s (a .place) (a .first) (a .second) (g .here) on g (walk-else1-from-else2 t else2 .if1 .left) (after-left .left .ensures) (after-below2 .before .below .ensures) (after-below2 .below2 .ensures) (after-done .done .given .0 .0) (after-done .done .given .0 .1 .0) x q (after-walk .walk .kept .1 .1 .1 .1 .1 .1 .1 .0)
+    (after-right .right .ensures) (after-below3 .below3 .ensures) (after-below4 .below4 .ensures) (after-walk2 .walk2 .result) _ (after-walk2 .walk2 .ensures)
 
 pub +walk-spec : {M : Type 1} → statement M
 +walk-spec = close μ-walk λ t. walk-lts.spec (walk-calls t) (walk-at t)

@@ -27,12 +27,14 @@ element-write-known c = let s = c .before .before .before .before in omega (arit
 
 returns-2 : tie.Need-returns-2
 returns-2 c =
-    let s = c .before .before .before .before in
-    let a = s .args in
-    let same = sym (c .before .same-hash .ensures) ∙ not-false (c .before .same-hash .result) (c .if1 .left) in
-    known-set (a .store .now) (a .known .now) (a .c) (a .link) (s .pre .3) (record {
-      has = s .pre .1 .parent;
-      hash = λ r x. s .pre .2 r x ∙ sym (same-bytes (hashBytes (c .before .before .stored .result)) (hashBytes (a .hash)) same) ∙ c .before .before .stored .ensures;
+    let after-same-hash = c .before in
+    let after-stored = after-same-hash .before in
+    let start = after-stored .before .before in
+    let a = start .args in
+    let same = sym (after-same-hash .same-hash .ensures) ∙ not-false (after-same-hash .same-hash .result) (c .if1 .left) in
+    known-set (a .store .now) (a .known .now) (a .c) (a .link) (start .pre .3) (record {
+      has = start .pre .1 .parent;
+      hash = λ r x. start .pre .2 r x ∙ sym (same-bytes (hashBytes (after-stored .stored .result)) (hashBytes (a .hash)) same) ∙ after-stored .stored .ensures;
     })
 
 pub enter-spec : {M : Type 1} → statement M

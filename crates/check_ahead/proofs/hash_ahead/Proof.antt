@@ -12,6 +12,13 @@ Inv-loop form store guess known₀ n slots₀ links₀ w₀ known slots links w 
 abbrev μ-loop : tie.MeasureT-loop
 μ-loop form store guess known₀ n slots₀ links₀ w₀ known slots links w = 2 * n - w
 
+-- `A-from-B` is the state A as the later state B has it.
+abbrev at-loop-from-links : tie.After-links Inv-loop μ-loop → tie.At-loop Inv-loop μ-loop
+at-loop-from-links c = c .before .before .before .before
+
+abbrev at-loop-from-next-eight : tie.After-next-eight Inv-loop μ-loop → tie.At-loop Inv-loop μ-loop
+at-loop-from-next-eight c = at-loop-from-links (c .before)
+
 slot-count-requires : tie.Need-slot-count-requires Inv-loop μ-loop
 slot-count-requires c κs = c .before .pre .0
 
@@ -29,20 +36,16 @@ mul-loop : tie.Need-mul-loop Inv-loop μ-loop
 mul-loop c = omega (arith, room-small (c .loop .inv .room))
 
 next-eight-requires : tie.Need-next-eight-requires Inv-loop μ-loop
-next-eight-requires c κs =
-    let i = c .before .before .before .before .loop .inv in
+next-eight-requires c κs = let i = at-loop-from-links c .loop .inv in
     (i .room, i .fit, i .tied)
 
 returns : tie.Need-returns Inv-loop μ-loop
-returns c =
-    let t = c .before .before .before .before .before in
-    t .before .loop .inv .known
+returns c = at-loop-from-next-eight (c .before) .loop .inv .known
 
 enter-eight-requires : tie.Need-enter-eight-requires Inv-loop μ-loop
 enter-eight-requires c κs =
-    let e = c .before .before .before .before in
-    let t = e .before .before .before .before .before in
-    (e .next-eight .ensures .0 .0, e .next-eight .ensures .0 .1, t .loop .inv .known)
+    let after-next-eight = c .before .before .before .before in
+    (after-next-eight .next-eight .ensures .0 .0, after-next-eight .next-eight .ensures .0 .1, at-loop-from-next-eight after-next-eight .loop .inv .known)
 
 returns-2 : tie.Need-returns-2 Inv-loop μ-loop
 returns-2 c = c .before .enter-eight .ensures
@@ -56,10 +59,10 @@ loop-less c =
 
 loop-again : tie.Need-loop-again Inv-loop μ-loop
 loop-again c =
-    let e = c .before .before .before .before .before in
-    let t = e .before .before .before .before .before in
-    let n = e .before .next-eight .ensures .0 in
-    record { room = t .before .loop .inv .room; known = c .before .enter-eight .ensures; fit = n .0; tied = n .1 }
+    let after-enter-eight = c .before in
+    let after-next-eight = after-enter-eight .before .before .before .before .before in
+    let n = after-next-eight .next-eight .ensures .0 in
+    record { room = at-loop-from-next-eight after-next-eight .loop .inv .room; known = after-enter-eight .enter-eight .ensures; fit = n .0; tied = n .1 }
 
 returns-3 : tie.Need-returns-3 Inv-loop μ-loop
 returns-3 c = c .before .loop .inv .known

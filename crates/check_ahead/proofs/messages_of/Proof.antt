@@ -25,15 +25,17 @@ mul-message-of c = search needs
 element-copy-out-message-of : tie.Need-element-copy-out-message-of Inv-loop μ-loop
 element-copy-out-message-of c = search needs
 
+-- `A-from-B` is the state A as the later state B has it.
+abbrev at-loop-from-x : tie.After-x Inv-loop μ-loop → tie.At-loop Inv-loop μ-loop
+at-loop-from-x c = c .before .before .before .before
+
 message-of-requires : tie.Need-message-of-requires Inv-loop μ-loop
 message-of-requires c κs =
     let t = c .before .before in
     t .before .before .pre (t .loop .l) (omega arith)
 
 put-message-requires : tie.Need-put-message-requires Inv-loop μ-loop
-put-message-requires c κs =
-    let t = c .before .before .before .before in
-    (t .loop .inv .1, omega arith, c .before .message-of .ensures .kind)
+put-message-requires c κs = (at-loop-from-x c .loop .inv .1, omega arith, c .before .message-of .ensures .kind)
 
 add-l : tie.Need-add-l Inv-loop μ-loop
 add-l c = search needs
@@ -43,12 +45,12 @@ loop-less c = search needs
 
 loop-again : tie.Need-loop-again Inv-loop μ-loop
 loop-again c =
+    let at-loop = at-loop-from-x (c .before) in
     let m = c .before .before .message-of in
-    let t = c .before .before .before .before .before in
-    let a = t .before .before .args in (
+    let a = at-loop .before .before .args in (
       omega arith,
-      c .put-message .ensures .long ∙ t .loop .inv .1,
-      put-more (HashAt (a .form) (a .store .now) (a .slots .now)) (t .loop .x) _ (t .loop .l) _ (omega arith) (c .put-message .ensures) (t .loop .inv .2) (m .ensures .hash),
+      c .put-message .ensures .long ∙ at-loop .loop .inv .1,
+      put-more (HashAt (a .form) (a .store .now) (a .slots .now)) (at-loop .loop .x) _ (at-loop .loop .l) _ (omega arith) (c .put-message .ensures) (at-loop .loop .inv .2) (m .ensures .hash),
     )
 
 returns : tie.Need-returns Inv-loop μ-loop

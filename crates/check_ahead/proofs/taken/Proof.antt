@@ -18,11 +18,19 @@ mul-slots c = search needs
 element-write-slots : tie.Need-element-write-slots
 element-write-slots c = search needs
 
+-- `A-from-B` is the state A as the later state B has it.
+abbrev start-from-else1 : tie.Else1 → tie.Start
+start-from-else1 c = c .before .before .before
+
 cast-links : tie.Need-cast-links
-cast-links c = let s = c .before .before .before in omega (arith, s .pre .1, room-small (s .pre .0))
+cast-links c =
+    let start = start-from-else1 c in
+    omega (arith, start .pre .1, room-small (start .pre .0))
 
 add-links : tie.Need-add-links
-add-links c = let s = c .before .before .before in omega (arith, s .pre .1, room-small (s .pre .0))
+add-links c =
+    let start = start-from-else1 c in
+    omega (arith, start .pre .1, room-small (start .pre .0))
 
 mul-links : tie.Need-mul-links
 mul-links c = search needs
@@ -35,11 +43,11 @@ add-result c = search needs
 
 returns-2 : tie.Need-returns-2
 returns-2 c =
+    let start = start-from-else1 c in
     let w = c .before .is-wanted in
-    let s = c .before .before .before in
-    let a = s .args in
+    let a = start .args in
     let inside = passed-so (w .result) (c .if1 .left) (w .ensures) in
-    ((slots-next (s .pre .0) inside (a .slots .now) (a .many) (s .pre .3), links-next (s .pre .0) (s .pre .1) (a .links .now) (a .many) (s .pre .4)), omega (arith, s .pre .2))
+    ((slots-next (start .pre .0) inside (a .slots .now) (a .many) (start .pre .3), links-next (start .pre .0) (start .pre .1) (a .links .now) (a .many) (start .pre .4)), omega (arith, start .pre .2))
 
 pub taken-spec : {M : Type 1} → statement M
 taken-spec =

@@ -5,6 +5,25 @@ use borrow.Author.Needs.{needs}
 use Rattle.check_guess.proofs.guess_side.Statement.{statement}
 use Rattle.check_guess.proofs.guess_side.Tie as tie
 
+-- `A-from-B` is the state A as the later state B has it.
+abbrev else1-from-count-at : tie.After-count-at → tie.Else1
+else1-from-count-at c = c .before .before
+
+abbrev start-from-else1 : tie.Else1 → tie.Start
+start-from-else1 c = c .before .before
+
+abbrev start-from-count-at : tie.After-count-at → tie.Start
+start-from-count-at c = start-from-else1 (c .before .before)
+
+abbrev start-from-else4 : tie.Else4 → tie.Start
+start-from-else4 c = start-from-count-at (c .before .before .before .before)
+
+abbrev start-from-longer : tie.After-longer → tie.Start
+start-from-longer c = start-from-else4 (c .before .before .before .before)
+
+abbrev start-from-then6 : tie.Then6 → tie.Start
+start-from-then6 c = start-from-longer (c .before .before .before .before)
+
 returns : tie.Need-returns
 returns c =
     let c2 = c .before .before in
@@ -12,40 +31,32 @@ returns c =
 
 kind-at-requires : tie.Need-kind-at-requires
 kind-at-requires c κs =
-    let c2 = c .before .before in
-    room-within (c2 .args .store .now) (c2 .pre .0) (omega (arith, c .if1 .left))
+    let start = start-from-else1 c in
+    room-within (start .args .store .now) (start .pre .0) (omega (arith, c .if1 .left))
 
 count-at-requires : tie.Need-count-at-requires
 count-at-requires c κs =
-    let c3 = c .before .before .before in
-    room-within (c3 .args .store .now) (c3 .pre .0) (omega (arith, c .before .if1 .left))
+    let start = start-from-else1 (c .before) in
+    room-within (start .args .store .now) (start .pre .0) (omega (arith, c .before .if1 .left))
 
 child-version-at-requires : tie.Need-child-version-at-requires
 child-version-at-requires c κs =
-    let c2 = c .before .before in
-    let c4 = c2 .before .before in
-    room-within (c4 .args .store .now) (c4 .pre .0) (omega (arith, c2 .if1 .left))
+    let start = start-from-count-at c in
+    room-within (start .args .store .now) (start .pre .0) (omega (arith, else1-from-count-at c .if1 .left))
 
 returns-2 : tie.Need-returns-2
-returns-2 c =
-    let c6 = c .before .before .before .before .before .before in
-    c6 .pre .1
+returns-2 c = start-from-count-at (c .before .before) .pre .1
 
 returns-3 : tie.Need-returns-3
-returns-3 c =
-    let c7 = c .before .before .before .before .before .before .before in
-    c7 .pre .1
+returns-3 c = start-from-count-at (c .before .before .before) .pre .1
 
 returns-4 : tie.Need-returns-4
-returns-4 c =
-    let c8 = c .before .before .before .before .before .before .before .before in
-    c8 .pre .1
+returns-4 c = start-from-count-at (c .before .before .before .before) .pre .1
 
 slot-of-requires : tie.Need-slot-of-requires
 slot-of-requires c κs =
-    let c6 = c .before .before .before .before .before .before in
-    let c8 = c6 .before .before in
-    room-within (c8 .args .store .now) (c8 .pre .0) (omega (arith, c6 .if1 .left))
+    let start = start-from-else4 c in
+    room-within (start .args .store .now) (start .pre .0) (omega (arith, else1-from-count-at (c .before .before .before .before) .if1 .left))
 
 bits-of-requires : tie.Need-bits-of-requires
 bits-of-requires c κs = search needs
@@ -61,23 +72,17 @@ add-t21 c = omega arith
 
 searched-requires : tie.Need-searched-requires
 searched-requires c κs =
-    let c12 = c .before .before .before .before .before .before .before .before .before .before .before .before in
-    (c12 .pre .0, c12 .pre .1, c12 .pre .2)
+    let start = start-from-longer c in
+    (start .pre .0, start .pre .1, start .pre .2)
 
 guess-at-requires : tie.Need-guess-at-requires
-guess-at-requires c κs =
-    let c13 = c .before .before .before .before .before .before .before .before .before .before .before .before .before in
-    c13 .pre .3
+guess-at-requires c κs = start-from-longer (c .before) .pre .3
 
 mul-guess : tie.Need-mul-guess
-mul-guess c =
-    let c16 = c .before .before .before .before .before .before .before .before .before .before .before .before .before .before .before .before in
-    omega (arith, c16 .pre .2, c .before .if5 .taken)
+mul-guess c = omega (arith, start-from-then6 c .pre .2, c .before .if5 .taken)
 
 element-copy-out-guess : tie.Need-element-copy-out-guess
-element-copy-out-guess c =
-    let c16 = c .before .before .before .before .before .before .before .before .before .before .before .before .before .before .before .before in
-    omega (arith, c16 .pre .2, c .before .if5 .taken)
+element-copy-out-guess c = omega (arith, start-from-then6 c .pre .2, c .before .if5 .taken)
 
 mul-guess-2 : tie.Need-mul-guess-2
 mul-guess-2 c = omega arith

@@ -8,15 +8,19 @@ use Rattle.check_guess.proofs.stands_before.Tie as tie
 returns : tie.Need-returns
 returns c = tt
 
+-- `A-from-B` is the state A as the later state B has it.
+abbrev start-from-else1 : tie.Else1 → tie.Start
+start-from-else1 c = c .before .before
+
 count-at-requires : tie.Need-count-at-requires
 count-at-requires c κs =
-    let c2 = c .before .before in
-    room-within (c2 .args .store .now) (c2 .pre) (omega (arith, c .if1 .left))
+    let start = start-from-else1 c in
+    room-within (start .args .store .now) (start .pre) (omega (arith, c .if1 .left))
 
 slot-of-requires : tie.Need-slot-of-requires
 slot-of-requires c κs =
-    let c3 = c .before .before .before in
-    room-within (c3 .args .store .now) (c3 .pre) (omega (arith, c .before .if1 .left))
+    let start = start-from-else1 (c .before) in
+    room-within (start .args .store .now) (start .pre) (omega (arith, c .before .if1 .left))
 
 bits-of-requires : tie.Need-bits-of-requires
 bits-of-requires c κs = search needs
@@ -26,9 +30,9 @@ hash-at-requires c κs = omega (arith, c .bits-of .ensures .1)
 
 version-at-requires : tie.Need-version-at-requires
 version-at-requires c κs =
-    let c4 = c .before .before .before .before in
-    let c6 = c4 .before .before in
-    room-within (c6 .args .store .now) (c6 .pre) (omega (arith, c4 .if1 .left))
+    let else1 = c .before .before .before .before in
+    let start = start-from-else1 else1 in
+    room-within (start .args .store .now) (start .pre) (omega (arith, else1 .if1 .left))
 
 returns-2 : tie.Need-returns-2
 returns-2 c = tt

@@ -9,13 +9,15 @@ use borrow.Author.Needs.{needs}
 use Rattle.check_hash.proofs.record_hash.Statement.{statement}
 use Rattle.check_hash.proofs.record_hash.Tie as tie
 
+-- `A-from-B` is the state A as the later state B has it.
+abbrev start-from-slot-of : tie.After-slot-of → tie.Start
+start-from-slot-of c = c .before .before
+
 slot-of-requires : tie.Need-slot-of-requires
 slot-of-requires c κs = slot-within (c .before .pre)
 
 kind-at-requires : tie.Need-kind-at-requires
-kind-at-requires c κs =
-    let c2 = c .before .before in
-    slot-within (c2 .pre)
+kind-at-requires c κs = slot-within (start-from-slot-of c .pre)
 
 grant-of-requires : tie.Need-grant-of-requires
 grant-of-requires c κs = search needs
@@ -25,12 +27,12 @@ leaf-hash-requires c κs = search needs
 
 returns : tie.Need-returns
 returns c =
-    let c2 = c .before .before in
-    let c3 = c2 .before in
-    let c4 = c3 .before in
-    let c6 = c4 .before .before in
-    leaf-hash-is (c6 .pre) (c3 .kind-at .ensures) (c2 .if1 .taken)
-    (c .before .grant-of .ensures .0 ∙ ap grantIn (c4 .slot-of .ensures .0)) (c .leaf-hash .result) (c .leaf-hash .ensures)
+    let after-grant-of = c .before in
+    let then1 = after-grant-of .before in
+    let after-kind-at = then1 .before in
+    let after-slot-of = after-kind-at .before in
+    leaf-hash-is (start-from-slot-of after-slot-of .pre) (after-kind-at .kind-at .ensures) (then1 .if1 .taken)
+    (after-grant-of .grant-of .ensures .0 ∙ ap grantIn (after-slot-of .slot-of .ensures .0)) (c .leaf-hash .result) (c .leaf-hash .ensures)
 
 child-hash-requires : tie.Need-child-hash-requires
 child-hash-requires c κs = search needs
@@ -49,18 +51,18 @@ inner-hash-requires c κs = search needs
 
 returns-2 : tie.Need-returns-2
 returns-2 c =
-    let c2 = c .before .before in
-    let c3 = c2 .before in
-    let c4 = c3 .before in
-    let c5 = c4 .before in
-    let c6 = c5 .before in
-    let c7 = c6 .before in
-    let c9 = c7 .before .before in
-    let l = read-whole (c3 .hash-at .ensures .1) (c4 .child-hash .ensures .1)
-    (c4 .child-hash .ensures .0 ∙ ap (λ x. leftIn x .hash) (c7 .slot-of .ensures .0)) in
-    let r = read-whole (c .before .hash-at2 .ensures .1) (c2 .child-hash2 .ensures .1)
-    (c2 .child-hash2 .ensures .0 ∙ ap (λ x. rightIn x .hash) (c7 .slot-of .ensures .0)) in
-    inner-hash-is (c9 .pre) (c6 .kind-at .ensures) (c5 .if1 .left) (c3 .hash-at .result) (c .before .hash-at2 .result)
+    let after-hash-at2 = c .before in
+    let after-child-hash2 = after-hash-at2 .before in
+    let after-hash-at = after-child-hash2 .before in
+    let after-child-hash = after-hash-at .before in
+    let else1 = after-child-hash .before in
+    let after-kind-at = else1 .before in
+    let after-slot-of = after-kind-at .before in
+    let l = read-whole (after-hash-at .hash-at .ensures .1) (after-child-hash .child-hash .ensures .1)
+    (after-child-hash .child-hash .ensures .0 ∙ ap (λ x. leftIn x .hash) (after-slot-of .slot-of .ensures .0)) in
+    let r = read-whole (after-hash-at2 .hash-at2 .ensures .1) (after-child-hash2 .child-hash2 .ensures .1)
+    (after-child-hash2 .child-hash2 .ensures .0 ∙ ap (λ x. rightIn x .hash) (after-slot-of .slot-of .ensures .0)) in
+    inner-hash-is (start-from-slot-of after-slot-of .pre) (after-kind-at .kind-at .ensures) (else1 .if1 .left) (after-hash-at .hash-at .result) (after-hash-at2 .hash-at2 .result)
     (c .inner-hash .result) l r (c .inner-hash .ensures)
 
 pub record-hash-spec : {M : Type 1} → statement M

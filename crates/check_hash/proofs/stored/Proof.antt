@@ -13,16 +13,18 @@ use Rattle.check_hash.proofs.stored.Tie as tie
 wide-requires : tie.Need-wide-requires
 wide-requires c κs = search needs
 
+-- `A-from-B` is the state A as the later state B has it.
+abbrev start-from-wide : tie.After-wide → tie.Start
+start-from-wide c = c .before .before
+
 sub-k : tie.Need-sub-k
-sub-k c =
-    let c2 = c .before .before in
-    omega (arith, c .wide .ensures, c2 .pre .0)
+sub-k c = omega (arith, c .wide .ensures, start-from-wide c .pre .0)
 
 slot-of-requires : tie.Need-slot-of-requires
 slot-of-requires c κs =
-    let c2 = c .before .before in
+    let start = start-from-wide c in
     let e = ap (λ n. (n - 1) / 2) (c .wide .ensures .0) in
-    slot-within (subst (Has (c2 .args .form) (c2 .args .store .now)) (sym e) (c2 .pre .1))
+    slot-within (subst (Has (start .args .form) (start .args .store .now)) (sym e) (start .pre .1))
 
 child-hash-requires : tie.Need-child-hash-requires
 child-hash-requires c κs = search needs
@@ -32,12 +34,13 @@ hash-at-requires c κs = omega (arith, c .child-hash .ensures .1)
 
 returns : tie.Need-returns
 returns c =
-    let c2 = c .before .before in
-    let c3 = c2 .before in
-    let c5 = c3 .before .before in
-    let its = stored-is _ (c5 .args .store .now) (c5 .args .link) (ap (λ n. n - 1) (c3 .wide .ensures .0)) (c2 .slot-of .ensures .0)
-    (c .before .child-hash .ensures .0) in
-    read-whole (c .hash-at .ensures .1) (c .before .child-hash .ensures .1) its
+    let after-child-hash = c .before in
+    let after-slot-of = after-child-hash .before in
+    let after-wide = after-slot-of .before in
+    let start = start-from-wide after-wide in
+    let its = stored-is _ (start .args .store .now) (start .args .link) (ap (λ n. n - 1) (after-wide .wide .ensures .0)) (after-slot-of .slot-of .ensures .0)
+    (after-child-hash .child-hash .ensures .0) in
+    read-whole (c .hash-at .ensures .1) (after-child-hash .child-hash .ensures .1) its
 
 pub stored-spec : {M : Type 1} → statement M
 stored-spec =

@@ -14,6 +14,10 @@ Inv-loop form store latest table many n k₀ k = (1 ≤ k) × InOrder form lates
 abbrev μ-loop : tie.MeasureT-loop
 μ-loop form store latest table many n k₀ k = many - k
 
+-- `A-from-B` is the state A as the later state B has it.
+abbrev start-from-at-loop : tie.At-loop Inv-loop μ-loop → tie.Start Inv-loop μ-loop
+start-from-at-loop c = c .before .before .before
+
 slot-count-requires : tie.Need-slot-count-requires Inv-loop μ-loop
 slot-count-requires c κs = c .before .pre .0
 
@@ -43,14 +47,13 @@ wide-requires-2 c κs = search needs
 
 in-order-requires : tie.Need-in-order-requires Inv-loop μ-loop
 in-order-requires c κs =
-    let c6 = c .before .before .before .before .before .before in
-    let c8 = c6 .before .before in
-    record { size = c8 .pre .0; many = c6 .slot-count .ensures }
+    let at-loop = c .before .before .before .before .before in
+    record { size = start-from-at-loop at-loop .pre .0; many = at-loop .before .slot-count .ensures }
 
 returns : tie.Need-returns Inv-loop μ-loop
 returns c =
-    let c7 = c .before .before .before .before .before .before .before in
-    c7 .loop .inv .1
+    let after-wide = c .before .before .before .before in
+    after-wide .before .before .before .loop .inv .1
 
 add-k : tie.Need-add-k Inv-loop μ-loop
 add-k c = omega arith
@@ -60,14 +63,15 @@ loop-less c = omega arith
 
 loop-again : tie.Need-loop-again Inv-loop μ-loop
 loop-again c =
-    let c2 = c .before .before in
-    let c4 = c2 .before .before in
-    let c7 = c4 .before .before .before in
-    let c10 = c7 .before .before .before in
-    let i = c7 .loop .inv in (
+    let after-in-order = c .before in
+    let after-wide2 = after-in-order .before in
+    let after-wide = after-wide2 .before .before in
+    let at-loop = after-wide .before .before .before in
+    let start = start-from-at-loop at-loop in
+    let i = at-loop .loop .inv in (
       omega (arith, i .0),
-      step-next (Follows (c10 .args .form) (c10 .args .latest) (c10 .args .store .now)) (c10 .args .table .now) _ (i .0) (i .1) (c4 .wide .ensures)
-          (c2 .wide2 .ensures) (passed-so (c .before .in-order .result) (c .if1 .left) (c .before .in-order .ensures)),
+      step-next (Follows (start .args .form) (start .args .latest) (start .args .store .now)) (start .args .table .now) _ (i .0) (i .1) (after-wide .wide .ensures)
+          (after-wide2 .wide2 .ensures) (passed-so (after-in-order .in-order .result) (c .if1 .left) (after-in-order .in-order .ensures)),
     )
 
 returns-2 : tie.Need-returns-2 Inv-loop μ-loop

@@ -13,29 +13,32 @@ returns c = tt
 returns-2 : tie.Need-returns-2
 returns-2 c = tt
 
+-- `A-from-B` is the state A as the later state B has it.
+abbrev start-from-else2 : tie.Else2 → tie.Start
+start-from-else2 c = c .before .before .before
+
 ahead-requires : tie.Need-ahead-requires
 ahead-requires c κs =
-    let c3 = c .before .before .before in
-    (room-has (c3 .pre) (omega (arith, c .before .if1 .left)), room-has (c3 .pre) (omega (arith, c .if2 .left)))
+    let start = start-from-else2 c in
+    (room-has (start .pre) (omega (arith, c .before .if1 .left)), room-has (start .pre) (omega (arith, c .if2 .left)))
 
 returns-3 : tie.Need-returns-3
 returns-3 c = tt
 
 parted-requires : tie.Need-parted-requires
 parted-requires c κs =
-    let c2 = c .before .before in
-    let c3 = c2 .before in
-    let c5 = c3 .before .before in
-    (room-has (c5 .pre) (omega (arith, c3 .if1 .left)), room-has (c5 .pre) (omega (arith, c2 .if2 .left)))
+    let else2 = c .before .before in
+    let start = start-from-else2 else2 in
+    (room-has (start .pre) (omega (arith, else2 .before .if1 .left)), room-has (start .pre) (omega (arith, else2 .if2 .left)))
 
 returns-4 : tie.Need-returns-4
 returns-4 c =
-    let c2 = c .before .before in
-    let c3 = c2 .before in
-    let c6 = c3 .before .before .before in
+    let else3 = c .before in
+    let after-ahead = else3 .before in
+    let else2 = after-ahead .before in
     pass-map (c .parted .result) (λ p. record {
-      inside = room-has (c6 .pre) (omega (arith, c3 .if2 .left));
-      up = sym (c2 .ahead .ensures) ∙ not-false _ (c .before .if3 .left);
+      inside = room-has (start-from-else2 else2 .pre) (omega (arith, else2 .if2 .left));
+      up = sym (after-ahead .ahead .ensures) ∙ not-false _ (else3 .if3 .left);
       parted = p;
     }) (c .parted .ensures)
 

@@ -12,6 +12,10 @@ Inv-loop form store table many ranks n i₀ i = Walk form store (NamedAt form st
 abbrev μ-loop : tie.MeasureT-loop
 μ-loop form store table many ranks n i₀ i = n - i
 
+-- `A-from-B` is the state A as the later state B has it.
+abbrev at-loop-from-slot-named : tie.After-slot-named Inv-loop μ-loop → tie.At-loop Inv-loop μ-loop
+at-loop-from-slot-named c = c .before .before .before
+
 slot-count-requires : tie.Need-slot-count-requires Inv-loop μ-loop
 slot-count-requires c κs = c .before .pre .0
 
@@ -34,23 +38,19 @@ slot-named-requires c κs =
     (walk-slot (c2 .loop .inv) (c .before .loop-test .taken), c5 .pre .1)
 
 returns : tie.Need-returns Inv-loop μ-loop
-returns c =
-    let c4 = c .before .before .before .before in
-    c4 .loop .inv .each
+returns c = at-loop-from-slot-named (c .before) .loop .inv .each
 
 add-i : tie.Need-add-i Inv-loop μ-loop
-add-i c =
-    let c4 = c .before .before .before .before in
-    omega (arith, c4 .loop .inv .scan .small)
+add-i c = omega (arith, at-loop-from-slot-named (c .before) .loop .inv .scan .small)
 
 loop-less : tie.Need-loop-less Inv-loop μ-loop
 loop-less c = omega arith
 
 loop-again : tie.Need-loop-again Inv-loop μ-loop
 loop-again c =
-    let c3 = c .before .before .before in
-    walk-on (c3 .before .loop .inv) (c3 .loop-test .taken) (c .before .slot-named .result) (c .if1 .left)
-    (c .before .slot-named .ensures)
+    let after-slot-named = c .before in
+    walk-on (at-loop-from-slot-named after-slot-named .loop .inv) (after-slot-named .before .before .loop-test .taken) (after-slot-named .slot-named .result) (c .if1 .left)
+    (after-slot-named .slot-named .ensures)
 
 returns-2 : tie.Need-returns-2 Inv-loop μ-loop
 returns-2 c = c .before .loop .inv .each

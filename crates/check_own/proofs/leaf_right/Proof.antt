@@ -10,13 +10,18 @@ use borrow.Author.Needs.{needs}
 use Rattle.check_own.proofs.leaf_right.Statement.{statement}
 use Rattle.check_own.proofs.leaf_right.Tie as tie
 
+-- `A-from-B` is the state A as the later state B has it.
+abbrev start-from-slot-of : tie.After-slot-of → tie.Start
+start-from-slot-of c = c .before .before
+
+abbrev start-from-count-at : tie.After-count-at → tie.Start
+start-from-count-at c = start-from-slot-of (c .before)
+
 slot-of-requires : tie.Need-slot-of-requires
 slot-of-requires c κs = slot-within (c .before .pre .0)
 
 count-at-requires : tie.Need-count-at-requires
-count-at-requires c κs =
-    let c2 = c .before .before in
-    slot-within (c2 .pre .0)
+count-at-requires c κs = slot-within (start-from-slot-of c .pre .0)
 
 bits-of-requires : tie.Need-bits-of-requires
 bits-of-requires c κs = search needs
@@ -26,10 +31,10 @@ cast-place-at c = search needs
 
 place-at-requires : tie.Need-place-at-requires
 place-at-requires c κs =
-    let c2 = c .before .before in
-    let c4 = c2 .before .before in
-    leaf-place (slotIn (c4 .args .form) (c4 .args .i) (c4 .args .store .now)) (c4 .pre .1) (c .before .count-at .ensures)
-    (c .bits-of .ensures .0 ∙ ap bitsIn (c2 .slot-of .ensures .0)) (c .bits-of .ensures .1)
+    let after-count-at = c .before in
+    let start = start-from-count-at after-count-at in
+    leaf-place (slotIn (start .args .form) (start .args .i) (start .args .store .now)) (start .pre .1) (after-count-at .count-at .ensures)
+    (c .bits-of .ensures .0 ∙ ap bitsIn (after-count-at .before .slot-of .ensures .0)) (c .bits-of .ensures .1)
 
 key-of-requires : tie.Need-key-of-requires
 key-of-requires c κs = search needs
@@ -41,22 +46,21 @@ returns : tie.Need-returns
 returns c = tt
 
 head-right-requires : tie.Need-head-right-requires
-head-right-requires c κs =
-    let c8 = c .before .before .before .before .before .before .before .before in
-    c8 .pre .0
+head-right-requires c κs = start-from-count-at (c .before .before .before .before .before) .pre .0
 
 returns-2 : tie.Need-returns-2
 returns-2 c =
-    let c2 = c .before .before in
-    let c3 = c2 .before in
-    let c4 = c3 .before in
-    let c5 = c4 .before in
-    let c6 = c5 .before in
-    let c7 = c6 .before in
-    let c9 = c7 .before .before in
-    let key = key-begins (slotIn (c9 .args .form) (c9 .args .i) (c9 .args .store .now)) (c6 .count-at .ensures)
-    (c5 .bits-of .ensures .0 ∙ ap bitsIn (c7 .slot-of .ensures .0)) (c4 .place-at .ensures)
-    (c3 .key-of .ensures .0 ∙ ap keyIn (c7 .slot-of .ensures .0)) (c2 .begins .ensures) (not-false _ (c .before .if1 .left)) in
+    let else1 = c .before in
+    let after-begins = else1 .before in
+    let after-key-of = after-begins .before in
+    let after-place-at = after-key-of .before in
+    let after-bits-of = after-place-at .before in
+    let after-count-at = after-bits-of .before in
+    let after-slot-of = after-count-at .before in
+    let start = start-from-slot-of after-slot-of in
+    let key = key-begins (slotIn (start .args .form) (start .args .i) (start .args .store .now)) (after-count-at .count-at .ensures)
+    (after-bits-of .bits-of .ensures .0 ∙ ap bitsIn (after-slot-of .slot-of .ensures .0)) (after-place-at .place-at .ensures)
+    (after-key-of .key-of .ensures .0 ∙ ap keyIn (after-slot-of .slot-of .ensures .0)) (after-begins .begins .ensures) (not-false _ (else1 .if1 .left)) in
     pass-map (c .head-right .result) (λ h. record { head = h; key = key }) (c .head-right .ensures)
 
 pub leaf-right-spec : {M : Type 1} → statement M

@@ -13,6 +13,10 @@ Inv-loop form store kept n i₀ i = Walk form store (OwnAt (storeIn form store))
 abbrev μ-loop : tie.MeasureT-loop
 μ-loop form store kept n i₀ i = n - i
 
+-- `A-from-B` is the state A as the later state B has it.
+abbrev at-loop-from-slot-right : tie.After-slot-right Inv-loop μ-loop → tie.At-loop Inv-loop μ-loop
+at-loop-from-slot-right c = c .before .before
+
 slot-count-requires : tie.Need-slot-count-requires Inv-loop μ-loop
 slot-count-requires c κs = c .before .pre .size
 
@@ -27,23 +31,19 @@ slot-right-requires c κs =
     (walk-slot (c .before .loop .inv) (c .loop-test .taken), c4 .pre)
 
 returns : tie.Need-returns Inv-loop μ-loop
-returns c =
-    let c3 = c .before .before .before in
-    c3 .loop .inv .each
+returns c = at-loop-from-slot-right (c .before) .loop .inv .each
 
 add-i : tie.Need-add-i Inv-loop μ-loop
-add-i c =
-    let c3 = c .before .before .before in
-    omega (arith, c3 .loop .inv .scan .small)
+add-i c = omega (arith, at-loop-from-slot-right (c .before) .loop .inv .scan .small)
 
 loop-less : tie.Need-loop-less Inv-loop μ-loop
 loop-less c = omega arith
 
 loop-again : tie.Need-loop-again Inv-loop μ-loop
 loop-again c =
-    let c2 = c .before .before in
-    walk-on (c2 .before .loop .inv) (c2 .loop-test .taken) (c .before .slot-right .result) (c .if1 .left)
-    (c .before .slot-right .ensures)
+    let after-slot-right = c .before in
+    walk-on (at-loop-from-slot-right after-slot-right .loop .inv) (after-slot-right .before .loop-test .taken) (after-slot-right .slot-right .result) (c .if1 .left)
+    (after-slot-right .slot-right .ensures)
 
 returns-2 : tie.Need-returns-2 Inv-loop μ-loop
 returns-2 c = c .before .loop .inv .each

@@ -12,6 +12,16 @@ use borrow.Author.Needs.{needs}
 use Rattle.check_own.proofs.slot_right.Statement.{statement}
 use Rattle.check_own.proofs.slot_right.Tie as tie
 
+-- `A-from-B` is the state A as the later state B has it.
+abbrev slot-of-from-else1 : tie.Else1 → tie.After-slot-of
+slot-of-from-else1 c = c .before .before
+
+abbrev start-from-slot-of : tie.After-slot-of → tie.Start
+start-from-slot-of c = c .before .before
+
+abbrev start-from-is-leaf : tie.After-is-leaf → tie.Start
+start-from-is-leaf c = start-from-slot-of (c .before .before .before)
+
 slot-of-requires : tie.Need-slot-of-requires
 slot-of-requires c κs = slot-within (c .before .pre .0)
 
@@ -20,57 +30,52 @@ all-zero-requires c κs = search needs
 
 returns : tie.Need-returns
 returns c =
-    let c2 = c .before .before in
-    let c3 = c2 .before in
-    let c4 = c3 .before in
-    free-own (c4 .pre .0) (all-of Byte (c4 .args .store .now) 0 (λ i _. omega (arith, c3 .shared-slice-known .given i)))
-    (c4 .pre .1) (ap allZero (sym (c2 .slot-of .ensures .0)) ∙ sym (c .before .all-zero .ensures) ∙ c .if1 .taken)
+    let after-all-zero = c .before in
+    let after-slot-of = after-all-zero .before in
+    let start = start-from-slot-of after-slot-of in
+    free-own (start .pre .0) (all-of Byte (start .args .store .now) 0 (λ i _. omega (arith, after-slot-of .before .shared-slice-known .given i)))
+    (start .pre .1) (ap allZero (sym (after-slot-of .slot-of .ensures .0)) ∙ sym (after-all-zero .all-zero .ensures) ∙ c .if1 .taken)
 
 is-leaf-requires : tie.Need-is-leaf-requires
 is-leaf-requires c κs = search needs
 
 leaf-right-requires : tie.Need-leaf-right-requires
 leaf-right-requires c κs =
-    let c4 = c .before .before .before .before in
-    let c6 = c4 .before .before in
-    (c6 .pre .0, (ap isLeaf (sym (c4 .slot-of .ensures .0)) ∙ sym (c .before .is-leaf .ensures) ∙ c .if2 .taken))
+    let after-is-leaf = c .before in
+    (start-from-is-leaf after-is-leaf .pre .0, (ap isLeaf (sym (slot-of-from-else1 (after-is-leaf .before) .slot-of .ensures .0)) ∙ sym (after-is-leaf .is-leaf .ensures) ∙ c .if2 .taken))
 
 returns-2 : tie.Need-returns-2
 returns-2 c =
-    let c2 = c .before .before in
-    let c3 = c2 .before in
-    let c4 = c3 .before in
-    let c5 = c4 .before in
-    let c6 = c5 .before in
-    let c7 = c6 .before in
+    let then2 = c .before in
+    let after-is-leaf = then2 .before in
+    let else1 = after-is-leaf .before in
+    let after-slot-of = slot-of-from-else1 else1 in
+    let start = start-from-slot-of after-slot-of in
     pass-map (c .leaf-right .result)
-    (leaf-own (c7 .pre .0) (all-of Byte (c7 .args .store .now) 0 (λ i _. omega (arith, c6 .shared-slice-known .given i)))
-    (c7 .pre .1) (ap allZero (sym (c5 .slot-of .ensures .0)) ∙ sym (c4 .all-zero .ensures) ∙ c3 .if1 .left)
-    (ap isLeaf (sym (c5 .slot-of .ensures .0)) ∙ sym (c2 .is-leaf .ensures) ∙ c .before .if2 .taken)) (c .leaf-right .ensures)
+    (leaf-own (start .pre .0) (all-of Byte (start .args .store .now) 0 (λ i _. omega (arith, after-slot-of .before .shared-slice-known .given i)))
+    (start .pre .1) (ap allZero (sym (after-slot-of .slot-of .ensures .0)) ∙ sym (else1 .before .all-zero .ensures) ∙ else1 .if1 .left)
+    (ap isLeaf (sym (after-slot-of .slot-of .ensures .0)) ∙ sym (after-is-leaf .is-leaf .ensures) ∙ then2 .if2 .taken)) (c .leaf-right .ensures)
 
 is-inner-requires : tie.Need-is-inner-requires
 is-inner-requires c κs = search needs
 
 head-right-requires : tie.Need-head-right-requires
-head-right-requires c κs =
-    let c8 = c .before .before .before .before .before .before .before .before in
-    c8 .pre .0
+head-right-requires c κs = start-from-is-leaf (c .before .before .before) .pre .0
 
 returns-3 : tie.Need-returns-3
 returns-3 c =
-    let c2 = c .before .before in
-    let c3 = c2 .before in
-    let c4 = c3 .before in
-    let c5 = c4 .before in
-    let c6 = c5 .before in
-    let c7 = c6 .before in
-    let c8 = c7 .before in
-    let c9 = c8 .before in
+    let then3 = c .before in
+    let after-is-inner = then3 .before in
+    let else2 = after-is-inner .before in
+    let after-is-leaf = else2 .before in
+    let else1 = after-is-leaf .before in
+    let after-slot-of = slot-of-from-else1 else1 in
+    let start = start-from-slot-of after-slot-of in
     pass-map (c .head-right .result)
-    (inner-own (c9 .pre .0) (all-of Byte (c9 .args .store .now) 0 (λ i _. omega (arith, c8 .shared-slice-known .given i)))
-    (c9 .pre .1) (ap allZero (sym (c7 .slot-of .ensures .0)) ∙ sym (c6 .all-zero .ensures) ∙ c5 .if1 .left)
-    (ap isLeaf (sym (c7 .slot-of .ensures .0)) ∙ sym (c4 .is-leaf .ensures) ∙ c3 .if2 .left)
-    (ap isInner (sym (c7 .slot-of .ensures .0)) ∙ sym (c2 .is-inner .ensures) ∙ c .before .if3 .taken)) (c .head-right .ensures)
+    (inner-own (start .pre .0) (all-of Byte (start .args .store .now) 0 (λ i _. omega (arith, after-slot-of .before .shared-slice-known .given i)))
+    (start .pre .1) (ap allZero (sym (after-slot-of .slot-of .ensures .0)) ∙ sym (else1 .before .all-zero .ensures) ∙ else1 .if1 .left)
+    (ap isLeaf (sym (after-slot-of .slot-of .ensures .0)) ∙ sym (after-is-leaf .is-leaf .ensures) ∙ else2 .if2 .left)
+    (ap isInner (sym (after-slot-of .slot-of .ensures .0)) ∙ sym (after-is-inner .is-inner .ensures) ∙ then3 .if3 .taken)) (c .head-right .ensures)
 
 returns-4 : tie.Need-returns-4
 returns-4 c = tt

@@ -8,10 +8,15 @@ use borrow.Author.Needs.{needs}
 use Rattle.check_parents.proofs.could_name.Statement.{statement}
 use Rattle.check_parents.proofs.could_name.Tie as tie
 
+-- `A-from-B` is the state A as the later state B has it.
+abbrev start-from-up : tie.After-up → tie.Start
+start-from-up c = c .before .before
+
+abbrev start-from-else1 : tie.Else1 → tie.Start
+start-from-else1 c = start-from-up (c .before .before .before)
+
 count-at-requires : tie.Need-count-at-requires
-count-at-requires c κs =
-    let c2 = c .before .before in
-    slot-within (c2 .pre)
+count-at-requires c κs = slot-within (start-from-up c .pre)
 
 cast-if1 : tie.Need-cast-if1
 cast-if1 c = search needs
@@ -23,9 +28,7 @@ returns c =
     sym (rw (ne-eqb _ _ (λ e. c .if1 .taken (c2 .count-at .ensures ∙ e))))
 
 child-version-at-requires : tie.Need-child-version-at-requires
-child-version-at-requires c κs =
-    let c5 = c .before .before .before .before .before in
-    slot-within (c5 .pre)
+child-version-at-requires c κs = slot-within (start-from-else1 c .pre)
 
 returns-2 : tie.Need-returns-2
 unfolding couldName
@@ -40,9 +43,7 @@ returns-2 c =
     ))
 
 slot-of-requires : tie.Need-slot-of-requires
-slot-of-requires c κs =
-    let c9 = c .before .before .before .before .before .before .before .before .before in
-    slot-within (c9 .pre)
+slot-of-requires c κs = slot-within (start-from-else1 (c .before .before .before .before) .pre)
 
 bits-of-requires : tie.Need-bits-of-requires
 bits-of-requires c κs = search needs
@@ -55,15 +56,13 @@ same-requires c κs = search needs
 
 returns-3 : tie.Need-returns-3
 returns-3 c =
-    let c2 = c .before .before in
-    let c3 = c2 .before in
-    let c5 = c3 .before .before in
-    let c7 = c5 .before .before in
-    let c8 = c7 .before in
-    let c10 = c8 .before .before in
-    let c13 = c10 .before .before .before in
-    could-be (c13 .args .below) _ (c3 .slot-of .ensures .0) (c2 .bits-of .ensures .0) (sym (c10 .count-at .ensures) ∙ c8 .if1 .left)
-    (sym (c7 .child-version-at .ensures) ∙ c5 .if2 .left) (c .same .ensures)
+    let after-bits-of = c .before .before in
+    let after-slot-of = after-bits-of .before in
+    let else2 = after-slot-of .before .before in
+    let after-child-version-at = else2 .before .before in
+    let else1 = after-child-version-at .before in
+    could-be (start-from-else1 else1 .args .below) _ (after-slot-of .slot-of .ensures .0) (after-bits-of .bits-of .ensures .0) (sym (else1 .before .before .count-at .ensures) ∙ else1 .if1 .left)
+    (sym (after-child-version-at .child-version-at .ensures) ∙ else2 .if2 .left) (c .same .ensures)
 
 pub could-name-spec : {M : Type 1} → statement M
 could-name-spec =

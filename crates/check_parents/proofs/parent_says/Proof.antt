@@ -14,17 +14,21 @@ use Rattle.check_parents.proofs.parent_says.Tie as tie
 could-name-requires : tie.Need-could-name-requires
 could-name-requires c κs = search needs
 
+-- `A-from-B` is the state A as the later state B has it.
+abbrev start-from-could-name : tie.After-could-name → tie.Start
+start-from-could-name c = c .before .before
+
 returns : tie.Need-returns
 returns c =
-    let a = c .before .before .before in (
+    let start = start-from-could-name (c .before) in (
       omega arith,
-      no-parent (a .pre .0) (all-of Byte (a .args .store .now) 0 (λ i _. omega (arith, c .before .before .shared-slice-known .given i)))
-          (a .args .below) (a .pre .2)
+      no-parent (start .pre .0) (all-of Byte (start .args .store .now) 0 (λ i _. omega (arith, c .before .before .shared-slice-known .given i)))
+          (start .args .below) (start .pre .2)
           (sym (c .before .could-name .ensures) ∙ not-true _ (c .if1 .taken)),
     )
 
 slot-of-requires : tie.Need-slot-of-requires
-slot-of-requires c κs = slot-within (c .before .before .before .pre .0)
+slot-of-requires c κs = slot-within (start-from-could-name (c .before) .pre .0)
 
 read-slot-requires : tie.Need-read-slot-requires
 read-slot-requires c κs = search needs
@@ -57,17 +61,20 @@ link-requires c κs = c .before .before .before .ends-before .ensures .1
 
 returns-3 : tie.Need-returns-3
 returns-3 c =
-    let e = c .before .before .before .before in
-    let k = e .before .before in
-    let r = k .before .before in
-    let f = r .before .before in
-    let d = f .before .before in
-    let a = d .before in (
+    let after-on-side2 = c .before in
+    let after-on-side = after-on-side2 .before .before in
+    let after-ends-before = after-on-side .before in
+    let after-kind = after-ends-before .before .before in
+    let after-read-slot = after-kind .before .before in
+    let after-slot-of = after-read-slot .before in
+    let else1 = after-slot-of .before in
+    let after-could-name = else1 .before in
+    let start = start-from-could-name after-could-name in (
       c .link .ensures .0,
-      parent-said (a .pre .0) (all-of Byte (a .args .store .now) 0 (λ i _. omega (arith, d .shared-slice-known .given i))) (a .args .below) (a .pre .2)
-          (r .read-slot .result) (subst (λ x. Read x (r .read-slot .result)) (r .before .slot-of .ensures .0) (r .read-slot .ensures))
-          (a .args .kept) (a .pre .1) (sym (f .before .could-name .ensures) ∙ not-false _ (f .if1 .left)) _ _ (k .kind .given .1)
-          (c .before .before .before .on-side .ensures) (c .before .on-side2 .ensures) (e .ends-before .result) (e .ends-before .ensures .0)
+      parent-said (start .pre .0) (all-of Byte (start .args .store .now) 0 (λ i _. omega (arith, after-could-name .before .shared-slice-known .given i))) (start .args .below) (start .pre .2)
+          (after-read-slot .read-slot .result) (subst (λ x. Read x (after-read-slot .read-slot .result)) (after-slot-of .slot-of .ensures .0) (after-read-slot .read-slot .ensures))
+          (start .args .kept) (start .pre .1) (sym (after-could-name .could-name .ensures) ∙ not-false _ (else1 .if1 .left)) _ _ (after-kind .kind .given .1)
+          (after-on-side .on-side .ensures) (after-on-side2 .on-side2 .ensures) (after-ends-before .ends-before .result) (after-ends-before .ends-before .ensures .0)
           (c .link .result) (c .link .ensures .1),
     )
 

@@ -16,6 +16,10 @@ Inv-loop form store kept n i₀ i = Passed form store (slotTest leafHash innerHa
 abbrev μ-loop : tie.MeasureT-loop
 μ-loop form store kept n i₀ i = n - i
 
+-- `A-from-B` is the state A as the later state B has it.
+abbrev at-loop-from-slot-passes : tie.After-slot-passes Inv-loop μ-loop → tie.At-loop Inv-loop μ-loop
+at-loop-from-slot-passes c = c .before .before
+
 slot-count-requires : tie.Need-slot-count-requires Inv-loop μ-loop
 slot-count-requires c κs = c .before .pre .size
 
@@ -32,21 +36,19 @@ slot-passes-requires c κs =
 returns : tie.Need-returns Inv-loop μ-loop
 unfolding slotsTest
 returns c =
-    let c2 = c .before .before in
-    pass-off (c2 .before .loop .inv) (c2 .loop-test .taken) (c .before .slot-passes .ensures) (not-true _ (c .if1 .taken))
+    let after-slot-passes = c .before in
+    pass-off (at-loop-from-slot-passes after-slot-passes .loop .inv) (after-slot-passes .before .loop-test .taken) (after-slot-passes .slot-passes .ensures) (not-true _ (c .if1 .taken))
 
 add-i : tie.Need-add-i Inv-loop μ-loop
-add-i c =
-    let c3 = c .before .before .before in
-    omega (arith, c3 .loop .inv .small)
+add-i c = omega (arith, at-loop-from-slot-passes (c .before) .loop .inv .small)
 
 loop-less : tie.Need-loop-less Inv-loop μ-loop
 loop-less c = omega arith
 
 loop-again : tie.Need-loop-again Inv-loop μ-loop
 loop-again c =
-    let c2 = c .before .before in
-    pass-next (c2 .before .loop .inv) (c2 .loop-test .taken) (c .before .slot-passes .ensures) (not-false _ (c .if1 .left))
+    let after-slot-passes = c .before in
+    pass-next (at-loop-from-slot-passes after-slot-passes .loop .inv) (after-slot-passes .before .loop-test .taken) (after-slot-passes .slot-passes .ensures) (not-false _ (c .if1 .left))
 
 returns-2 : tie.Need-returns-2 Inv-loop μ-loop
 unfolding slotsTest

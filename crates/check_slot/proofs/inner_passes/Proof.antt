@@ -11,10 +11,17 @@ use Rattle.check_slot.proofs.inner_passes.Tie as tie
 alone-right-requires : tie.Need-alone-right-requires
 alone-right-requires c κs = search needs
 
+-- `A-from-B` is the state A as the later state B has it.
+abbrev start-from-alone-right : tie.After-alone-right → tie.Start
+start-from-alone-right c = c .before .before
+
+abbrev start-from-else1 : tie.Else1 → tie.Start
+start-from-else1 c = start-from-alone-right (c .before)
+
 returns : tie.Need-returns
 returns c =
-    let c3 = c .before .before .before in
-    fails-alone _ (c3 .args .store .now) (c3 .args .head) (innerBody (childSays (c3 .args .left)) (childSays (c3 .args .right))) (tally (c3 .args .lefts) (c3 .args .rights))
+    let start = start-from-alone-right (c .before) in
+    fails-alone _ (start .args .store .now) (start .args .head) (innerBody (childSays (start .args .left)) (childSays (start .args .right))) (tally (start .args .lefts) (start .args .rights))
     (c .before .alone-right .ensures) (not-true _ (c .if1 .taken))
 
 children-found-requires : tie.Need-children-found-requires
@@ -22,29 +29,29 @@ children-found-requires c κs = search needs
 
 returns-2 : tie.Need-returns-2
 returns-2 c =
-    let c3 = c .before .before .before in
-    let c4 = c3 .before in
-    let c6 = c4 .before .before in
-    fails-body _ (c6 .args .store .now) (c6 .args .head) (innerBody (childSays (c6 .args .left)) (childSays (c6 .args .right))) (tally (c6 .args .lefts) (c6 .args .rights))
-    (c4 .alone-right .ensures) (not-false _ (c3 .if1 .left))
-    (inner-body (c6 .args .left) (c6 .args .right) _ (c6 .args .store .now) (c6 .args .head .place) ∙ sym
-    (c .before .children-found .ensures) ∙ not-true _ (c .if2 .taken))
+    let after-children-found = c .before in
+    let else1 = after-children-found .before .before in
+    let start = start-from-else1 else1 in
+    fails-body _ (start .args .store .now) (start .args .head) (innerBody (childSays (start .args .left)) (childSays (start .args .right))) (tally (start .args .lefts) (start .args .rights))
+    (else1 .before .alone-right .ensures) (not-false _ (else1 .if1 .left))
+    (inner-body (start .args .left) (start .args .right) _ (start .args .store .now) (start .args .head .place) ∙ sym
+    (after-children-found .children-found .ensures) ∙ not-true _ (c .if2 .taken))
 
 counts-right-requires : tie.Need-counts-right-requires
 counts-right-requires c κs = search needs
 
 returns-3 : tie.Need-returns-3
 returns-3 c =
-    let c2 = c .before .before in
-    let c3 = c2 .before in
-    let c5 = c3 .before .before in
-    let c6 = c5 .before in
-    let c8 = c6 .before .before in
-    fails-counts _ (c8 .args .store .now) (c8 .args .head) (innerBody (childSays (c8 .args .left)) (childSays (c8 .args .right))) (tally (c8 .args .lefts) (c8 .args .rights))
-    (c6 .alone-right .ensures) (not-false _ (c5 .if1 .left))
-    (inner-body (c8 .args .left) (c8 .args .right) _ (c8 .args .store .now) (c8 .args .head .place) ∙ sym
-    (c3 .children-found .ensures) ∙ not-false _ (c2 .if2 .left))
-    (inner-counted (c8 .args .left) (c8 .args .right) _ (c8 .args .store .now) (c8 .args .head) _ ∙ sym (c .before .counts-right .ensures) ∙ not-true _ (c .if3 .taken))
+    let after-counts-right = c .before in
+    let else2 = after-counts-right .before in
+    let after-children-found = else2 .before in
+    let else1 = after-children-found .before .before in
+    let start = start-from-else1 else1 in
+    fails-counts _ (start .args .store .now) (start .args .head) (innerBody (childSays (start .args .left)) (childSays (start .args .right))) (tally (start .args .lefts) (start .args .rights))
+    (else1 .before .alone-right .ensures) (not-false _ (else1 .if1 .left))
+    (inner-body (start .args .left) (start .args .right) _ (start .args .store .now) (start .args .head .place) ∙ sym
+    (after-children-found .children-found .ensures) ∙ not-false _ (else2 .if2 .left))
+    (inner-counted (start .args .left) (start .args .right) _ (start .args .store .now) (start .args .head) _ ∙ sym (after-counts-right .counts-right .ensures) ∙ not-true _ (c .if3 .taken))
 
 inner-hash-requires : tie.Need-inner-hash-requires
 inner-hash-requires c κs = search needs
@@ -54,20 +61,20 @@ above-right-requires c κs = search needs
 
 returns-4 : tie.Need-returns-4
 returns-4 c =
-    let c4 = c .before .before .before .before in
-    let k = c4 .before in
-    let c6 = k .before in
-    let c7 = c6 .before in
-    let c9 = c7 .before .before in
-    let c10 = c9 .before in
-    let c12 = c10 .before .before in
-    passes-counts _ (c12 .args .store .now) (c12 .args .head) (innerBody (childSays (c12 .args .left)) (childSays (c12 .args .right))) (tally (c12 .args .lefts) (c12 .args .rights))
-    (c10 .alone-right .ensures) (not-false _ (c9 .if1 .left))
-    (inner-body (c12 .args .left) (c12 .args .right) _ (c12 .args .store .now) (c12 .args .head .place) ∙ sym
-    (c7 .children-found .ensures) ∙ not-false _ (c6 .if2 .left))
-    (inner-counted (c12 .args .left) (c12 .args .right) _ (c12 .args .store .now) (c12 .args .head) _ ∙ sym (k .counts-right .ensures) ∙ not-false _ (c4 .if3 .left))
-    (c .above-right .ensures (innerBody (childSays (c12 .args .left)) (childSays (c12 .args .right))) (tally (c12 .args .lefts) (c12 .args .rights)) refl
-    (inner-hashed (c12 .args .left) (c12 .args .right) (c .before .inner-hash .result) (c .before .inner-hash .ensures)))
+    let after-inner-hash = c .before in
+    let else3 = after-inner-hash .before .before .before in
+    let after-counts-right = else3 .before in
+    let else2 = after-counts-right .before in
+    let after-children-found = else2 .before in
+    let else1 = after-children-found .before .before in
+    let start = start-from-else1 else1 in
+    passes-counts _ (start .args .store .now) (start .args .head) (innerBody (childSays (start .args .left)) (childSays (start .args .right))) (tally (start .args .lefts) (start .args .rights))
+    (else1 .before .alone-right .ensures) (not-false _ (else1 .if1 .left))
+    (inner-body (start .args .left) (start .args .right) _ (start .args .store .now) (start .args .head .place) ∙ sym
+    (after-children-found .children-found .ensures) ∙ not-false _ (else2 .if2 .left))
+    (inner-counted (start .args .left) (start .args .right) _ (start .args .store .now) (start .args .head) _ ∙ sym (after-counts-right .counts-right .ensures) ∙ not-false _ (else3 .if3 .left))
+    (c .above-right .ensures (innerBody (childSays (start .args .left)) (childSays (start .args .right))) (tally (start .args .lefts) (start .args .rights)) refl
+    (inner-hashed (start .args .left) (start .args .right) (after-inner-hash .inner-hash .result) (after-inner-hash .inner-hash .ensures)))
 
 pub inner-passes-spec : {M : Type 1} → statement M
 inner-passes-spec =

@@ -12,30 +12,35 @@ use Rattle.check_slot.proofs.leaf_passes.Tie as tie
 alone-right-requires : tie.Need-alone-right-requires
 alone-right-requires c κs = search needs
 
+-- `A-from-B` is the state A as the later state B has it.
+abbrev start-from-alone-right : tie.After-alone-right → tie.Start
+start-from-alone-right c = c .before .before .before
+
+abbrev start-from-else1 : tie.Else1 → tie.Start
+start-from-else1 c = start-from-alone-right (c .before)
+
 returns : tie.Need-returns
 returns c =
-    let c4 = c .before .before .before .before in
-    fails-alone _ (c4 .args .store .now) (c4 .args .head) (leafIn (c4 .args .s .now)) (countsIn (c4 .args .s .now)) (c .before .alone-right .ensures)
+    let start = start-from-alone-right (c .before) in
+    fails-alone _ (start .args .store .now) (start .args .head) (leafIn (start .args .s .now)) (countsIn (start .args .s .now)) (c .before .alone-right .ensures)
     (not-true _ (c .if1 .taken))
 
 key-of-requires : tie.Need-key-of-requires
 key-of-requires c κs = search needs
 
 begins-requires : tie.Need-begins-requires
-begins-requires c κs =
-    let c6 = c .before .before .before .before .before .before in
-    (c .key-of .ensures .1, c6 .pre .0 .proper)
+begins-requires c κs = (c .key-of .ensures .1, start-from-else1 (c .before .before) .pre .0 .proper)
 
 returns-2 : tie.Need-returns-2
 returns-2 c =
-    let c2 = c .before .before in
-    let c4 = c2 .before .before in
-    let c5 = c4 .before in
-    let c8 = c5 .before .before .before in
-    fails-body _ (c8 .args .store .now) (c8 .args .head) (leafIn (c8 .args .s .now)) (countsIn (c8 .args .s .now)) (c5 .alone-right .ensures)
-    (not-false _ (c4 .if1 .left))
-    (leaf-body (c8 .args .s .now) (storeIn (c8 .args .form) (c8 .args .store .now)) (placeOf (c8 .args .head .place)) (c2 .key-of .ensures .0)
-    (c .before .begins .ensures) ∙ not-true _ (c .if2 .taken))
+    let after-begins = c .before in
+    let after-key-of = after-begins .before in
+    let else1 = after-key-of .before .before in
+    let start = start-from-else1 else1 in
+    fails-body _ (start .args .store .now) (start .args .head) (leafIn (start .args .s .now)) (countsIn (start .args .s .now)) (else1 .before .alone-right .ensures)
+    (not-false _ (else1 .if1 .left))
+    (leaf-body (start .args .s .now) (storeIn (start .args .form) (start .args .store .now)) (placeOf (start .args .head .place)) (after-key-of .key-of .ensures .0)
+    (after-begins .begins .ensures) ∙ not-true _ (c .if2 .taken))
 
 grant-of-requires : tie.Need-grant-of-requires
 grant-of-requires c κs = search needs
@@ -48,20 +53,20 @@ above-right-requires c κs = search needs
 
 returns-3 : tie.Need-returns-3
 returns-3 c =
-    let c2 = c .before .before in
-    let c3 = c2 .before in
-    let c4 = c3 .before in
-    let c5 = c4 .before in
-    let c7 = c5 .before .before in
-    let c8 = c7 .before in
-    let c11 = c8 .before .before .before in
-    passes-counts _ (c11 .args .store .now) (c11 .args .head) (leafIn (c11 .args .s .now)) (countsIn (c11 .args .s .now)) (c8 .alone-right .ensures)
-    (not-false _ (c7 .if1 .left))
-    (leaf-body (c11 .args .s .now) (storeIn (c11 .args .form) (c11 .args .store .now)) (placeOf (c11 .args .head .place)) (c5 .key-of .ensures .0)
-    (c4 .begins .ensures) ∙ not-false _ (c3 .if2 .left))
-    (leaf-counted (storeIn (c11 .args .form) (c11 .args .store .now)) (c11 .args .head) (c11 .args .s .now) (countsIn (c11 .args .s .now)) (c11 .pre .2))
-    (c .above-right .ensures (leafIn (c11 .args .s .now)) (countsIn (c11 .args .s .now)) (leaf-kind (c11 .args .s .now))
-    (leaf-hashed (c11 .args .s .now) (c2 .grant-of .ensures .0) (c .before .leaf-hash .result) (c .before .leaf-hash .ensures)))
+    let after-leaf-hash = c .before in
+    let after-grant-of = after-leaf-hash .before in
+    let else2 = after-grant-of .before in
+    let after-begins = else2 .before in
+    let after-key-of = after-begins .before in
+    let else1 = after-key-of .before .before in
+    let start = start-from-else1 else1 in
+    passes-counts _ (start .args .store .now) (start .args .head) (leafIn (start .args .s .now)) (countsIn (start .args .s .now)) (else1 .before .alone-right .ensures)
+    (not-false _ (else1 .if1 .left))
+    (leaf-body (start .args .s .now) (storeIn (start .args .form) (start .args .store .now)) (placeOf (start .args .head .place)) (after-key-of .key-of .ensures .0)
+    (after-begins .begins .ensures) ∙ not-false _ (else2 .if2 .left))
+    (leaf-counted (storeIn (start .args .form) (start .args .store .now)) (start .args .head) (start .args .s .now) (countsIn (start .args .s .now)) (start .pre .2))
+    (c .above-right .ensures (leafIn (start .args .s .now)) (countsIn (start .args .s .now)) (leaf-kind (start .args .s .now))
+    (leaf-hashed (start .args .s .now) (after-grant-of .grant-of .ensures .0) (after-leaf-hash .leaf-hash .result) (after-leaf-hash .leaf-hash .ensures)))
 
 pub leaf-passes-spec : {M : Type 1} → statement M
 leaf-passes-spec =

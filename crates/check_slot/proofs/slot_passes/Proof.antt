@@ -11,6 +11,16 @@ use Rattle.check_slot.proofs.Passing.{leaf-head, leaf-bare, inner-head,
 use Rattle.check_slot.proofs.slot_passes.Statement.{statement}
 use Rattle.check_slot.proofs.slot_passes.Tie as tie
 
+-- `A-from-B` is the state A as the later state B has it.
+abbrev start-from-slot-of : tie.After-slot-of → tie.Start
+start-from-slot-of c = c .before .before
+
+abbrev start-from-read-slot : tie.After-read-slot → tie.Start
+start-from-read-slot c = start-from-slot-of (c .before)
+
+abbrev start-from-known-told : tie.After-known-told → tie.Start
+start-from-known-told c = start-from-read-slot (c .before .before .before .before)
+
 slot-of-requires : tie.Need-slot-of-requires
 slot-of-requires c κs = slot-within (c .before .pre .0)
 
@@ -42,24 +52,23 @@ enum-known-kind : tie.Need-enum-known-kind
 enum-known-kind c = search needs
 
 child-count-at-requires : tie.Need-child-count-at-requires
-child-count-at-requires c κs = slot-within (c .before .before .before .before .before .before .before .pre .0)
+child-count-at-requires c κs = slot-within (start-from-known-told c .pre .0)
 
 child-count-at-requires-2 : tie.Need-child-count-at-requires-2
-child-count-at-requires-2 c κs = slot-within (c .before .before .before .before .before .before .before .before .pre .0)
+child-count-at-requires-2 c κs = slot-within (start-from-known-told (c .before) .pre .0)
 
 inner-passes-requires : tie.Need-inner-passes-requires
 inner-passes-requires c κs =
-    let told = c .before .before in
-    let c4 = told .before .before .before .before in
-    let c5 = c4 .before in
-    let c6 = c5 .before in
-    let c7 = c6 .before in (
-      inner-head (c7 .pre .0) (c5 .slot-of .ensures .0) (c4 .read-slot .ensures)
-          (all-of Byte (c7 .args .store .now) 0 (λ i _. omega (arith, c6 .shared-slice-known .given i))) (c7 .pre .1) _ _
-          (told .before .kind .given .1),
-      inner-short (c7 .pre .0) (c5 .slot-of .ensures .0) (c4 .read-slot .ensures)
-          (all-of Byte (c7 .args .store .now) 0 (λ i _. omega (arith, c6 .shared-slice-known .given i))) (c7 .pre .1) _ _
-          (told .before .kind .given .1),
+    let after-kind = c .before .before .before in
+    let after-read-slot = after-kind .before .before .before in
+    let after-slot-of = after-read-slot .before in
+    let start = start-from-slot-of after-slot-of in (
+      inner-head (start .pre .0) (after-slot-of .slot-of .ensures .0) (after-read-slot .read-slot .ensures)
+          (all-of Byte (start .args .store .now) 0 (λ i _. omega (arith, after-slot-of .before .shared-slice-known .given i))) (start .pre .1) _ _
+          (after-kind .kind .given .1),
+      inner-short (start .pre .0) (after-slot-of .slot-of .ensures .0) (after-read-slot .read-slot .ensures)
+          (all-of Byte (start .args .store .now) 0 (λ i _. omega (arith, after-slot-of .before .shared-slice-known .given i))) (start .pre .1) _ _
+          (after-kind .kind .given .1),
     )
 
 enum-told-3 : tie.Need-enum-told-3
@@ -67,36 +76,30 @@ enum-told-3 c = search needs
 
 returns : tie.Need-returns
 returns c =
-    let c3 = c .before .before .before in
-    let c4 = c3 .before in
-    let c6 = c4 .before .before in
-    free-slot (c6 .pre .0) (c4 .slot-of .ensures .0) (c3 .read-slot .ensures) (c .enum-told .given .1)
+    let after-read-slot = c .before .before .before in
+    free-slot (start-from-read-slot after-read-slot .pre .0) (after-read-slot .before .slot-of .ensures .0) (after-read-slot .read-slot .ensures) (c .enum-told .given .1)
 
 returns-2 : tie.Need-returns-2
 returns-2 c =
-    let c4 = c .before .before .before .before in
-    let c5 = c4 .before in
-    let c7 = c5 .before .before in
-    leaf-slot (c7 .pre .0) (c5 .slot-of .ensures .0) (c4 .read-slot .ensures) (c .before .enum-told2 .given .1)
+    let after-enum-told2 = c .before in
+    let after-read-slot = after-enum-told2 .before .before .before in
+    leaf-slot (start-from-read-slot after-read-slot .pre .0) (after-read-slot .before .slot-of .ensures .0) (after-read-slot .read-slot .ensures) (after-enum-told2 .enum-told2 .given .1)
     (c .leaf-passes .ensures)
 
 returns-3 : tie.Need-returns-3
 returns-3 c =
-    let rights = c .before in
-    let lefts = rights .before in
-    let c2 = lefts .before .before in
-    let c5 = c2 .before .before .before in
-    let c6 = c5 .before in
-    let c8 = c6 .before .before in
-    inner-slot (c8 .pre .0) (c6 .slot-of .ensures .0) (c5 .read-slot .ensures) _ _ (c2 .kind .given .1) _
-    (ap₂ tally (lefts .child-count-at .ensures) (rights .child-count-at2 .ensures) ∙ ap countsIn (sym (c6 .slot-of .ensures .0))) (c .inner-passes .ensures)
+    let after-child-count-at2 = c .before in
+    let after-child-count-at = after-child-count-at2 .before in
+    let after-kind = after-child-count-at .before .before in
+    let after-read-slot = after-kind .before .before .before in
+    let after-slot-of = after-read-slot .before in
+    inner-slot (start-from-slot-of after-slot-of .pre .0) (after-slot-of .slot-of .ensures .0) (after-read-slot .read-slot .ensures) _ _ (after-kind .kind .given .1) _
+    (ap₂ tally (after-child-count-at .child-count-at .ensures) (after-child-count-at2 .child-count-at2 .ensures) ∙ ap countsIn (sym (after-slot-of .slot-of .ensures .0))) (c .inner-passes .ensures)
 
 returns-4 : tie.Need-returns-4
 returns-4 c =
-    let c3 = c .before .before .before in
-    let c4 = c3 .before in
-    let c6 = c4 .before .before in
-    spoiled-slot (c6 .pre .0) (c4 .slot-of .ensures .0) (c3 .read-slot .ensures) (c .enum-told3 .given .1)
+    let after-read-slot = c .before .before .before in
+    spoiled-slot (start-from-read-slot after-read-slot .pre .0) (after-read-slot .before .slot-of .ensures .0) (after-read-slot .read-slot .ensures) (c .enum-told3 .given .1)
 
 pub slot-passes-spec : {M : Type 1} → statement M
 slot-passes-spec =

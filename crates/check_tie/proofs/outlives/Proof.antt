@@ -6,6 +6,10 @@ use borrow.Author.Needs.{needs}
 use Rattle.check_tie.proofs.outlives.Statement.{statement}
 use Rattle.check_tie.proofs.outlives.Tie as tie
 
+-- `A-from-B` is the state A as the later state B has it.
+abbrev start-from-ends-before : tie.After-ends-before → tie.Start
+start-from-ends-before c = c .before .before .before
+
 retired-at-requires : tie.Need-retired-at-requires
 retired-at-requires c κs = slot-within (c .before .pre .0)
 
@@ -17,24 +21,21 @@ returns c = tt
 
 returns-2 : tie.Need-returns-2
 returns-2 c =
-    let c2 = c .before .before in
-    let c3 = c2 .before in
-    let c5 = c3 .before .before in
-    some-other (c5 .pre .0) (c5 .pre .1) (c3 .retired-at .ensures) (c2 .ends-before .ensures .0) (c .before .if1 .left)
-    (c5 .args .other) (c .if2 .taken)
+    let else1 = c .before in
+    let after-ends-before = else1 .before in
+    let start = start-from-ends-before after-ends-before in
+    some-other (start .pre .0) (start .pre .1) (after-ends-before .before .retired-at .ensures) (after-ends-before .ends-before .ensures .0) (else1 .if1 .left)
+    (start .args .other) (c .if2 .taken)
 
 kind-at-requires : tie.Need-kind-at-requires
-kind-at-requires c κs =
-    let c5 = c .before .before .before .before .before in
-    slot-within (c5 .pre .0)
+kind-at-requires c κs = slot-within (start-from-ends-before (c .before .before) .pre .0)
 
 returns-3 : tie.Need-returns-3
 returns-3 c =
-    let c2 = c .before .before in
-    let c3 = c2 .before in
-    let c4 = c3 .before in
-    let c6 = c4 .before .before in
-    by-kind (c6 .pre .0) (c6 .pre .1) (c4 .retired-at .ensures) (c3 .ends-before .ensures .0) (c2 .if1 .left) (c6 .args .other)
+    let else1 = c .before .before in
+    let after-ends-before = else1 .before in
+    let start = start-from-ends-before after-ends-before in
+    by-kind (start .pre .0) (start .pre .1) (after-ends-before .before .retired-at .ensures) (after-ends-before .ends-before .ensures .0) (else1 .if1 .left) (start .args .other)
     (c .kind-at .ensures) _ refl
 
 pub outlives-spec : {M : Type 1} → statement M

@@ -15,6 +15,12 @@ start-from-count-at c = c .before .before .before .before
 abbrev start-from-version-at : tie.After-version-at → tie.Start
 start-from-version-at c = start-from-count-at (c .before .before)
 
+abbrev start-from-bits-of : tie.After-bits-of → tie.Start
+start-from-bits-of c = c .before .before .before
+
+abbrev start-from-place-at : tie.After-place-at → tie.Start
+start-from-place-at c = start-from-bits-of (c .before .before)
+
 slot-of-requires : tie.Need-slot-of-requires
 slot-of-requires c κs = slot-within (c .before .pre .0)
 
@@ -22,22 +28,20 @@ bits-of-requires : tie.Need-bits-of-requires
 bits-of-requires c κs = search needs
 
 count-at-requires : tie.Need-count-at-requires
-count-at-requires c κs =
-    let c3 = c .before .before .before in
-    slot-within (c3 .pre .0)
+count-at-requires c κs = slot-within (start-from-bits-of c .pre .0)
 
 cast-place-at : tie.Need-cast-place-at
 cast-place-at c = search needs
 
 place-at-requires : tie.Need-place-at-requires
 place-at-requires c κs =
-    let c2 = c .before .before in
-    let c4 = c2 .before .before in
-    inner-place (slotIn (c4 .args .form) (c4 .args .j) (c4 .args .store .now)) (c4 .pre .1) (c .count-at .ensures)
-    (c .before .bits-of .ensures .0 ∙ ap bitsIn (c2 .slot-of .ensures .0)) (c .before .bits-of .ensures .1)
+    let after-bits-of = c .before in
+    let start = start-from-bits-of after-bits-of in
+    inner-place (slotIn (start .args .form) (start .args .j) (start .args .store .now)) (start .pre .1) (c .count-at .ensures)
+    (after-bits-of .bits-of .ensures .0 ∙ ap bitsIn (after-bits-of .before .slot-of .ensures .0)) (after-bits-of .bits-of .ensures .1)
 
 version-at-requires : tie.Need-version-at-requires
-version-at-requires c κs = slot-within (start-from-count-at (c .before) .pre .0)
+version-at-requires c κs = slot-within (start-from-place-at c .pre .0)
 
 retired-at-requires : tie.Need-retired-at-requires
 retired-at-requires c κs = slot-within (start-from-version-at c .pre .0)
@@ -53,17 +57,17 @@ kept-life-requires c κs = search needs
 
 returns : tie.Need-returns
 returns c =
-    let c2 = c .before .before in
-    let c3 = c2 .before in
-    let c4 = c3 .before in
-    let c5 = c4 .before in
-    let c6 = c5 .before in
-    let c7 = c6 .before in
-    let c8 = c7 .before in
-    let c10 = c8 .before .before in
-    parent-is (c10 .args .kept) (slotIn (c10 .args .form) (c10 .args .j) (c10 .args .store .now)) (c10 .pre .1) (c6 .count-at .ensures)
-    (c7 .bits-of .ensures .0 ∙ ap bitsIn (c8 .slot-of .ensures .0)) (c5 .place-at .ensures) (c4 .version-at .ensures)
-    (c3 .retired-at .ensures) (c2 .ends-before .ensures .0) (c2 .ends-before .ensures .1) (c .before .later .ensures)
+    let after-later = c .before in
+    let after-ends-before = after-later .before in
+    let after-retired-at = after-ends-before .before in
+    let after-version-at = after-retired-at .before in
+    let after-place-at = after-version-at .before in
+    let after-count-at = after-place-at .before in
+    let after-bits-of = after-count-at .before in
+    let start = start-from-bits-of after-bits-of in
+    parent-is (start .args .kept) (slotIn (start .args .form) (start .args .j) (start .args .store .now)) (start .pre .1) (after-count-at .count-at .ensures)
+    (after-bits-of .bits-of .ensures .0 ∙ ap bitsIn (after-bits-of .before .slot-of .ensures .0)) (after-place-at .place-at .ensures) (after-version-at .version-at .ensures)
+    (after-retired-at .retired-at .ensures) (after-ends-before .ends-before .ensures .0) (after-ends-before .ends-before .ensures .1) (after-later .later .ensures)
     (c .kept-life .ensures)
 
 pub parent-in-spec : {M : Type 1} → statement M

@@ -15,11 +15,23 @@ abbrev μ-loop : tie.MeasureT-loop
 μ-loop form store kept guess known₀ sums₀ n j₀ known sums j = n - j
 
 -- `A-from-B` is the state A as the later state B has it.
-abbrev at-loop-from-tie-slot : tie.After-tie-slot Inv-loop μ-loop → tie.At-loop Inv-loop μ-loop
-at-loop-from-tie-slot c = c .before .before .before .before .before .before .before .before
-
 abbrev in-loop-from-tie-slot : tie.After-tie-slot Inv-loop μ-loop → tie.In-loop Inv-loop μ-loop
 in-loop-from-tie-slot c = c .before .before .before .before .before .before .before
+
+abbrev at-loop-from-wide : tie.After-wide Inv-loop μ-loop → tie.At-loop Inv-loop μ-loop
+at-loop-from-wide c = c .before .before .before
+
+abbrev at-loop-from-tie-slot-arg2 : tie.After-tie-slot-arg2 Inv-loop μ-loop → tie.At-loop Inv-loop μ-loop
+at-loop-from-tie-slot-arg2 c = at-loop-from-wide (c .before .before .before .before)
+
+abbrev in-loop-from-wide-arg : tie.After-wide-arg Inv-loop μ-loop → tie.In-loop Inv-loop μ-loop
+in-loop-from-wide-arg c = c .before
+
+abbrev in-loop-from-tie-slot-arg2 : tie.After-tie-slot-arg2 Inv-loop μ-loop → tie.In-loop Inv-loop μ-loop
+in-loop-from-tie-slot-arg2 c = in-loop-from-wide-arg (c .before .before .before .before .before)
+
+abbrev at-loop-from-tie-slot : tie.After-tie-slot Inv-loop μ-loop → tie.At-loop Inv-loop μ-loop
+at-loop-from-tie-slot c = at-loop-from-tie-slot-arg2 (c .before)
 
 slot-count-requires : tie.Need-slot-count-requires Inv-loop μ-loop
 slot-count-requires c κs = c .before .pre .0 .keeps .size
@@ -43,49 +55,33 @@ wide-requires : tie.Need-wide-requires Inv-loop μ-loop
 wide-requires c κs = search needs
 
 mul-wide-3 : tie.Need-mul-wide-3 Inv-loop μ-loop
-mul-wide-3 c =
-    let c3 = c .before .before .before in
-    omega (arith, c3 .loop .inv .walk .scan .small)
+mul-wide-3 c = omega (arith, at-loop-from-wide c .loop .inv .walk .scan .small)
 
 add-wide : tie.Need-add-wide Inv-loop μ-loop
-add-wide c =
-    let c3 = c .before .before .before in
-    omega (arith, c3 .loop .inv .walk .scan .small)
+add-wide c = omega (arith, at-loop-from-wide c .loop .inv .walk .scan .small)
 
 mul-wide-4 : tie.Need-mul-wide-4 Inv-loop μ-loop
-mul-wide-4 c =
-    let c3 = c .before .before .before in
-    omega (arith, c3 .loop .inv .walk .scan .small)
+mul-wide-4 c = omega (arith, at-loop-from-wide c .loop .inv .walk .scan .small)
 
 element-copy-out-wide-2 : tie.Need-element-copy-out-wide-2 Inv-loop μ-loop
-element-copy-out-wide-2 c =
-    let c3 = c .before .before .before in
-    omega (arith, c3 .loop .inv .walk .scan .small)
+element-copy-out-wide-2 c = omega (arith, at-loop-from-wide c .loop .inv .walk .scan .small)
 
 wide-requires-2 : tie.Need-wide-requires-2 Inv-loop μ-loop
 wide-requires-2 c κs = search needs
 
 tie-slot-requires : tie.Need-tie-slot-requires Inv-loop μ-loop
 tie-slot-requires c κs =
-    let c6 = c .before .before .before .before .before .before in
-    let c7 = c6 .before in
-    let c10 = c7 .before .before .before in
-    (walk-slot (c7 .loop .inv .walk) (c6 .loop-test .taken), c10 .pre .0, c7 .loop .inv .known)
+    let at-loop = at-loop-from-tie-slot-arg2 c in
+    (walk-slot (at-loop .loop .inv .walk) (in-loop-from-tie-slot-arg2 c .loop-test .taken), at-loop .before .before .before .pre .0, at-loop .loop .inv .known)
 
 returns : tie.Need-returns Inv-loop μ-loop
-returns c =
-    let c8 = c .before .before .before .before .before .before .before .before in
-    go-off (c8 .before .loop .inv) (c8 .loop-test .taken) _
+returns c = go-off (at-loop-from-tie-slot (c .before) .loop .inv) (in-loop-from-tie-slot-arg2 (c .before .before) .loop-test .taken) _
 
 add-j : tie.Need-add-j Inv-loop μ-loop
-add-j c =
-    let c9 = c .before .before .before .before .before .before .before .before .before in
-    omega (arith, c9 .loop .inv .walk .scan .small)
+add-j c = omega (arith, at-loop-from-tie-slot (c .before) .loop .inv .walk .scan .small)
 
 loop-less : tie.Need-loop-less Inv-loop μ-loop
-loop-less c =
-    let c9 = c .before .before .before .before .before .before .before .before .before in
-    omega (arith, c9 .loop .inv .walk .scan .small)
+loop-less c = omega (arith, at-loop-from-tie-slot (c .before) .loop .inv .walk .scan .small)
 
 loop-again : tie.Need-loop-again Inv-loop μ-loop
 loop-again c =

@@ -15,8 +15,11 @@ start-from-else1 c = c .before .before
 abbrev start-from-else2 : tie.Else2 → tie.Start
 start-from-else2 c = start-from-else1 (c .before .before)
 
-abbrev start-from-else3 : tie.Else3 → tie.Start
-start-from-else3 c = start-from-else1 (c .before .before .before .before)
+abbrev start-from-up : tie.After-up → tie.Start
+start-from-up c = start-from-else2 (c .before .before .before)
+
+abbrev start-from-is-node : tie.After-is-node → tie.Start
+start-from-is-node c = start-from-up (c .before .before)
 
 returns : tie.Need-returns
 returns c =
@@ -25,24 +28,18 @@ returns c =
     (c2 .pre .3, side-missing _ (a .store .now) (a .parent) (a .link) (a .sums .now) (c .before .if1 .taken) _ refl)
 
 slot-count-requires : tie.Need-slot-count-requires
-slot-count-requires c κs =
-    let c2 = c .before .before in
-    c2 .pre .0 .keeps .size
+slot-count-requires c κs = start-from-else1 c .pre .0 .keeps .size
 
 returns-2 : tie.Need-returns-2
-returns-2 c =
-    let c4 = c .before .before .before .before in
-    (c4 .pre .3, tt)
+returns-2 c = (start-from-else1 (c .before .before) .pre .3, tt)
 
 returns-3 : tie.Need-returns-3
-returns-3 c =
-    let c6 = c .before .before .before .before .before .before in
-    (c6 .pre .3, tt)
+returns-3 c = (start-from-else2 (c .before .before) .pre .3, tt)
 
 child-place-requires : tie.Need-child-place-requires
 child-place-requires c κs =
-    let c7 = c .before .before .before .before .before .before .before in
-    (c7 .pre .1 .proper, c7 .pre .1 .short)
+    let start = start-from-up c in
+    (start .pre .1 .proper, start .pre .1 .short)
 
 is-node-requires : tie.Need-is-node-requires
 is-node-requires c κs =
@@ -55,13 +52,12 @@ is-node-requires c κs =
     (h, c8 .pre .0 .own (c8 .args .c) (h .inside), omega (arith, c6 .if1 .left), c .child-place .ensures .proper)
 
 returns-4 : tie.Need-returns-4
-returns-4 c =
-    let c10 = c .before .before .before .before .before .before .before .before .before .before in
-    (c10 .pre .3, tt)
+returns-4 c = (start-from-is-node (c .before) .pre .3, tt)
 
 outlives-requires : tie.Need-outlives-requires
 outlives-requires c κs =
-    let else2 = c .before .before .before .before .before .before in
+    let else3 = c .before .before .before .before in
+    let else2 = else3 .before .before in
     let start = start-from-else2 else2 in (
       (room-has {fm = start .args .form} {s = start .args .store .now} {i = start .args .c}
           (record { size = start .pre .0 .keeps .size; many = else2 .before .slot-count .ensures }) (omega (arith, else2 .if2 .left))),
@@ -69,13 +65,12 @@ outlives-requires c κs =
     )
 
 returns-5 : tie.Need-returns-5
-returns-5 c =
-    let c12 = c .before .before .before .before .before .before .before .before .before .before .before .before in
-    (c12 .pre .3, tt)
+returns-5 c = (start-from-is-node (c .before .before .before) .pre .3, tt)
 
 hash-right-requires : tie.Need-hash-right-requires
 hash-right-requires c κs =
-    let else2 = c .before .before .before .before .before .before .before .before .before in
+    let after-child-place = c .before .before .before .before .before in
+    let else2 = after-child-place .before .before .before .before in
     let start = start-from-else2 else2 in (
       (room-has {fm = start .args .form} {s = start .args .store .now} {i = start .args .c}
           (record { size = start .pre .0 .keeps .size; many = else2 .before .slot-count .ensures }) (omega (arith, else2 .if2 .left))),
@@ -88,7 +83,9 @@ returns-6 c = (c .before .hash-right .ensures .0, tt)
 
 count-fits-requires : tie.Need-count-fits-requires
 count-fits-requires c κs =
-    let else2 = c .before .before .before .before .before .before .before .before .before .before .before in
+    let else4 = c .before .before .before .before .before in
+    let else3 = else4 .before .before .before .before in
+    let else2 = else3 .before .before in
     let start = start-from-else2 else2 in
     room-has {fm = start .args .form} {s = start .args .store .now} {i = start .args .c}
     (record { size = start .pre .0 .keeps .size; many = else2 .before .slot-count .ensures }) (omega (arith, else2 .if2 .left))
@@ -98,7 +95,9 @@ returns-7 c = (c .before .before .before .hash-right .ensures .0, tt)
 
 add-requires : tie.Need-add-requires
 add-requires c κs =
-    let else2 = c .before .before .before .before .before .before .before .before .before .before .before .before .before .before in
+    let after-hash-right-arg = c .before .before .before .before .before in
+    let after-child-place = after-hash-right-arg .before .before .before .before .before in
+    let else2 = after-child-place .before .before .before .before in
     let start = start-from-else2 else2 in (
       slot-small (room-has {fm = start .args .form} {s = start .args .store .now} {i = start .args .c}
           (record { size = start .pre .0 .keeps .size; many = else2 .before .slot-count .ensures }) (omega (arith, else2 .if2 .left))),
@@ -117,14 +116,15 @@ returns-8 c =
     let after-is-node = else4 .before in
     let after-child-place = after-is-node .before in
     let else3 = after-child-place .before .before in
-    let a = start-from-else3 else3 .args in (
+    let else1 = else3 .before .before .before .before in
+    let a = start-from-else1 else1 .args in (
       after-hash-right .hash-right .ensures .0,
       side-found (a .form) (a .store .now) (a .parent) (a .link) (a .c) (a .sums .now) (c .add .last .0) refl
           (else3 .if3 .left) (after-child-place .child-place .ensures .place)
           (passed-so (after-is-node .is-node .result) (else4 .if4 .left) (after-is-node .is-node .ensures))
           (passed-so (after-outlives .outlives .result) (else5 .if5 .left) (after-outlives .outlives .ensures))
           (passed-so (after-hash-right .hash-right .result) (else6 .if6 .left) (after-hash-right .hash-right .ensures .1))
-          (else3 .before .before .before .before .if1 .left) (after-count-fits .count-fits .ensures (not-false _ (else7 .if7 .left))) (c .add .ensures),
+          (else1 .if1 .left) (after-count-fits .count-fits .ensures (not-false _ (else7 .if7 .left))) (c .add .ensures),
     )
 
 pub tie-link-spec : {M : Type 1} → statement M

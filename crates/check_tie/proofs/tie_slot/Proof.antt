@@ -15,11 +15,17 @@ use Rattle.check_tie.proofs.tie_slot.Statement.{statement}
 use Rattle.check_tie.proofs.tie_slot.Tie as tie
 
 -- `A-from-B` is the state A as the later state B has it.
-abbrev start-from-slot-of : tie.After-slot-of → tie.Start
-start-from-slot-of c = c .before .before .before .before
+abbrev hash-at-from-tie-link-arg2 : tie.After-tie-link-arg2 → tie.After-hash-at
+hash-at-from-tie-link-arg2 c = c .before .before
+
+abbrev hash-at2-from-tie-link-arg4 : tie.After-tie-link-arg4 → tie.After-hash-at2
+hash-at2-from-tie-link-arg4 c = c .before .before
+
+abbrev start-from-kind-at : tie.After-kind-at → tie.Start
+start-from-kind-at c = c .before .before
 
 abbrev start-from-parent-in : tie.After-parent-in → tie.Start
-start-from-parent-in c = start-from-slot-of (c .before)
+start-from-parent-in c = start-from-kind-at (c .before .before .before)
 
 abbrev start-from-child-version-at : tie.After-child-version-at → tie.Start
 start-from-child-version-at c = start-from-parent-in (c .before)
@@ -28,7 +34,7 @@ abbrev start-from-child-version-at2 : tie.After-child-version-at2 → tie.Start
 start-from-child-version-at2 c = start-from-child-version-at (c .before)
 
 abbrev start-from-child-count-at : tie.After-child-count-at → tie.Start
-start-from-child-count-at c = start-from-child-version-at2 (c .before)
+start-from-child-count-at c = start-from-child-version-at (c .before .before)
 
 abbrev start-from-child-count-at2 : tie.After-child-count-at2 → tie.Start
 start-from-child-count-at2 c = start-from-child-count-at (c .before)
@@ -50,19 +56,17 @@ returns c =
     )
 
 slot-of-requires : tie.Need-slot-of-requires
-slot-of-requires c κs =
-    let c3 = c .before .before .before in
-    slot-within (c3 .pre .0)
+slot-of-requires c κs = slot-within (start-from-kind-at (c .before) .pre .0)
 
 parent-in-requires : tie.Need-parent-in-requires
 parent-in-requires c κs =
-    let c2 = c .before .before in
-    let c3 = c2 .before in
-    let c4 = c3 .before in (
-      c4 .pre .0,
-      inner-here (c4 .pre .0)
-          (all-of Byte (c4 .args .store .now) 0 (λ i _. omega (arith, c3 .shared-slice-known .given i)))
-          (c4 .pre .1 .own (c4 .args .j) (c4 .pre .0 .inside)) (c2 .kind-at .ensures) (c .before .if1 .left),
+    let else1 = c .before in
+    let after-kind-at = else1 .before in
+    let start = start-from-kind-at after-kind-at in (
+      start .pre .0,
+      inner-here (start .pre .0)
+          (all-of Byte (start .args .store .now) 0 (λ i _. omega (arith, after-kind-at .before .shared-slice-known .given i)))
+          (start .pre .1 .own (start .args .j) (start .pre .0 .inside)) (after-kind-at .kind-at .ensures) (else1 .if1 .left),
     )
 
 child-version-at-requires : tie.Need-child-version-at-requires
@@ -103,7 +107,7 @@ hash-at-requires c κs = omega (arith, c .child-hash .ensures .1)
 
 tie-link-requires : tie.Need-tie-link-requires
 tie-link-requires c κs =
-    let after-hash-at = c .before .before in
+    let after-hash-at = hash-at-from-tie-link-arg2 c in
     let after-child-hash = after-hash-at .before in
     let after-parent-in = after-child-hash .before .before .before .before .before in
     let start = start-from-parent-in after-parent-in in (
@@ -132,7 +136,7 @@ hash-at-requires-2 c κs = omega (arith, c .child-hash2 .ensures .1)
 
 tie-link-requires-2 : tie.Need-tie-link-requires-2
 tie-link-requires-2 c κs =
-    let after-hash-at2 = c .before .before in
+    let after-hash-at2 = hash-at2-from-tie-link-arg4 c in
     let after-child-hash2 = after-hash-at2 .before in
     let after-tie-link = after-child-hash2 .before .before in
     let after-child-count-at2 = after-tie-link .before .before .before .before .before in
@@ -148,35 +152,34 @@ tie-link-requires-2 c κs =
 
 returns-3 : tie.Need-returns-3
 returns-3 c =
-    let c3 = c .before .before .before in
-    let c4 = c3 .before in
-    let c5 = c4 .before in
-    let c6 = c5 .before in
-    let c9 = c6 .before .before .before in
-    let c10 = c9 .before in
-    let rights = c10 .before in
-    let lefts = rights .before in
-    let c11 = lefts .before in
-    let c12 = c11 .before in
-    let c13 = c12 .before in
-    let c14 = c13 .before in
-    let c15 = c14 .before in
-    let c16 = c15 .before in
-    let c17 = c16 .before in
-    let c18 = c17 .before in
-    let a = c18 .args in
-    let both = inner-tied (c18 .pre .0)
-    (all-of Byte (c18 .args .store .now) 0 (λ i _. omega (arith, c17 .shared-slice-known .given i)))
-    (c18 .pre .1 .own (c18 .args .j) (c18 .pre .0 .inside)) (c16 .kind-at .ensures) (c15 .if1 .left) (c18 .pre .1 .keeps)
-    (c13 .parent-in .ensures) (2 * a .j + 1) (2 * a .j + 1 + 1) (c12 .child-version-at .result) (c11 .child-version-at2 .result)
-    (c12 .child-version-at .ensures) (c11 .child-version-at2 .ensures) (c9 .hash-at .result) (c3 .hash-at2 .result)
-    (read-whole (c9 .hash-at .ensures .1) (c10 .child-hash .ensures .1)
-    (c10 .child-hash .ensures .0 ∙ ap (λ x. leftIn x .hash) (c14 .slot-of .ensures .0)))
-    (read-whole (c3 .hash-at2 .ensures .1) (c4 .child-hash2 .ensures .1)
-    (c4 .child-hash2 .ensures .0 ∙ ap (λ x. rightIn x .hash) (c14 .slot-of .ensures .0)))
-    (lefts .child-count-at .result) (rights .child-count-at2 .result) (lefts .child-count-at .ensures) (rights .child-count-at2 .ensures) (a .sums .now)
-    (c6 .tie-link .last .1 .1 .1 .1 .1 .1 .1 .0) (c .tie-link2 .last .1 .1 .1 .1 .1 .1 .1 .0)
-    (passed-so (c6 .tie-link .result) (c5 .if2 .left) (c6 .tie-link .ensures .1)) in
+    let after-hash-at2 = hash-at2-from-tie-link-arg4 (c .before) in
+    let after-child-hash2 = after-hash-at2 .before in
+    let else2 = after-child-hash2 .before in
+    let after-tie-link = else2 .before in
+    let after-hash-at = hash-at-from-tie-link-arg2 (after-tie-link .before) in
+    let after-child-hash = after-hash-at .before in
+    let after-child-count-at2 = after-child-hash .before in
+    let after-child-count-at = after-child-count-at2 .before in
+    let after-child-version-at2 = after-child-count-at .before in
+    let after-child-version-at = after-child-version-at2 .before in
+    let after-parent-in = after-child-version-at .before in
+    let after-slot-of = after-parent-in .before in
+    let else1 = after-slot-of .before in
+    let after-kind-at = else1 .before in
+    let start = start-from-kind-at after-kind-at in
+    let a = start .args in
+    let both = inner-tied (start .pre .0)
+    (all-of Byte (start .args .store .now) 0 (λ i _. omega (arith, after-kind-at .before .shared-slice-known .given i)))
+    (start .pre .1 .own (start .args .j) (start .pre .0 .inside)) (after-kind-at .kind-at .ensures) (else1 .if1 .left) (start .pre .1 .keeps)
+    (after-parent-in .parent-in .ensures) (2 * a .j + 1) (2 * a .j + 1 + 1) (after-child-version-at .child-version-at .result) (after-child-version-at2 .child-version-at2 .result)
+    (after-child-version-at .child-version-at .ensures) (after-child-version-at2 .child-version-at2 .ensures) (after-hash-at .hash-at .result) (after-hash-at2 .hash-at2 .result)
+    (read-whole (after-hash-at .hash-at .ensures .1) (after-child-hash .child-hash .ensures .1)
+    (after-child-hash .child-hash .ensures .0 ∙ ap (λ x. leftIn x .hash) (after-slot-of .slot-of .ensures .0)))
+    (read-whole (after-hash-at2 .hash-at2 .ensures .1) (after-child-hash2 .child-hash2 .ensures .1)
+    (after-child-hash2 .child-hash2 .ensures .0 ∙ ap (λ x. rightIn x .hash) (after-slot-of .slot-of .ensures .0)))
+    (after-child-count-at .child-count-at .result) (after-child-count-at2 .child-count-at2 .result) (after-child-count-at .child-count-at .ensures) (after-child-count-at2 .child-count-at2 .ensures) (a .sums .now)
+    (after-tie-link .tie-link .last .1 .1 .1 .1 .1 .1 .1 .0) (c .tie-link2 .last .1 .1 .1 .1 .1 .1 .1 .0)
+    (passed-so (after-tie-link .tie-link .result) (else2 .if2 .left) (after-tie-link .tie-link .ensures .1)) in
     (c .tie-link2 .ensures .0, pass-map (c .tie-link2 .result) both (c .tie-link2 .ensures .1))
 
 pub tie-slot-spec : {M : Type 1} → statement M

@@ -14,38 +14,50 @@ Inv-loop store list block version f₀ j₀ f j = Adding store list version (blo
 abbrev μ-loop : tie.MeasureT-loop
 μ-loop store list block version f₀ j₀ f j = block .listed - j
 
+-- `A-from-B` is the state A as the later state B has it.
+abbrev at-loop-from-then1 : tie.Then1 Inv-loop μ-loop → tie.At-loop Inv-loop μ-loop
+at-loop-from-then1 c = c .before .before
+
+abbrev start-from-f : tie.After-f Inv-loop μ-loop → tie.Start Inv-loop μ-loop
+start-from-f c = c .before .before
+
 loop-holds : tie.Need-loop-holds Inv-loop μ-loop
-loop-holds c = let start = c .before .before in adding-start (start .args .version) (start .pre .0) (start .pre .1)
+loop-holds c =
+    let start = start-from-f c in
+    adding-start (start .args .version) (start .pre .0) (start .pre .1)
 
 mul-i : tie.Need-mul-i Inv-loop μ-loop
-mul-i c = let l = c .before .before in omega (arith, adding-inside (l .loop .inv) (c .if1 .taken))
+mul-i c = omega (arith, adding-inside (at-loop-from-then1 c .loop .inv) (c .if1 .taken))
 
 element-copy-out-i : tie.Need-element-copy-out-i Inv-loop μ-loop
-element-copy-out-i c = adding-inside (c .before .before .loop .inv) (c .if1 .taken)
+element-copy-out-i c = adding-inside (at-loop-from-then1 c .loop .inv) (c .if1 .taken)
 
 cast-i : tie.Need-cast-i Inv-loop μ-loop
-cast-i c = omega (arith, adding-small (c .before .before .before .loop .inv) (c .before .if1 .taken))
+cast-i c = omega (arith, adding-small (at-loop-from-then1 (c .before) .loop .inv) (c .before .if1 .taken))
 
 add-slot-requires : tie.Need-add-slot-requires Inv-loop μ-loop
-add-slot-requires c κs = adding-slot (c .before .before .before .loop .inv) (c .before .if1 .taken)
+add-slot-requires c κs = adding-slot (at-loop-from-then1 (c .before) .loop .inv) (c .before .if1 .taken)
 
 add-j : tie.Need-add-j Inv-loop μ-loop
-add-j c = omega (arith, adding-inside (c .before .before .before .before .loop .inv) (c .before .before .if1 .taken))
+add-j c =
+    let then1 = c .before .before in
+    omega (arith, adding-inside (at-loop-from-then1 then1 .loop .inv) (then1 .if1 .taken))
 
 loop-less : tie.Need-loop-less Inv-loop μ-loop
 loop-less c = omega (arith, c .before .before .if1 .taken)
 
 loop-again : tie.Need-loop-again Inv-loop μ-loop
 loop-again c =
-    let l = c .before .before .before .before in
-    let k = l .before .before in
-    adding-next (l .loop .inv) (all-of Byte (k .before .args .store .now) 0 (λ i _. omega (arith, k .shared-slice-known .given i))) (c .before .before .if1 .taken)
+    let then1 = c .before .before in
+    let after-f = then1 .before .before .before in
+    adding-next (at-loop-from-then1 then1 .loop .inv) (all-of Byte (start-from-f after-f .args .store .now) 0 (λ i _. omega (arith, after-f .before .shared-slice-known .given i))) (then1 .if1 .taken)
     (c .add-slot .result) (c .add-slot .ensures)
 
 returns : tie.Need-returns Inv-loop μ-loop
 returns c =
-    let start = c .before .before .before .before .before in
-    adding-end (c .before .before .loop .inv) (c .if1 .left) (start .pre .2) (start .pre .3)
+    let at-loop = c .before .before in
+    let start = start-from-f (at-loop .before) in
+    adding-end (at-loop .loop .inv) (c .if1 .left) (start .pre .2) (start .pre .3)
 
 pub figures-in-spec : {M : Type 1} → statement M
 figures-in-spec =

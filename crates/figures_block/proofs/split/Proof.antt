@@ -17,6 +17,19 @@ Inv-loop store list₀ first last n all₀ listed₀ i₀ list all listed i = Ba
 abbrev μ-loop : tie.MeasureT-loop
 μ-loop store list₀ first last n all₀ listed₀ i₀ list all listed i = i
 
+-- `A-from-B` is the state A as the later state B has it.
+abbrev at-loop-from-else1 : tie.Else1 Inv-loop μ-loop → tie.At-loop Inv-loop μ-loop
+at-loop-from-else1 c = c .before .before .before
+
+abbrev at-loop-from-then2 : tie.Then2 Inv-loop μ-loop → tie.At-loop Inv-loop μ-loop
+at-loop-from-then2 c = at-loop-from-else1 (c .before .before)
+
+abbrev in-loop-from-else1 : tie.Else1 Inv-loop μ-loop → tie.In-loop Inv-loop μ-loop
+in-loop-from-else1 c = c .before .before
+
+abbrev in-loop-from-then2 : tie.Then2 Inv-loop μ-loop → tie.In-loop Inv-loop μ-loop
+in-loop-from-then2 c = in-loop-from-else1 (c .before .before)
+
 slot-count-requires : tie.Need-slot-count-requires Inv-loop μ-loop
 slot-count-requires c κs = c .before .pre .0 .size
 
@@ -43,46 +56,50 @@ loop-less c = omega arith
 
 loop-again : tie.Need-loop-again Inv-loop μ-loop
 loop-again c =
-    let l = c .before .before .before in
-    let w = l .before .loop .inv in
-    let k = l .before .before .before in (
-      split-each (w .0) (l .loop-test .taken) (all-of Byte (k .before .args .store .now) 0 (λ i _. omega (arith, k .shared-slice-known .given i)))
-          (c .before .before .lives .ensures) (c .before .if1 .taken) (c .add-slot .result) (c .add-slot .ensures),
+    let then1 = c .before in
+    let after-lives = then1 .before in
+    let in-loop = after-lives .before in
+    let at-loop = in-loop .before in
+    let after-shared-slice-known = at-loop .before .before in
+    let w = at-loop .loop .inv in (
+      split-each (w .0) (in-loop .loop-test .taken) (all-of Byte (after-shared-slice-known .before .args .store .now) 0 (λ i _. omega (arith, after-shared-slice-known .shared-slice-known .given i)))
+          (after-lives .lives .ensures) (then1 .if1 .taken) (c .add-slot .result) (c .add-slot .ensures),
       w .1,
     )
 
 lives-requires-2 : tie.Need-lives-requires-2 Inv-loop μ-loop
-lives-requires-2 c κs = let l = c .before .before in backward-slot (l .before .loop .inv .0) (l .loop-test .taken)
+lives-requires-2 c κs = backward-slot (at-loop-from-else1 c .loop .inv .0) (in-loop-from-else1 c .loop-test .taken)
 
 cast-list : tie.Need-cast-list Inv-loop μ-loop
-cast-list c = let l = c .before .before .before .before in let w = l .before .loop .inv .0 in omega (arith, split-fits w (l .loop-test .taken), w .within, w .small)
+cast-list c = let w = at-loop-from-then2 c .loop .inv .0 in omega (arith, split-fits w (in-loop-from-then2 c .loop-test .taken), w .within, w .small)
 
 mul-list : tie.Need-mul-list Inv-loop μ-loop
-mul-list c = let l = c .before .before .before .before in let w = l .before .loop .inv .0 in omega (arith, split-fits w (l .loop-test .taken), w .within, w .small)
+mul-list c = let w = at-loop-from-then2 c .loop .inv .0 in omega (arith, split-fits w (in-loop-from-then2 c .loop-test .taken), w .within, w .small)
 
 element-write-list : tie.Need-element-write-list Inv-loop μ-loop
-element-write-list c = let l = c .before .before .before .before in let w = l .before .loop .inv .0 in omega (arith, split-fits w (l .loop-test .taken), w .within, w .small)
+element-write-list c = let w = at-loop-from-then2 c .loop .inv .0 in omega (arith, split-fits w (in-loop-from-then2 c .loop-test .taken), w .within, w .small)
 
 add-listed : tie.Need-add-listed Inv-loop μ-loop
-add-listed c = let l = c .before .before .before .before in let w = l .before .loop .inv .0 in omega (arith, split-fits w (l .loop-test .taken), w .within, w .small)
+add-listed c = let w = at-loop-from-then2 c .loop .inv .0 in omega (arith, split-fits w (in-loop-from-then2 c .loop-test .taken), w .within, w .small)
 
 loop-less-2 : tie.Need-loop-less-2 Inv-loop μ-loop
 loop-less-2 c = omega arith
 
 loop-again-2 : tie.Need-loop-again-2 Inv-loop μ-loop
 loop-again-2 c =
-    let l = c .before .before .before .before in
-    let w = l .before .loop .inv in
-    (split-listed (w .0) (l .loop-test .taken) (omega (arith, split-fits (w .0) (l .loop-test .taken), w .1)) refl, simp length-set (w .1))
+    let in-loop = in-loop-from-then2 c in
+    let w = in-loop .before .loop .inv in
+    (split-listed (w .0) (in-loop .loop-test .taken) (omega (arith, split-fits (w .0) (in-loop .loop-test .taken), w .1)) refl, simp length-set (w .1))
 
 loop-less-3 : tie.Need-loop-less-3 Inv-loop μ-loop
 loop-less-3 c = omega arith
 
 loop-again-3 : tie.Need-loop-again-3 Inv-loop μ-loop
 loop-again-3 c =
-    let l = c .before .before .before .before in
-    let w = l .before .loop .inv in
-    (split-none (w .0) (l .loop-test .taken) (c .before .lives2 .ensures) (c .if2 .left), w .1)
+    let after-lives2 = c .before in
+    let else1 = after-lives2 .before in
+    let w = at-loop-from-else1 else1 .loop .inv in
+    (split-none (w .0) (in-loop-from-else1 else1 .loop-test .taken) (after-lives2 .lives2 .ensures) (c .if2 .left), w .1)
 
 returns : tie.Need-returns Inv-loop μ-loop
 returns c =

@@ -11,46 +11,56 @@ use borrow.Author.Needs.{needs}
 use Rattle.figures_count.proofs.lives.Statement.{statement}
 use Rattle.figures_count.proofs.lives.Tie as tie
 
+-- `A-from-B` is the state A as the later state B has it.
+abbrev version-at-from-else2 : tie.Else2 → tie.After-version-at
+version-at-from-else2 c = c .before .before
+
+abbrev start-from-version-at : tie.After-version-at → tie.Start
+start-from-version-at c = c .before .before
+
 version-at-requires : tie.Need-version-at-requires
 version-at-requires c κs = slot-within (c .before .pre .has)
 
 returns : tie.Need-returns
 returns c =
-    let v = c .before in
-    let start = v .before .before in
+    let after-version-at = c .before in
+    let start = start-from-version-at after-version-at in
     let s = start .args .store .now in
-    not-there (holding s (start .args .i) (start .pre) (all-of Byte s 0 (λ i _. omega (arith, v .before .shared-slice-known .given i)))) (start .args .first) (start .args .last)
-    (sym (v .version-at .ensures) ∙ c .if1 .taken)
+    not-there (holding s (start .args .i) (start .pre) (all-of Byte s 0 (λ i _. omega (arith, after-version-at .before .shared-slice-known .given i)))) (start .args .first) (start .args .last)
+    (sym (after-version-at .version-at .ensures) ∙ c .if1 .taken)
 
 returns-2 : tie.Need-returns-2
 returns-2 c =
-    let v = c .before .before in
-    let start = v .before .before in
+    let else1 = c .before in
+    let after-version-at = else1 .before in
+    let start = start-from-version-at after-version-at in
     let s = start .args .store .now in
-    not-yet (holding s (start .args .i) (start .pre) (all-of Byte s 0 (λ i _. omega (arith, v .before .shared-slice-known .given i)))) (start .args .first) (start .args .last)
-    (λ z. c .before .if1 .left (v .version-at .ensures ∙ z)) (omega (arith, v .version-at .ensures, c .if2 .taken))
+    not-yet (holding s (start .args .i) (start .pre) (all-of Byte s 0 (λ i _. omega (arith, after-version-at .before .shared-slice-known .given i)))) (start .args .first) (start .args .last)
+    (λ z. else1 .if1 .left (after-version-at .version-at .ensures ∙ z)) (omega (arith, after-version-at .version-at .ensures, c .if2 .taken))
 
 retired-at-requires : tie.Need-retired-at-requires
-retired-at-requires c κs = slot-within (c .before .before .before .before .pre .has)
+retired-at-requires c κs = slot-within (start-from-version-at (c .before .before) .pre .has)
 
 returns-3 : tie.Need-returns-3
 returns-3 c =
-    let t = c .before in
-    let v = t .before .before .before in
-    let start = v .before .before in
+    let after-retired-at = c .before in
+    let else2 = after-retired-at .before in
+    let after-version-at = version-at-from-else2 else2 in
+    let start = start-from-version-at after-version-at in
     let s = start .args .store .now in
-    not-ended (holding s (start .args .i) (start .pre) (all-of Byte s 0 (λ i _. omega (arith, v .before .shared-slice-known .given i)))) (start .args .first) (start .args .last)
-    (λ z. t .before .before .if1 .left (v .version-at .ensures ∙ z)) (omega (arith, v .version-at .ensures, t .before .if2 .left)) (sym (t .retired-at .ensures) ∙ c .if3 .taken)
+    not-ended (holding s (start .args .i) (start .pre) (all-of Byte s 0 (λ i _. omega (arith, after-version-at .before .shared-slice-known .given i)))) (start .args .first) (start .args .last)
+    (λ z. else2 .before .if1 .left (after-version-at .version-at .ensures ∙ z)) (omega (arith, after-version-at .version-at .ensures, else2 .if2 .left)) (sym (after-retired-at .retired-at .ensures) ∙ c .if3 .taken)
 
 returns-4 : tie.Need-returns-4
 returns-4 c =
-    let t = c .before in
-    let v = t .before .before .before in
-    let start = v .before .before in
+    let after-retired-at = c .before in
+    let else2 = after-retired-at .before in
+    let after-version-at = version-at-from-else2 else2 in
+    let start = start-from-version-at after-version-at in
     let s = start .args .store .now in
-    ap (ltb (start .args .first)) (t .retired-at .ensures)
-    ∙ ended (holding s (start .args .i) (start .pre) (all-of Byte s 0 (λ i _. omega (arith, v .before .shared-slice-known .given i)))) (start .args .first) (start .args .last)
-    (λ z. t .before .before .if1 .left (v .version-at .ensures ∙ z)) (omega (arith, v .version-at .ensures, t .before .if2 .left)) (λ z. c .if3 .left (t .retired-at .ensures ∙ z))
+    ap (ltb (start .args .first)) (after-retired-at .retired-at .ensures)
+    ∙ ended (holding s (start .args .i) (start .pre) (all-of Byte s 0 (λ i _. omega (arith, after-version-at .before .shared-slice-known .given i)))) (start .args .first) (start .args .last)
+    (λ z. else2 .before .if1 .left (after-version-at .version-at .ensures ∙ z)) (omega (arith, after-version-at .version-at .ensures, else2 .if2 .left)) (λ z. c .if3 .left (after-retired-at .retired-at .ensures ∙ z))
 
 pub lives-spec : {M : Type 1} → statement M
 lives-spec =

@@ -11,6 +11,10 @@ Inv-loop store first last n records₀ i₀ records i = Backward store (Living f
 abbrev μ-loop : tie.MeasureT-loop
 μ-loop store first last n records₀ i₀ records i = i
 
+-- `A-from-B` is the state A as the later state B has it.
+abbrev at-loop-from-lives : tie.After-lives Inv-loop μ-loop → tie.At-loop Inv-loop μ-loop
+at-loop-from-lives c = c .before .before
+
 slot-count-requires : tie.Need-slot-count-requires Inv-loop μ-loop
 slot-count-requires c κs = c .before .pre .size
 
@@ -24,19 +28,23 @@ lives-requires : tie.Need-lives-requires Inv-loop μ-loop
 lives-requires c κs = backward-slot (c .before .loop .inv) (c .loop-test .taken)
 
 add-records : tie.Need-add-records Inv-loop μ-loop
-add-records c = let few = living-few (c .before .before .before .loop .inv) in omega arith
+add-records c = let few = living-few (at-loop-from-lives (c .before) .loop .inv) in omega arith
 
 loop-less : tie.Need-loop-less Inv-loop μ-loop
 loop-less c = omega arith
 
 loop-again : tie.Need-loop-again Inv-loop μ-loop
-loop-again c = living-more (c .before .before .before .loop .inv) (c .before .before .loop-test .taken) (c .before .lives .ensures) (c .if1 .taken)
+loop-again c =
+    let after-lives = c .before in
+    living-more (at-loop-from-lives after-lives .loop .inv) (after-lives .before .loop-test .taken) (after-lives .lives .ensures) (c .if1 .taken)
 
 loop-less-2 : tie.Need-loop-less-2 Inv-loop μ-loop
 loop-less-2 c = omega arith
 
 loop-again-2 : tie.Need-loop-again-2 Inv-loop μ-loop
-loop-again-2 c = living-same (c .before .before .before .loop .inv) (c .before .before .loop-test .taken) (c .before .lives .ensures) (c .if1 .left)
+loop-again-2 c =
+    let after-lives = c .before in
+    living-same (at-loop-from-lives after-lives .loop .inv) (after-lives .before .loop-test .taken) (after-lives .lives .ensures) (c .if1 .left)
 
 returns : tie.Need-returns Inv-loop μ-loop
 returns c = living-end (c .before .loop .inv) (c .loop-test .left)

@@ -11,8 +11,12 @@ use Rattle.finding.proofs.check_against.Tie as tie
 slice-aggregate-root-hash : tie.Need-slice-aggregate-root-hash
 slice-aggregate-root-hash c = search needs
 
+-- `A-from-B` is the state A as the later state B has it.
+abbrev start-from-root-hash-arg : tie.After-root-hash-arg → tie.Start
+start-from-root-hash-arg c = c .before .before .before .before
+
 root-hash-requires : tie.Need-root-hash-requires
-root-hash-requires c κs = sound-size (c .before .before .before .before .pre .0 .sound)
+root-hash-requires c κs = sound-size (start-from-root-hash-arg c .pre .0 .sound)
 
 enum-told : tie.Need-enum-told
 enum-told c = search needs
@@ -25,16 +29,16 @@ check-under-requires c κs = search needs
 
 returns : tie.Need-returns
 returns c =
-    let r = c .before .before in
-    root-not-refused (r .before .before .before .before .before .pre .0) (r .root-hash .result) (r .root-hash .ensures) (c .enum-told .given .1)
+    let after-root-hash = c .before .before in
+    root-not-refused (start-from-root-hash-arg (after-root-hash .before) .pre .0) (after-root-hash .root-hash .result) (after-root-hash .root-hash .ensures) (c .enum-told .given .1)
 
 returns-2 : tie.Need-returns-2
 returns-2 c =
-    let m = c .before .before in
-    let r = m .before .before in
-    let s = r .before .before .before .before .before in
+    let after-read = c .before .before in
+    let after-root-hash = after-read .before .before in
+    let start = start-from-root-hash-arg (after-root-hash .before) in
     c .check-under .ensures
-    ∙ ap (λ y. judged y (s .args .key .now) (proofIn (s .args .proof .now))) (root-is (s .pre .0) (r .root-hash .result) (r .root-hash .ensures) (m .read .given .1))
+    ∙ ap (λ y. judged y (start .args .key .now) (proofIn (start .args .proof .now))) (root-is (start .pre .0) (after-root-hash .root-hash .result) (after-root-hash .root-hash .ensures) (after-read .read .given .1))
 
 pub check-against-spec : {M : Type 1} → statement M
 check-against-spec =

@@ -27,11 +27,13 @@ found-sound-requires c κs = (checked-sound (c .before .check .ensures) (c .if2 
 
 returns-3 : tie.Need-returns-3
 returns-3 c =
-    let k = c .before .before .before in
-    let s = k .before .before .before in
-    let a = s .before .args in
-    answered (a .store .now) (a .version) (a .key .now) (a .proof .now) (checked-sound (c .before .before .check .ensures) (c .before .if2 .left))
-    (all-of Byte (a .store .now) 0 (λ i _. omega (arith, s .shared-slice-known .given i))) (k .if1 .left) _ (c .found-sound .ensures)
+    let else2 = c .before in
+    let after-check = else2 .before in
+    let else1 = after-check .before in
+    let after-shared-slice-known = else1 .before .before .before in
+    let a = after-shared-slice-known .before .args in
+    answered (a .store .now) (a .version) (a .key .now) (a .proof .now) (checked-sound (after-check .check .ensures) (else2 .if2 .left))
+    (all-of Byte (a .store .now) 0 (λ i _. omega (arith, after-shared-slice-known .shared-slice-known .given i))) (else1 .if1 .left) _ (c .found-sound .ensures)
 
 pub finding-spec : {M : Type 1} → statement M
 finding-spec =

@@ -8,8 +8,15 @@ use Rattle.finding.proofs.holds_none.Tie as tie
 slice-aggregate-root : tie.Need-slice-aggregate-root
 slice-aggregate-root c = search needs
 
+-- `A-from-B` is the state A as the later state B has it.
+abbrev start-from-root-arg : tie.After-root-arg → tie.Start
+start-from-root-arg c = c .before .before
+
+abbrev start-from-root : tie.After-root → tie.Start
+start-from-root c = start-from-root-arg (c .before)
+
 root-requires : tie.Need-root-requires
-root-requires c κs = sound-size (c .before .before .pre .sound)
+root-requires c κs = sound-size (start-from-root-arg c .pre .sound)
 
 enum-told : tie.Need-enum-told
 enum-told c = search needs
@@ -25,23 +32,23 @@ enum-told-4 c = search needs
 
 returns : tie.Need-returns
 returns c =
-    let r = c .before .before in
-    gap-holds-none (r .before .before .before .pre) (r .root .result) (r .root .ensures) (c .enum-told .given .1)
+    let after-root = c .before .before in
+    gap-holds-none (start-from-root after-root .pre) (after-root .root .result) (after-root .root .ensures) (c .enum-told .given .1)
 
 returns-2 : tie.Need-returns-2
 returns-2 c =
-    let r = c .before .before in
-    lost-holds (r .before .before .before .pre) (r .root .result) (r .root .ensures) (c .enum-told2 .given .1)
+    let after-root = c .before .before in
+    lost-holds (start-from-root after-root .pre) (after-root .root .result) (after-root .root .ensures) (c .enum-told2 .given .1)
 
 returns-3 : tie.Need-returns-3
 returns-3 c =
-    let r = c .before .before in
-    leaf-holds (r .before .before .before .pre) (r .root .result) (r .root .ensures) (c .enum-told3 .given .1)
+    let after-root = c .before .before in
+    leaf-holds (start-from-root after-root .pre) (after-root .root .result) (after-root .root .ensures) (c .enum-told3 .given .1)
 
 returns-4 : tie.Need-returns-4
 returns-4 c =
-    let r = c .before .before in
-    inner-holds (r .before .before .before .pre) (r .root .result) (r .root .ensures) (c .enum-told4 .given .1)
+    let after-root = c .before .before in
+    inner-holds (start-from-root after-root .pre) (after-root .root .result) (after-root .root .ensures) (c .enum-told4 .given .1)
 
 pub holds-none-spec : {M : Type 1} → statement M
 holds-none-spec =

@@ -12,21 +12,26 @@ use Rattle.finding.proofs.of_absence.Tie as tie
 absence-true-requires : tie.Need-absence-true-requires
 absence-true-requires c κs = search needs
 
+-- `A-from-B` is the state A as the later state B has it.
+abbrev start-from-absence-true : tie.After-absence-true → tie.Start
+start-from-absence-true c = c .before .before .before
+
 returns : tie.Need-returns
 unfolding namedSays
-returns c =
-    let t = c .before in
-    let a = t .before .before .before .args in
-    truth-told (a .store .now) (a .version) (absence (absenceIn (a .proof .now))) (sym (t .absence-true .ensures) ∙ c .if1 .taken)
+returns c = let a = start-from-absence-true (c .before) .args in
+    truth-told (a .store .now) (a .version) (absence (absenceIn (a .proof .now))) (sym (c .before .absence-true .ensures) ∙ c .if1 .taken)
 
 in-absence-requires : tie.Need-in-absence-requires
-in-absence-requires c κs = let s = c .before .before .before .before in (sound-size (s .pre .0 .sound), s .pre .1)
+in-absence-requires c κs =
+    let start = start-from-absence-true (c .before) in
+    (sound-size (start .pre .0 .sound), start .pre .1)
 
 returns-2 : tie.Need-returns-2
 returns-2 c =
-    let t = c .before .before in
-    let a = t .before .before .before .args in
-    lie-searched (a .store .now) (a .version) (absence (absenceIn (a .proof .now))) (sym (t .absence-true .ensures) ∙ c .before .if1 .left) (c .in-absence .ensures)
+    let else1 = c .before in
+    let after-absence-true = else1 .before in
+    let a = start-from-absence-true after-absence-true .args in
+    lie-searched (a .store .now) (a .version) (absence (absenceIn (a .proof .now))) (sym (after-absence-true .absence-true .ensures) ∙ else1 .if1 .left) (c .in-absence .ensures)
 
 pub of-absence-spec : {M : Type 1} → statement M
 of-absence-spec =

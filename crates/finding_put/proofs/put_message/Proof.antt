@@ -31,33 +31,49 @@ sub-put-hash-2 c = search needs
 part-put-hash-start-2 : tie.Need-part-put-hash-start-2
 part-put-hash-start-2 c = search needs
 
+-- `A-from-B` is the state A as the later state B has it.
+abbrev first-byte-from-put-hash : tie.After-put-hash → tie.After-first-byte
+first-byte-from-put-hash c = c .before .before
+
+abbrev put-hash-from-slice-known2 : tie.After-slice-known2 → tie.After-put-hash
+put-hash-from-slice-known2 c = c .before .before
+
+abbrev put-hash-from-put-hash2 : tie.After-put-hash2 → tie.After-put-hash
+put-hash-from-put-hash2 c = put-hash-from-slice-known2 (c .before .before)
+
+abbrev put-hash2-from-slice-known3 : tie.After-slice-known3 → tie.After-put-hash2
+put-hash2-from-slice-known3 c = c .before .before
+
+abbrev start-from-first-byte : tie.After-first-byte → tie.Start
+start-from-first-byte c = c .before .before
+
 part-put-hash-end-2 : tie.Need-part-put-hash-end-2
 part-put-hash-end-2 c =
-    let h = c .before .before in
-    let b = h .before .before in
-    let s = b .before .before in
-    let f = s .args .part .now in
-    after-one-room 32 32 (b .first-byte .result) f (s .pre) (h .put-hash .last .0) (h .put-hash .kept .0 ∙ part-one-long 32 32 (b .first-byte .result) f (s .pre))
+    let after-put-hash = put-hash-from-slice-known2 c in
+    let after-first-byte = first-byte-from-put-hash after-put-hash in
+    let start = start-from-first-byte after-first-byte in
+    let f = start .args .part .now in
+    after-one-room 32 32 (after-first-byte .first-byte .result) f (start .pre) (after-put-hash .put-hash .last .0) (after-put-hash .put-hash .kept .0 ∙ part-one-long 32 32 (after-first-byte .first-byte .result) f (start .pre))
 
 put-hash-requires-2 : tie.Need-put-hash-requires-2
 put-hash-requires-2 c κs = search needs
 
 same-length : tie.Need-same-length
 same-length c =
-    let k = c .before .before in
-    let h = k .before .before .before .before in
-    let b = h .before .before in
-    let s = b .before .before in
-    ap length (message-put (s .args .m) (b .first-byte .result) (s .args .part .now) (h .put-hash .last .0) (k .put-hash2 .last .0) (s .pre) (b .first-byte .ensures) (h .put-hash .ensures) (k .put-hash2 .ensures))
-    ∙ message-65 (s .args .m) ∙ sym (s .pre)
+    let after-put-hash2 = put-hash2-from-slice-known3 c in
+    let after-put-hash = put-hash-from-put-hash2 after-put-hash2 in
+    let after-first-byte = first-byte-from-put-hash after-put-hash in
+    let start = start-from-first-byte after-first-byte in
+    ap length (message-put (start .args .m) (after-first-byte .first-byte .result) (start .args .part .now) (after-put-hash .put-hash .last .0) (after-put-hash2 .put-hash2 .last .0) (start .pre) (after-first-byte .first-byte .ensures) (after-put-hash .put-hash .ensures) (after-put-hash2 .put-hash2 .ensures))
+    ∙ message-65 (start .args .m) ∙ sym (start .pre)
 
 returns : tie.Need-returns
 returns c =
-    let k = c .before .before in
-    let h = k .before .before .before .before in
-    let b = h .before .before in
-    let s = b .before .before in
-    message-put (s .args .m) (b .first-byte .result) (s .args .part .now) (h .put-hash .last .0) (k .put-hash2 .last .0) (s .pre) (b .first-byte .ensures) (h .put-hash .ensures) (k .put-hash2 .ensures)
+    let after-put-hash2 = put-hash2-from-slice-known3 c in
+    let after-put-hash = put-hash-from-put-hash2 after-put-hash2 in
+    let after-first-byte = first-byte-from-put-hash after-put-hash in
+    let start = start-from-first-byte after-first-byte in
+    message-put (start .args .m) (after-first-byte .first-byte .result) (start .args .part .now) (after-put-hash .put-hash .last .0) (after-put-hash2 .put-hash2 .last .0) (start .pre) (after-first-byte .first-byte .ensures) (after-put-hash .put-hash .ensures) (after-put-hash2 .put-hash2 .ensures)
 
 pub put-message-spec : {M : Type 1} → statement M
 put-message-spec =

@@ -28,32 +28,45 @@ sub-clear c = search needs
 part-clear-start : tie.Need-part-clear-start
 part-clear-start c = search needs
 
+-- `A-from-B` is the state A as the later state B has it.
+abbrev clear-from-slice-known3 : tie.After-slice-known3 → tie.After-clear
+clear-from-slice-known3 c = c .before .before
+
+abbrev put-message-from-slice-known2 : tie.After-slice-known2 → tie.After-put-message
+put-message-from-slice-known2 c = c .before .before
+
+abbrev put-message-from-clear : tie.After-clear → tie.After-put-message
+put-message-from-clear c = put-message-from-slice-known2 (c .before .before)
+
+abbrev start-from-put-message : tie.After-put-message → tie.Start
+start-from-put-message c = c .before .before .before
+
 part-clear-end : tie.Need-part-clear-end
 part-clear-end c =
-    let h = c .before .before in
-    let s = h .before .before .before in
-    let f = s .args .answer .now in
-    after-one-room 65 65 (s .args .kind) f (s .pre) (h .put-message .last .0) (h .put-message .kept .0 ∙ part-one-long 65 65 (s .args .kind) f (s .pre))
+    let after-put-message = put-message-from-slice-known2 c in
+    let start = start-from-put-message after-put-message in
+    let f = start .args .answer .now in
+    after-one-room 65 65 (start .args .kind) f (start .pre) (after-put-message .put-message .last .0) (after-put-message .put-message .kept .0 ∙ part-one-long 65 65 (start .args .kind) f (start .pre))
 
 clear-requires : tie.Need-clear-requires
 clear-requires c κs = search needs
 
 same-length : tie.Need-same-length
 same-length c =
-    let k = c .before .before in
-    let h = k .before .before .before .before in
-    let s = h .before .before .before in
-    let f = s .args .answer .now in
-    let y = h .put-message .last .0 in
-    let long = h .put-message .kept .0 ∙ part-one-long 65 65 (s .args .kind) f (s .pre) in
-    after-two-long 65 65 (s .args .kind) f (s .pre) y (k .clear .last .0) long (k .clear .kept .0 ∙ part-two-long 65 65 (s .args .kind) f (s .pre) y long)
+    let after-clear = clear-from-slice-known3 c in
+    let after-put-message = put-message-from-clear after-clear in
+    let start = start-from-put-message after-put-message in
+    let f = start .args .answer .now in
+    let y = after-put-message .put-message .last .0 in
+    let long = after-put-message .put-message .kept .0 ∙ part-one-long 65 65 (start .args .kind) f (start .pre) in
+    after-two-long 65 65 (start .args .kind) f (start .pre) y (after-clear .clear .last .0) long (after-clear .clear .kept .0 ∙ part-two-long 65 65 (start .args .kind) f (start .pre) y long)
 
 returns : tie.Need-returns
 returns c =
-    let k = c .before .before in
-    let h = k .before .before .before .before in
-    let s = h .before .before .before in
-    one-put (s .args .kind) (s .args .m) (s .args .answer .now) (h .put-message .last .0) (k .clear .last .0) (s .pre) (h .put-message .ensures) (k .clear .ensures)
+    let after-clear = clear-from-slice-known3 c in
+    let after-put-message = put-message-from-clear after-clear in
+    let start = start-from-put-message after-put-message in
+    one-put (start .args .kind) (start .args .m) (start .args .answer .now) (after-put-message .put-message .last .0) (after-clear .clear .last .0) (start .pre) (after-put-message .put-message .ensures) (after-clear .clear .ensures)
 
 pub put-one-spec : {M : Type 1} → statement M
 put-one-spec =

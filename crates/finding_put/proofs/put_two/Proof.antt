@@ -28,32 +28,45 @@ sub-put-message-2 c = search needs
 part-put-message-start-2 : tie.Need-part-put-message-start-2
 part-put-message-start-2 c = search needs
 
+-- `A-from-B` is the state A as the later state B has it.
+abbrev put-message-from-slice-known2 : tie.After-slice-known2 → tie.After-put-message
+put-message-from-slice-known2 c = c .before .before
+
+abbrev put-message-from-put-message2 : tie.After-put-message2 → tie.After-put-message
+put-message-from-put-message2 c = put-message-from-slice-known2 (c .before .before)
+
+abbrev put-message2-from-slice-known3 : tie.After-slice-known3 → tie.After-put-message2
+put-message2-from-slice-known3 c = c .before .before
+
+abbrev start-from-put-message : tie.After-put-message → tie.Start
+start-from-put-message c = c .before .before .before
+
 part-put-message-end-2 : tie.Need-part-put-message-end-2
 part-put-message-end-2 c =
-    let h = c .before .before in
-    let s = h .before .before .before in
-    let f = s .args .answer .now in
-    after-one-room 65 65 1 f (s .pre) (h .put-message .last .0) (h .put-message .kept .0 ∙ part-one-long 65 65 1 f (s .pre))
+    let after-put-message = put-message-from-slice-known2 c in
+    let start = start-from-put-message after-put-message in
+    let f = start .args .answer .now in
+    after-one-room 65 65 1 f (start .pre) (after-put-message .put-message .last .0) (after-put-message .put-message .kept .0 ∙ part-one-long 65 65 1 f (start .pre))
 
 put-message-requires-2 : tie.Need-put-message-requires-2
 put-message-requires-2 c κs = search needs
 
 same-length : tie.Need-same-length
 same-length c =
-    let k = c .before .before in
-    let h = k .before .before .before .before in
-    let s = h .before .before .before in
-    let f = s .args .answer .now in
-    let y = h .put-message .last .0 in
-    let long = h .put-message .kept .0 ∙ part-one-long 65 65 1 f (s .pre) in
-    after-two-long 65 65 1 f (s .pre) y (k .put-message2 .last .0) long (k .put-message2 .kept .0 ∙ part-two-long 65 65 1 f (s .pre) y long)
+    let after-put-message2 = put-message2-from-slice-known3 c in
+    let after-put-message = put-message-from-put-message2 after-put-message2 in
+    let start = start-from-put-message after-put-message in
+    let f = start .args .answer .now in
+    let y = after-put-message .put-message .last .0 in
+    let long = after-put-message .put-message .kept .0 ∙ part-one-long 65 65 1 f (start .pre) in
+    after-two-long 65 65 1 f (start .pre) y (after-put-message2 .put-message2 .last .0) long (after-put-message2 .put-message2 .kept .0 ∙ part-two-long 65 65 1 f (start .pre) y long)
 
 returns : tie.Need-returns
 returns c =
-    let k = c .before .before in
-    let h = k .before .before .before .before in
-    let s = h .before .before .before in
-    two-put (s .args .node) (s .args .checked) (s .args .answer .now) (h .put-message .last .0) (k .put-message2 .last .0) (s .pre) (h .put-message .ensures) (k .put-message2 .ensures)
+    let after-put-message2 = put-message2-from-slice-known3 c in
+    let after-put-message = put-message-from-put-message2 after-put-message2 in
+    let start = start-from-put-message after-put-message in
+    two-put (start .args .node) (start .args .checked) (start .args .answer .now) (after-put-message .put-message .last .0) (after-put-message2 .put-message2 .last .0) (start .pre) (after-put-message .put-message .ensures) (after-put-message2 .put-message2 .ensures)
 
 pub put-two-spec : {M : Type 1} → statement M
 put-two-spec =

@@ -19,6 +19,16 @@ Inv-loop store version words m n word i₀ i = Scan counted store (Ahead store v
 abbrev μ-loop : tie.MeasureT-loop
 μ-loop store version words m n word i₀ i = n - i
 
+-- `A-from-B` is the state A as the later state B has it.
+abbrev slot-count-from-in-loop : tie.In-loop Inv-loop μ-loop → tie.After-slot-count Inv-loop μ-loop
+slot-count-from-in-loop c = c .before .before .before
+
+abbrev start-from-hash-word : tie.After-hash-word Inv-loop μ-loop → tie.Start Inv-loop μ-loop
+start-from-hash-word c = c .before .before .before
+
+abbrev start-from-in-loop : tie.In-loop Inv-loop μ-loop → tie.Start Inv-loop μ-loop
+start-from-in-loop c = start-from-hash-word (c .before .before)
+
 slot-count-requires : tie.Need-slot-count-requires Inv-loop μ-loop
 slot-count-requires c κs = c .before .pre .size
 
@@ -27,20 +37,20 @@ hash-word-requires c κs = tt
 
 loop-holds : tie.Need-loop-holds Inv-loop μ-loop
 loop-holds c =
-    let start = c .before .before .before in
+    let start = start-from-hash-word c in
     partner-start (start .args .store .now) (start .args .version) (messageBytes (start .args .m)) (start .pre .size) (c .before .slot-count .ensures)
 
 mul-partner-here : tie.Need-mul-partner-here Inv-loop μ-loop
-mul-partner-here c = let l = c .before in omega (arith, noted-inside (l .before .before .before .before .pre) (l .before .before .slot-count .ensures) (c .loop-test .taken))
+mul-partner-here c = omega (arith, noted-inside (start-from-in-loop c .pre) (slot-count-from-in-loop c .slot-count .ensures) (c .loop-test .taken))
 
 element-copy-out-partner-here : tie.Need-element-copy-out-partner-here Inv-loop μ-loop
-element-copy-out-partner-here c = let l = c .before in omega (arith, noted-inside (l .before .before .before .before .pre) (l .before .before .slot-count .ensures) (c .loop-test .taken))
+element-copy-out-partner-here c = omega (arith, noted-inside (start-from-in-loop c .pre) (slot-count-from-in-loop c .slot-count .ensures) (c .loop-test .taken))
 
 partner-here-requires : tie.Need-partner-here-requires Inv-loop μ-loop
 partner-here-requires c κs =
-    let l = c .before .before in
-    let counted = l .before .before .slot-count .ensures in
-    (scan-slot (l .loop .inv) (c .before .loop-test .taken), word-of (l .before .before .before .before .pre) counted (c .before .loop-test .taken), l .before .hash-word .ensures)
+    let in-loop = c .before in
+    let counted = slot-count-from-in-loop in-loop .slot-count .ensures in
+    (scan-slot (in-loop .before .loop .inv) (in-loop .loop-test .taken), word-of (start-from-in-loop in-loop .pre) counted (in-loop .loop-test .taken), in-loop .before .before .hash-word .ensures)
 
 slot-of-requires : tie.Need-slot-of-requires Inv-loop μ-loop
 slot-of-requires c κs =
@@ -52,14 +62,13 @@ record-message-requires c κs = search needs
 
 returns : tie.Need-returns Inv-loop μ-loop
 returns c =
-    let slot = c .before in
-    let passed = slot .before in
-    let here = passed .before in
-    let inside = here .before .before in
-    let at = inside .before in
-    let a = at .before .before .before .before .args in
-    partner-found (a .version) (a .m) (at .loop .inv) (inside .loop-test .taken) (sym (here .partner-here .ensures) ∙ passed .if1 .taken)
-    (c .record-message .result) (c .record-message .ensures ∙ ap messageIn (slot .slot-of .ensures .0))
+    let after-slot-of = c .before in
+    let then1 = after-slot-of .before in
+    let after-partner-here = then1 .before in
+    let in-loop = after-partner-here .before .before in
+    let a = start-from-in-loop in-loop .args in
+    partner-found (a .version) (a .m) (in-loop .before .loop .inv) (in-loop .loop-test .taken) (sym (after-partner-here .partner-here .ensures) ∙ then1 .if1 .taken)
+    (c .record-message .result) (c .record-message .ensures ∙ ap messageIn (after-slot-of .slot-of .ensures .0))
 
 add-i : tie.Need-add-i Inv-loop μ-loop
 add-i c = omega (arith, c .before .before .before .before .loop .inv .small)
@@ -69,15 +78,13 @@ loop-less c = omega (arith, c .before .before .before .loop-test .taken)
 
 loop-again : tie.Need-loop-again Inv-loop μ-loop
 loop-again c =
-    let here = c .before in
-    let inside = here .before .before in
-    let at = inside .before in
-    let a = at .before .before .before .before .args in
-    partner-next (a .version) (a .m) (at .loop .inv) (inside .loop-test .taken) (sym (here .partner-here .ensures) ∙ c .if1 .left)
+    let after-partner-here = c .before in
+    let in-loop = after-partner-here .before .before in
+    let a = start-from-in-loop in-loop .args in
+    partner-next (a .version) (a .m) (in-loop .before .loop .inv) (in-loop .loop-test .taken) (sym (after-partner-here .partner-here .ensures) ∙ c .if1 .left)
 
 returns-2 : tie.Need-returns-2 Inv-loop μ-loop
-returns-2 c =
-    let a = c .before .before .before .before .before .args in
+returns-2 c = let a = start-from-hash-word (c .before .before) .args in
     no-partner (a .version) (a .m) (c .before .loop .inv) (c .loop-test .left)
 
 pub partner-spec : {M : Type 1} → statement M

@@ -24,11 +24,13 @@ hash-at-requires-2 c κs = omega (arith, c .value-of .ensures .1)
 
 returns : tie.Need-returns
 returns c =
-    let k = c .before .before in
-    let d = k .before .before in
-    leaf-message _ _ (sym (d .before .is-leaf .ensures) ∙ d .if1 .taken) refl
-    (read-whole (k .hash-at .ensures .1) (k .before .key-of .ensures .1) (k .before .key-of .ensures .0))
-    (read-whole (c .hash-at2 .ensures .1) (c .before .value-of .ensures .1) (c .before .value-of .ensures .0))
+    let after-value-of = c .before in
+    let after-hash-at = after-value-of .before in
+    let after-key-of = after-hash-at .before in
+    let then1 = after-key-of .before in
+    leaf-message _ _ (sym (then1 .before .is-leaf .ensures) ∙ then1 .if1 .taken) refl
+    (read-whole (after-hash-at .hash-at .ensures .1) (after-key-of .key-of .ensures .1) (after-key-of .key-of .ensures .0))
+    (read-whole (c .hash-at2 .ensures .1) (after-value-of .value-of .ensures .1) (after-value-of .value-of .ensures .0))
 
 child-hash-requires : tie.Need-child-hash-requires
 child-hash-requires c κs = search needs
@@ -44,11 +46,13 @@ hash-at-requires-4 c κs = omega (arith, c .child-hash2 .ensures .1)
 
 returns-2 : tie.Need-returns-2
 returns-2 c =
-    let k = c .before .before in
-    let d = k .before .before in
-    inner-message _ _ (sym (d .before .is-leaf .ensures) ∙ d .if1 .left) refl
-    (read-whole (k .hash-at3 .ensures .1) (k .before .child-hash .ensures .1) (k .before .child-hash .ensures .0))
-    (read-whole (c .hash-at4 .ensures .1) (c .before .child-hash2 .ensures .1) (c .before .child-hash2 .ensures .0))
+    let after-child-hash2 = c .before in
+    let after-hash-at3 = after-child-hash2 .before in
+    let after-child-hash = after-hash-at3 .before in
+    let else1 = after-child-hash .before in
+    inner-message _ _ (sym (else1 .before .is-leaf .ensures) ∙ else1 .if1 .left) refl
+    (read-whole (after-hash-at3 .hash-at3 .ensures .1) (after-child-hash .child-hash .ensures .1) (after-child-hash .child-hash .ensures .0))
+    (read-whole (c .hash-at4 .ensures .1) (after-child-hash2 .child-hash2 .ensures .1) (after-child-hash2 .child-hash2 .ensures .0))
 
 pub record-message-spec : {M : Type 1} → statement M
 record-message-spec =

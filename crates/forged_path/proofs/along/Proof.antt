@@ -31,58 +31,64 @@ hash-at-requires c κs = omega arith
 hash-at-requires-2 : tie.Need-hash-at-requires-2 Inv-loop μ-loop
 hash-at-requires-2 c κs = omega arith
 
+-- `A-from-B` is the state A as the later state B has it.
+abbrev start-from-hash-at2 : tie.After-hash-at2 Inv-loop μ-loop → tie.Start Inv-loop μ-loop
+start-from-hash-at2 c = c .before .before .before .before
+
+abbrev start-from-at-loop : tie.At-loop Inv-loop μ-loop → tie.Start Inv-loop μ-loop
+start-from-at-loop c = start-from-hash-at2 (c .before)
+
+abbrev start-from-hash-of : tie.After-hash-of Inv-loop μ-loop → tie.Start Inv-loop μ-loop
+start-from-hash-of c = start-from-at-loop (c .before .before .before .before .before)
+
 loop-holds : tie.Need-loop-holds Inv-loop μ-loop
 unfolding slice
-loop-holds c =
-    let start = c .before .before .before .before in
-    let a = start .args in (
-      omega arith,
-      first-message (nodesIn (a .version) (a .store .now)) (a .n) (a .p .now) _
-          (leaf-parts (a .p .now) _ refl (c .before .hash-at .ensures .1) (c .hash-at2 .ensures .1)),
-    )
+loop-holds c = let a = start-from-hash-at2 c .args in (
+  omega arith,
+  first-message (nodesIn (a .version) (a .store .now)) (a .n) (a .p .now) _
+      (leaf-parts (a .p .now) _ refl (c .before .hash-at .ensures .1) (c .hash-at2 .ensures .1)),
+)
 
 at-message-requires : tie.Need-at-message-requires Inv-loop μ-loop
-at-message-requires c κs =
-    c .before .before .before .before .before .pre .0
+at-message-requires c κs = start-from-at-loop c .pre .0
 
 is-nothing-requires : tie.Need-is-nothing-requires Inv-loop μ-loop
 is-nothing-requires c κs = search needs
 
 returns : tie.Need-returns Inv-loop μ-loop
 returns c =
-    let d = c .before .before in
-    let w = d .before in
-    let a = w .before .before .before .before .before .args in
-    d .at-message .ensures
-    ∙ sym (named-here (nodesIn (a .version) (a .store .now)) (messageBytes (w .loop .m)) (w .loop .i) (a .n) (a .p .now)
-    (sym (ap isNothing (d .at-message .ensures)) ∙ sym (c .before .is-nothing .ensures) ∙ not-true _ (c .if1 .taken)))
-    ∙ w .loop .inv .1
+    let after-is-nothing = c .before in
+    let after-at-message = after-is-nothing .before in
+    let at-loop = after-at-message .before in
+    let a = start-from-at-loop at-loop .args in
+    after-at-message .at-message .ensures
+    ∙ sym (named-here (nodesIn (a .version) (a .store .now)) (messageBytes (at-loop .loop .m)) (at-loop .loop .i) (a .n) (a .p .now)
+    (sym (ap isNothing (after-at-message .at-message .ensures)) ∙ sym (after-is-nothing .is-nothing .ensures) ∙ not-true _ (c .if1 .taken)))
+    ∙ at-loop .loop .inv .1
 
 returns-2 : tie.Need-returns-2 Inv-loop μ-loop
 unfolding namedSays
 returns-2 c =
-    let e = c .before in
-    let d = e .before .before in
-    let w = d .before in
-    let a = w .before .before .before .before .before .args in
-    sym (named-nowhere (nodesIn (a .version) (a .store .now)) (messageBytes (w .loop .m)) (w .loop .i) (a .n) (a .p .now)
-    (sym (ap isNothing (d .at-message .ensures)) ∙ sym (e .before .is-nothing .ensures) ∙ not-false _ (e .if1 .left)) (c .if2 .taken))
-    ∙ w .loop .inv .1
+    let else1 = c .before in
+    let after-is-nothing = else1 .before in
+    let after-at-message = after-is-nothing .before in
+    let at-loop = after-at-message .before in
+    let a = start-from-at-loop at-loop .args in
+    sym (named-nowhere (nodesIn (a .version) (a .store .now)) (messageBytes (at-loop .loop .m)) (at-loop .loop .i) (a .n) (a .p .now)
+    (sym (ap isNothing (after-at-message .at-message .ensures)) ∙ sym (after-is-nothing .is-nothing .ensures) ∙ not-false _ (else1 .if1 .left)) (c .if2 .taken))
+    ∙ at-loop .loop .inv .1
 
 hash-of-requires : tie.Need-hash-of-requires Inv-loop μ-loop
 hash-of-requires c κs = search needs
 
 parent-message-requires : tie.Need-parent-message-requires Inv-loop μ-loop
-parent-message-requires c κs =
-    let h = c .before .if2 .left in
-    let r = c .before .before .before .before .before .before .before .before .before .before .pre .1 in
+parent-message-requires c κs = let h = c .before .if2 .left in
+    let r = start-from-hash-of c .pre .1 in
     omega arith
 
 add-i : tie.Need-add-i Inv-loop μ-loop
-add-i c =
-    let h = c .before .before .if2 .left in
-    let start = c .before .before .before .before .before .before .before .before .before .before .before in
-    omega (arith, start .fits)
+add-i c = let h = c .before .before .if2 .left in
+    omega (arith, start-from-hash-of (c .before) .fits)
 
 loop-less : tie.Need-loop-less Inv-loop μ-loop
 loop-less c =
@@ -90,20 +96,20 @@ loop-less c =
 
 loop-again : tie.Need-loop-again Inv-loop μ-loop
 loop-again c =
-    let g = c .before .before in
-    let e = g .before in
-    let d = e .before .before in
-    let w = d .before in
-    let a = w .before .before .before .before .before .args in
+    let else2 = c .before .before in
+    let else1 = else2 .before in
+    let after-at-message = else1 .before .before in
+    let at-loop = after-at-message .before in
+    let a = start-from-at-loop at-loop .args in
     let nodes = nodesIn (a .version) (a .store .now) in
-    let i = w .loop .i in
-    let h = g .if2 .left in (
+    let i = at-loop .loop .i in
+    let h = else2 .if2 .left in (
       omega arith,
       ap (λ y. looked nodes (upwards sha256 y (stepsIn (a .n - (i + 1)) (fromStep (i + 1) (a .p .now)))))
           (c .parent-message .ensures ∙ ap (λ y. parentMessage sha256 y (stepAt i (a .p .now))) (c .before .hash-of .ensures))
-          ∙ sym (named-above nodes (messageBytes (w .loop .m)) i (a .n) (a .p .now)
-          (sym (ap isNothing (d .at-message .ensures)) ∙ sym (e .before .is-nothing .ensures) ∙ not-false _ (e .if1 .left)) h)
-          ∙ w .loop .inv .1,
+          ∙ sym (named-above nodes (messageBytes (at-loop .loop .m)) i (a .n) (a .p .now)
+          (sym (ap isNothing (after-at-message .at-message .ensures)) ∙ sym (else1 .before .is-nothing .ensures) ∙ not-false _ (else1 .if1 .left)) h)
+          ∙ at-loop .loop .inv .1,
     )
 
 pub along-spec : {M : Type 1} → statement M

@@ -10,8 +10,20 @@ use Rattle.forged_truth.proofs.lacks_key.Tie as tie
 slice-aggregate-walk-read : tie.Need-slice-aggregate-walk-read
 slice-aggregate-walk-read c = search needs
 
+-- `A-from-B` is the state A as the later state B has it.
+abbrev shared-slice-known2-from-walk-read : tie.After-walk-read → tie.After-shared-slice-known2
+shared-slice-known2-from-walk-read c = c .before .before
+
+abbrev start-from-walk-read-arg : tie.After-walk-read-arg → tie.Start
+start-from-walk-read-arg c = c .before .before .before
+
+abbrev start-from-walk-read : tie.After-walk-read → tie.Start
+start-from-walk-read c = start-from-walk-read-arg (c .before)
+
 walk-read-requires : tie.Need-walk-read-requires
-walk-read-requires c κs = let s = c .before .before .before in (sound-size (s .pre .0 .sound), s .pre .1)
+walk-read-requires c κs =
+    let start = start-from-walk-read-arg c in
+    (sound-size (start .pre .0 .sound), start .pre .1)
 
 enum-told : tie.Need-enum-told
 enum-told c = search needs
@@ -24,21 +36,21 @@ enum-told-3 c = search needs
 
 returns : tie.Need-returns
 returns c =
-    let w = c .before .before in
-    let s = w .before .before .before .before in
-    refused-absent (s .pre .0) (s .args .key .now) (s .pre .1, all-of Byte (s .args .key .now) 0 (λ i _. omega (arith, w .before .before .shared-slice-known2 .given i))) (w .walk-read .result) (w .walk-read .ensures) (c .enum-told .given .1)
+    let after-walk-read = c .before .before in
+    let start = start-from-walk-read after-walk-read in
+    refused-absent (start .pre .0) (start .args .key .now) (start .pre .1, all-of Byte (start .args .key .now) 0 (λ i _. omega (arith, shared-slice-known2-from-walk-read after-walk-read .shared-slice-known2 .given i))) (after-walk-read .walk-read .result) (after-walk-read .walk-read .ensures) (c .enum-told .given .1)
 
 returns-2 : tie.Need-returns-2
 returns-2 c =
-    let w = c .before .before in
-    let s = w .before .before .before .before in
-    there (s .pre .0) (s .args .key .now) (s .pre .1, all-of Byte (s .args .key .now) 0 (λ i _. omega (arith, w .before .before .shared-slice-known2 .given i))) (w .walk-read .result) (w .walk-read .ensures) (c .enum-told2 .given .1)
+    let after-walk-read = c .before .before in
+    let start = start-from-walk-read after-walk-read in
+    there (start .pre .0) (start .args .key .now) (start .pre .1, all-of Byte (start .args .key .now) 0 (λ i _. omega (arith, shared-slice-known2-from-walk-read after-walk-read .shared-slice-known2 .given i))) (after-walk-read .walk-read .result) (after-walk-read .walk-read .ensures) (c .enum-told2 .given .1)
 
 returns-3 : tie.Need-returns-3
 returns-3 c =
-    let w = c .before .before in
-    let s = w .before .before .before .before in
-    not-there (s .pre .0) (s .args .key .now) (s .pre .1, all-of Byte (s .args .key .now) 0 (λ i _. omega (arith, w .before .before .shared-slice-known2 .given i))) (w .walk-read .result) (w .walk-read .ensures) (c .enum-told3 .given .1)
+    let after-walk-read = c .before .before in
+    let start = start-from-walk-read after-walk-read in
+    not-there (start .pre .0) (start .args .key .now) (start .pre .1, all-of Byte (start .args .key .now) 0 (λ i _. omega (arith, shared-slice-known2-from-walk-read after-walk-read .shared-slice-known2 .given i))) (after-walk-read .walk-read .result) (after-walk-read .walk-read .ensures) (c .enum-told3 .given .1)
 
 pub lacks-key-spec : {M : Type 1} → statement M
 lacks-key-spec =

@@ -12,8 +12,14 @@ use borrow.Author.Needs.{needs}
 use Rattle.forged_truth.proofs.leaf_true.Statement.{statement}
 use Rattle.forged_truth.proofs.leaf_true.Tie as tie
 
+-- `A-from-B` is the state A as the later state B has it.
+abbrev start-from-shared-slice-known2 : tie.After-shared-slice-known2 → tie.Start
+start-from-shared-slice-known2 c = c .before .before
+
 hash-at-requires : tie.Need-hash-at-requires
-hash-at-requires c κs = let s = c .before .before in let w = presence-whole (s .args .p .now) (s .pre .1) in omega arith
+hash-at-requires c κs =
+    let start = start-from-shared-slice-known2 c in
+    let w = presence-whole (start .args .p .now) (start .pre .1) in omega arith
 
 sub-has-value : tie.Need-sub-has-value
 sub-has-value c = search needs
@@ -22,7 +28,9 @@ part-has-value-start : tie.Need-part-has-value-start
 part-has-value-start c = search needs
 
 part-has-value-end : tie.Need-part-has-value-end
-part-has-value-end c = let s = c .before .before .before in let w = presence-whole (s .args .p .now) (s .pre .1) in omega arith
+part-has-value-end c =
+    let start = start-from-shared-slice-known2 (c .before) in
+    let w = presence-whole (start .args .p .now) (start .pre .1) in omega arith
 
 has-value-requires : tie.Need-has-value-requires
 has-value-requires c κs = search needs
@@ -30,9 +38,9 @@ has-value-requires c κs = search needs
 returns : tie.Need-returns
 unfolding leafTrue presenceIn slice
 returns c =
-    let h = c .before .before in
-    let s = h .before .before .before in
-    c .has-value .ensures ∙ ap (λ x. sameVerdict (answerOf (presenceIn (s .args .p .now) .key) (grantsAt (s .args .store .now) (s .args .version))) (present x)) (h .hash-at .ensures .1)
+    let after-hash-at = c .before .before in
+    let start = start-from-shared-slice-known2 (after-hash-at .before) in
+    c .has-value .ensures ∙ ap (λ x. sameVerdict (answerOf (presenceIn (start .args .p .now) .key) (grantsAt (start .args .store .now) (start .args .version))) (present x)) (after-hash-at .hash-at .ensures .1)
 
 pub leaf-true-spec : {M : Type 1} → statement M
 leaf-true-spec =

@@ -10,6 +10,10 @@ use borrow.Author.Needs.{needs}
 use Rattle.guess.proofs.holds.Statement.{statement}
 use Rattle.guess.proofs.holds.Tie as tie
 
+-- `A-from-B` is the state A as the later state B has it.
+abbrev start-from-else1 : tie.Else1 → tie.Start
+start-from-else1 c = c .before .before .before
+
 slot-count-requires : tie.Need-slot-count-requires
 slot-count-requires c κs = c .before .pre .0
 
@@ -18,7 +22,7 @@ returns c = search needs
 
 version-at-requires : tie.Need-version-at-requires
 version-at-requires c κs =
-    let start = c .before .before .before in
+    let start = start-from-else1 c in
     slot-within (slot-has (start .args .store .now) (start .pre .0) (c .before .slot-count .ensures) (c .if1 .left))
 
 returns-2 : tie.Need-returns-2
@@ -26,9 +30,9 @@ returns-2 c = search needs
 
 count-at-requires : tie.Need-count-at-requires
 count-at-requires c κs =
-    let c2 = c .before .before in
-    let start = c2 .before .before .before in
-    slot-within (slot-has (start .args .store .now) (start .pre .0) (c2 .before .slot-count .ensures) (c2 .if1 .left))
+    let else1 = c .before .before in
+    let start = start-from-else1 else1 in
+    slot-within (slot-has (start .args .store .now) (start .pre .0) (else1 .before .slot-count .ensures) (else1 .if1 .left))
 
 cast-if3 : tie.Need-cast-if3
 cast-if3 c = search needs
@@ -38,9 +42,10 @@ returns-3 c = search needs
 
 slot-of-requires : tie.Need-slot-of-requires
 slot-of-requires c κs =
-    let c6 = c .before .before .before .before .before .before in
-    let start = c6 .before .before .before in
-    slot-within (slot-has (start .args .store .now) (start .pre .0) (c6 .before .slot-count .ensures) (c6 .if1 .left))
+    let after-version-at = c .before .before .before .before .before in
+    let else1 = after-version-at .before in
+    let start = start-from-else1 else1 in
+    slot-within (slot-has (start .args .store .now) (start .pre .0) (else1 .before .slot-count .ensures) (else1 .if1 .left))
 
 bits-of-requires : tie.Need-bits-of-requires
 bits-of-requires c κs = search needs
@@ -59,17 +64,22 @@ holds-record-requires c κs = search needs
 
 returns-5 : tie.Need-returns-5
 returns-5 c =
-    let so = c .before .before .before .before .before in
-    let i3 = so .before .before in
-    let i2 = i3 .before .before .before in
-    let i1 = i2 .before .before in
-    let start = i1 .before .before .before in
+    let else4 = c .before in
+    let after-same = else4 .before in
+    let after-bits-of = after-same .before .before in
+    let after-slot-of = after-bits-of .before in
+    let else3 = after-slot-of .before .before in
+    let after-count-at = else3 .before .before in
+    let else2 = after-count-at .before in
+    let after-version-at = else2 .before in
+    let else1 = after-version-at .before in
+    let start = start-from-else1 else1 in
     let a = start .args in
     let s = a .store .now in
-    held (all-of Byte s 0 (λ i _. omega (arith, i1 .before .before .shared-slice-known .given i))) (a .version) (a .place) (start .pre .1)
-    (slot-has s (start .pre .0) (i1 .before .slot-count .ensures) (i1 .if1 .left)) (so .slot-of .ensures .0)
-    (sym (i2 .before .version-at .ensures) ∙ i2 .if2 .left) (sym (i3 .before .before .count-at .ensures) ∙ i3 .if3 .left)
-    (c .before .before .before .before .bits-of .ensures .0) (sym (c .before .before .same .ensures) ∙ not-false _ (c .before .if4 .left)) _ (c .holds-record .ensures)
+    held (all-of Byte s 0 (λ i _. omega (arith, else1 .before .before .shared-slice-known .given i))) (a .version) (a .place) (start .pre .1)
+    (slot-has s (start .pre .0) (else1 .before .slot-count .ensures) (else1 .if1 .left)) (after-slot-of .slot-of .ensures .0)
+    (sym (after-version-at .version-at .ensures) ∙ else2 .if2 .left) (sym (after-count-at .count-at .ensures) ∙ else3 .if3 .left)
+    (after-bits-of .bits-of .ensures .0) (sym (after-same .same .ensures) ∙ not-false _ (else4 .if4 .left)) _ (c .holds-record .ensures)
 
 pub holds-spec : {M : Type 1} → statement M
 holds-spec =

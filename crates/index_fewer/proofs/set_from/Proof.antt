@@ -26,10 +26,14 @@ add-k : tie.Need-add-k Inv-loop μ-loop
 add-k c = search needs
 
 loop-less : tie.Need-loop-less Inv-loop μ-loop
-loop-less c = omega (arith, c .loop-test .taken, length-set (c .before .loop .table) (c .before .loop .k) (c .before .before .args .x))
+loop-less c =
+    let at-loop = c .before in
+    omega (arith, c .loop-test .taken, length-set (at-loop .loop .table) (at-loop .loop .k) (at-loop .before .args .x))
 
 loop-again : tie.Need-loop-again Inv-loop μ-loop
-loop-again c = length-set (c .before .loop .table) (c .before .loop .k) _ ∙ c .before .loop .inv
+loop-again c =
+    let at-loop = c .before in
+    length-set (at-loop .loop .table) (at-loop .loop .k) _ ∙ at-loop .loop .inv
 
 same-length : tie.Need-same-length Inv-loop μ-loop
 same-length c = c .before .loop .inv

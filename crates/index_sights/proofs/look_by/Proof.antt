@@ -15,10 +15,13 @@ search-node-requires c κs = search needs
 enum-known-found : tie.Need-enum-known-found
 enum-known-found c = search needs
 
+-- `A-from-B` is the state A as the later state B has it.
+abbrev start-from-search-node : tie.After-search-node → tie.Start
+start-from-search-node c = c .before .before .before
+
 returns : tie.Need-returns
 unfolding nodeBy
-returns c =
-    let a = c .before .before .before .before .before .before .args in
+returns c = let a = start-from-search-node (c .before .before .before) .args in
     let st = storeOf (a .store .now) in
     ended (st .slots) (index.search (nodeLook (a .version) (placeOf (a .place))) (a .table .now) (st .slots)) (nodeSight st (a .version) (placeOf (a .place))) _ (c .before .before .before .search-node .ensures) _ (c .before .found .given .1)
 
@@ -30,8 +33,7 @@ look-requires c κs = search needs
 
 returns-2 : tie.Need-returns-2
 unfolding nodeBy
-returns-2 c =
-    let a = c .before .before .before .before .before .before .args in
+returns-2 c = let a = start-from-search-node (c .before .before .before) .args in
     let st = storeOf (a .store .now) in
     fallen (st .slots) (index.search (nodeLook (a .version) (placeOf (a .place))) (a .table .now) (st .slots)) (nodeSight st (a .version) (placeOf (a .place))) _ (c .before .before .before .search-node .ensures) (c .look .result) (c .before .enum-told .given .1) (c .look .ensures)
 

@@ -14,10 +14,13 @@ search-root-requires c κs = search needs
 enum-known-found : tie.Need-enum-known-found
 enum-known-found c = search needs
 
+-- `A-from-B` is the state A as the later state B has it.
+abbrev start-from-search-root : tie.After-search-root → tie.Start
+start-from-search-root c = c .before .before .before
+
 returns : tie.Need-returns
 unfolding rootBy
-returns c =
-    let a = c .before .before .before .before .before .before .args in
+returns c = let a = start-from-search-root (c .before .before .before) .args in
     let st = storeOf (a .store .now) in
     ended (st .slots) (index.search (rootLook (a .version)) (a .table .now) (st .slots)) (rootSight st (a .version)) _ (c .before .before .before .search-root .ensures) _ (c .before .found .given .1)
 
@@ -29,8 +32,7 @@ look-root-requires c κs = search needs
 
 returns-2 : tie.Need-returns-2
 unfolding rootBy
-returns-2 c =
-    let a = c .before .before .before .before .before .before .args in
+returns-2 c = let a = start-from-search-root (c .before .before .before) .args in
     let st = storeOf (a .store .now) in
     fallen (st .slots) (index.search (rootLook (a .version)) (a .table .now) (st .slots)) (rootSight st (a .version)) _ (c .before .before .before .search-root .ensures) (c .look-root .result) (c .before .enum-told .given .1) (c .look-root .ensures)
 

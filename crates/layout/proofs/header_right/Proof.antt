@@ -24,6 +24,10 @@ slot-size-requires c κs = search needs
 get-u32-requires : tie.Need-get-u32-requires
 get-u32-requires c κs = search needs
 
+-- `A-from-B` is the state A as the later state B has it.
+abbrev else4-from-then5 : tie.Then5 → tie.Else4
+else4-from-then5 c = c .before .before .before
+
 returns : tie.Need-returns
 unfolding headerRight
 returns c = sym (test-failed _ (ne-eqb _ _ (λ e. c .if1 .taken (c .before .get-u32 .ensures ∙ e))))
@@ -48,7 +52,10 @@ unfolding headerRight
 after1 c = test-passed _ (eq-eqb _ _ (sym (c .before .get-u32 .ensures) ∙ c .if1 .left))
 
 returns-2 : tie.Need-returns-2
-returns-2 c = sym (after1 (c .before .before) ∙ test-failed _ (ne-eqb _ _ (λ e. c .if2 .taken (c .before .get-u16 .ensures ∙ e ∙ sym (kind1 (c .before .before))))))
+returns-2 c =
+    let after-get-u16 = c .before in
+    let else1 = after-get-u16 .before in
+    sym (after1 (else1) ∙ test-failed _ (ne-eqb _ _ (λ e. c .if2 .taken (after-get-u16 .get-u16 .ensures ∙ e ∙ sym (kind1 (else1))))))
 
 sub-all-zero : tie.Need-sub-all-zero
 sub-all-zero c = search needs
@@ -98,7 +105,11 @@ unfolding slice
 after3 c = after2 (c .before .before .before) ∙ test-passed _ (sym (c .before .all-zero .ensures) ∙ not-false _ (c .if3 .left))
 
 returns-4 : tie.Need-returns-4
-returns-4 c = sym (after3 (c .before .before) ∙ test-failed _ (ne-eqb _ _ (λ e. c .if4 .taken (c .before .get-u322 .ensures ∙ e ∙ sym (room1 (c .before .before .before .before .before .before .before))))))
+returns-4 c =
+    let after-get-u322 = c .before in
+    let else3 = after-get-u322 .before in
+    let else1 = else3 .before .before .before .before .before in
+    sym (after3 (else3) ∙ test-failed _ (ne-eqb _ _ (λ e. c .if4 .taken (after-get-u322 .get-u322 .ensures ∙ e ∙ sym (room1 (else1))))))
 
 get-u32-requires-3 : tie.Need-get-u32-requires-3
 get-u32-requires-3 c κs = search needs
@@ -116,7 +127,7 @@ after4 : (c : tie.Else4) → headerRight (form4 c) (store4 c) ≡ allOf (drop 4 
 after4 c = after3 (c .before .before) ∙ test-passed _ (eq-eqb _ _ (sym (c .before .get-u322 .ensures) ∙ c .if4 .left ∙ room1 (c .before .before .before .before .before .before .before)))
 
 returns-5 : tie.Need-returns-5
-returns-5 c = sym (after4 (c .before .before .before) ∙ test-failed _ (lt-leb (field 12 4 (store4 (c .before .before .before))) (field 16 4 (store4 (c .before .before .before))) (omega arith)))
+returns-5 c = sym (after4 (else4-from-then5 c) ∙ test-failed _ (lt-leb (field 12 4 (store4 (else4-from-then5 c))) (field 16 4 (store4 (else4-from-then5 c))) (omega arith)))
 
 sub-all-zero-2 : tie.Need-sub-all-zero-2
 sub-all-zero-2 c = search needs

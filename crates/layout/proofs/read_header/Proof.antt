@@ -17,6 +17,10 @@ use Rattle.layout.proofs.read_header.Tie as tie
 size-right-requires : tie.Need-size-right-requires
 size-right-requires c κs = search needs
 
+-- `A-from-B` is the state A as the later state B has it.
+abbrev else1-from-else2 : tie.Else2 → tie.Else1
+else1-from-else2 c = c .before .before
+
 returns : tie.Need-returns
 unfolding headerSays headerOf
 returns c = rw (sym (c .before .size-right .ensures) ∙ not-true _ (c .if1 .taken))
@@ -41,22 +45,32 @@ unfolding headerSays headerOf
 returns-2 c = rw (size-passed (c .before .before), sym (c .before .header-right .ensures) ∙ not-true _ (c .if2 .taken))
 
 get-u32-requires : tie.Need-get-u32-requires
-get-u32-requires c κs = omega (arith, long (c .before .before))
+get-u32-requires c κs =
+    let else1 = else1-from-else2 c in
+    omega (arith, long (else1))
 
 get-u32-requires-2 : tie.Need-get-u32-requires-2
-get-u32-requires-2 c κs = omega (arith, long (c .before .before .before))
+get-u32-requires-2 c κs =
+    let else1 = else1-from-else2 (c .before) in
+    omega (arith, long (else1))
 
 get-u32-requires-3 : tie.Need-get-u32-requires-3
-get-u32-requires-3 c κs = omega (arith, long (c .before .before .before .before))
+get-u32-requires-3 c κs =
+    let else1 = else1-from-else2 (c .before .before) in
+    omega (arith, long (else1))
 
 returns-3 : tie.Need-returns-3
 unfolding headerSays headerOf
 returns-3 c =
+    let after-get-u322 = c .before in
+    let after-get-u32 = after-get-u322 .before in
+    let else2 = after-get-u32 .before in
+    let else1 = else1-from-else2 else2 in
     rw (
-      size-passed (c .before .before .before .before .before),
-      sym (c .before .before .before .before .header-right .ensures) ∙ not-false _ (c .before .before .before .if2 .left),
-      c .before .before .get-u32 .ensures,
-      c .before .get-u322 .ensures,
+      size-passed (else1),
+      sym (else2 .before .header-right .ensures) ∙ not-false _ (else2 .if2 .left),
+      after-get-u32 .get-u32 .ensures,
+      after-get-u322 .get-u322 .ensures,
       c .get-u323 .ensures,
     )
 

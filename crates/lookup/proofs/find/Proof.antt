@@ -32,29 +32,32 @@ abbrev μ-slots : tie.MeasureT-slots
 abbrev at-slots-from-slot-start : tie.After-slot-start Inv-loop μ-loop Inv-slots μ-slots → tie.At-slots Inv-loop μ-loop Inv-slots μ-slots
 at-slots-from-slot-start c = c .before .before
 
-abbrev at-slots-from-at-loop : tie.At-loop Inv-loop μ-loop Inv-slots μ-slots → tie.At-slots Inv-loop μ-loop Inv-slots μ-slots
-at-slots-from-at-loop c = at-slots-from-slot-start (c .before .before .before .before .before)
+abbrev slot-start-from-else2 : tie.Else2 Inv-loop μ-loop Inv-slots μ-slots → tie.After-slot-start Inv-loop μ-loop Inv-slots μ-slots
+slot-start-from-else2 c = c .before .before
 
-abbrev start-from-at-slots : tie.At-slots Inv-loop μ-loop Inv-slots μ-slots → tie.Start Inv-loop μ-loop Inv-slots μ-slots
-start-from-at-slots c = c .before .before .before .before
+abbrev slot-start-from-slot-size : tie.After-slot-size Inv-loop μ-loop Inv-slots μ-slots → tie.After-slot-start Inv-loop μ-loop Inv-slots μ-slots
+slot-start-from-slot-size c = slot-start-from-else2 (c .before .before .before .before .before)
+
+abbrev at-loop-from-slot-size : tie.After-slot-size Inv-loop μ-loop Inv-slots μ-slots → tie.At-loop Inv-loop μ-loop Inv-slots μ-slots
+at-loop-from-slot-size c = c .before .before
+
+abbrev start-from-bits : tie.After-bits Inv-loop μ-loop Inv-slots μ-slots → tie.Start Inv-loop μ-loop Inv-slots μ-slots
+start-from-bits c = c .before .before
 
 abbrev start-from-slot-start : tie.After-slot-start Inv-loop μ-loop Inv-slots μ-slots → tie.Start Inv-loop μ-loop Inv-slots μ-slots
-start-from-slot-start c = start-from-at-slots (c .before .before)
-
-abbrev start-from-at-loop : tie.At-loop Inv-loop μ-loop Inv-slots μ-slots → tie.Start Inv-loop μ-loop Inv-slots μ-slots
-start-from-at-loop c = start-from-slot-start (c .before .before .before .before .before)
+start-from-slot-start c = start-from-bits (c .before .before .before .before)
 
 slot-count-requires : tie.Need-slot-count-requires Inv-loop μ-loop Inv-slots μ-slots
-slot-count-requires c κs = c .before .before .pre .0
+slot-count-requires c κs = start-from-bits c .pre .0
 
 -- src/lib.rt:42:5
 slots-holds : tie.Need-slots-holds Inv-loop μ-loop Inv-slots μ-slots
 unfolding placeOf
 slots-holds c =
-    let a = c .before .before .before in
-    from-start (a .args .store .now) (a .args .version) (a .args .place .bits) (a .args .place .count) (a .pre .0) (c .slot-count .ensures)
+    let start = start-from-bits (c .before) in
+    from-start (start .args .store .now) (start .args .version) (start .args .place .bits) (start .args .place .count) (start .pre .0) (c .slot-count .ensures)
     (λ i. omega (arith, c .before .before .shared-slice-known .given i))
-    (a .pre .1 .short) (search needs) (a .pre .1 .trimmed)
+    (start .pre .1 .short) (search needs) (start .pre .1 .trimmed)
 
 -- src/lib.rt:46:23
 slot-start-requires : tie.Need-slot-start-requires Inv-loop μ-loop Inv-slots μ-slots
@@ -62,11 +65,11 @@ slot-start-requires c κs = let h = slot-within (scan-slot (c .before .slots .in
 
 -- src/lib.rt:47:27
 add-get-u32 : tie.Need-add-get-u32 Inv-loop μ-loop Inv-slots μ-slots
-add-get-u32 c = omega (arith, slot-within (scan-slot (c .before .before .slots .inv .scan) (c .before .if1 .left)))
+add-get-u32 c = omega (arith, slot-within (scan-slot (at-slots-from-slot-start c .slots .inv .scan) (c .before .if1 .left)))
 
 -- src/lib.rt:47:12
 get-u32-requires : tie.Need-get-u32-requires Inv-loop μ-loop Inv-slots μ-slots
-get-u32-requires c κs = omega (arith, slot-within (scan-slot (c .before .before .slots .inv .scan) (c .before .if1 .left)))
+get-u32-requires c κs = omega (arith, slot-within (scan-slot (at-slots-from-slot-start c .slots .inv .scan) (c .before .if1 .left)))
 
 -- src/lib.rt:48:13
 add-i : tie.Need-add-i Inv-loop μ-loop Inv-slots μ-slots
@@ -79,8 +82,9 @@ slots-less c = omega arith
 -- src/lib.rt:42:5
 slots-again : tie.Need-slots-again Inv-loop μ-loop Inv-slots μ-slots
 slots-again c =
-    let d = c .before .before in
-    other-version (d .before .before .slots .inv) (d .before .if1 .left) _ (d .slot-start .ensures .0) (λ e. c .if2 .taken (c .before .get-u32 .ensures ∙ e))
+    let after-get-u32 = c .before in
+    let after-slot-start = after-get-u32 .before in
+    other-version (at-slots-from-slot-start after-slot-start .slots .inv) (after-slot-start .before .if1 .left) _ (after-slot-start .slot-start .ensures .0) (λ e. c .if2 .taken (after-get-u32 .get-u32 .ensures ∙ e))
 
 -- src/lib.rt:51:27
 add-get-u16 : tie.Need-add-get-u16 Inv-loop μ-loop Inv-slots μ-slots
@@ -109,8 +113,9 @@ slots-less-2 c = omega arith
 -- src/lib.rt:42:5
 slots-again-2 : tie.Need-slots-again-2 Inv-loop μ-loop Inv-slots μ-slots
 slots-again-2 c =
-    let d = c .before .before .before .before in
-    other-count (d .before .before .slots .inv) (d .before .if1 .left) _ (d .slot-start .ensures .0) (λ e. c .if3 .taken (c .before .get-u16 .ensures ∙ e))
+    let after-get-u16 = c .before in
+    let after-slot-start = after-get-u16 .before .before .before in
+    other-count (at-slots-from-slot-start after-slot-start .slots .inv) (after-slot-start .before .if1 .left) _ (after-slot-start .slot-start .ensures .0) (λ e. c .if3 .taken (after-get-u16 .get-u16 .ensures ∙ e))
 
 -- src/lib.rt:56:9
 loop-holds : tie.Need-loop-holds Inv-loop μ-loop Inv-slots μ-slots
@@ -158,12 +163,15 @@ add-i-3 c = omega arith
 slots-less-3 : tie.Need-slots-less-3 Inv-loop μ-loop Inv-slots μ-slots
 slots-less-3 c =
     let at-loop = c .before .before .before in
+    let after-slot-start = at-loop .before .before .before .before .before in
     let w = at-loop .loop .inv in
-    omega (arith, w .inside, slot-one (start-from-at-loop at-loop .args .form) (at-slots-from-at-loop at-loop .slots .i) (at-loop .loop .i) (sym (at-loop .before .before .before .before .before .slot-start .ensures .0) ∙ w .here))
+    omega (arith, w .inside, slot-one (start-from-slot-start after-slot-start .args .form) (at-slots-from-slot-start after-slot-start .slots .i) (at-loop .loop .i) (sym (after-slot-start .slot-start .ensures .0) ∙ w .here))
 
 -- src/lib.rt:42:5
 slots-again-3 : tie.Need-slots-again-3 Inv-loop μ-loop Inv-slots μ-slots
-slots-again-3 c = byte-off (c .before .before .before .loop .inv) (c .before .before .loop-test .taken) (c .if4 .taken)
+slots-again-3 c =
+    let in-loop = c .before .before in
+    byte-off (in-loop .before .loop .inv) (in-loop .loop-test .taken) (c .if4 .taken)
 
 -- src/lib.rt:61:13
 add-k : tie.Need-add-k Inv-loop μ-loop Inv-slots μ-slots
@@ -175,14 +183,16 @@ loop-less c = omega arith
 
 -- src/lib.rt:56:9
 loop-again : tie.Need-loop-again Inv-loop μ-loop Inv-slots μ-slots
-loop-again c = byte-more (c .before .before .before .loop .inv) (c .before .before .loop-test .taken) (c .if4 .left)
+loop-again c =
+    let in-loop = c .before .before in
+    byte-more (in-loop .before .loop .inv) (in-loop .loop-test .taken) (c .if4 .left)
 
 -- src/lib.rt:63:19
 slot-size-requires : tie.Need-slot-size-requires Inv-loop μ-loop Inv-slots μ-slots
 slot-size-requires c κs = search needs
 
 add-end : tie.Need-add-end Inv-loop μ-loop Inv-slots μ-slots
-add-end c = omega (arith, c .before .before .loop .inv)
+add-end c = omega (arith, at-loop-from-slot-size c .loop .inv)
 
 -- src/lib.rt:64:25
 sub-holds-record : tie.Need-sub-holds-record Inv-loop μ-loop Inv-slots μ-slots
@@ -194,7 +204,7 @@ part-holds-record-start c = omega arith
 
 -- src/lib.rt:64:25
 part-holds-record-end : tie.Need-part-holds-record-end Inv-loop μ-loop Inv-slots μ-slots
-part-holds-record-end c = omega (arith, c .before .before .loop .inv)
+part-holds-record-end c = omega (arith, at-loop-from-slot-size c .loop .inv)
 
 -- src/lib.rt:64:12
 holds-record-requires : tie.Need-holds-record-requires Inv-loop μ-loop Inv-slots μ-slots
@@ -207,17 +217,17 @@ add-i-4 c = omega arith
 -- src/lib.rt:42:5
 slots-less-4 : tie.Need-slots-less-4 Inv-loop μ-loop Inv-slots μ-slots
 slots-less-4 c =
-    let at-loop = c .before .before .before .before .before in
+    let at-loop = at-loop-from-slot-size (c .before .before .before) in
+    let after-slot-start = at-loop .before .before .before .before .before in
     let w = at-loop .loop .inv in
-    omega (arith, w .inside, slot-one (start-from-at-loop at-loop .args .form) (at-slots-from-at-loop at-loop .slots .i) (at-loop .loop .i) (sym (at-loop .before .before .before .before .before .slot-start .ensures .0) ∙ w .here))
+    omega (arith, w .inside, slot-one (start-from-slot-start after-slot-start .args .form) (at-slots-from-slot-start after-slot-start .slots .i) (at-loop .loop .i) (sym (after-slot-start .slot-start .ensures .0) ∙ w .here))
 
 -- src/lib.rt:42:5
 slots-again-4 : tie.Need-slots-again-4 Inv-loop μ-loop Inv-slots μ-slots
 slots-again-4 c =
     let after-holds-record = c .before in
     let after-slot-size = after-holds-record .before .before in
-    let at-loop = after-slot-size .before .before in
-    spoiled-here (at-loop .loop .inv) (ap (at-loop .before .before .before .before .before .slot-start .result +_) (after-slot-size .slot-size .ensures .0)) (sym (after-holds-record .holds-record .ensures) ∙ c .if5 .left)
+    spoiled-here (at-loop-from-slot-size after-slot-size .loop .inv) (ap (slot-start-from-slot-size after-slot-size .slot-start .result +_) (after-slot-size .slot-size .ensures .0)) (sym (after-holds-record .holds-record .ensures) ∙ c .if5 .left)
 
 -- src/lib.rt:34:1
 returns : tie.Need-returns Inv-loop μ-loop Inv-slots μ-slots
@@ -230,9 +240,7 @@ unfolding placeOf
 returns-2 c =
     let after-holds-record = c .before in
     let after-slot-size = after-holds-record .before .before in
-    let after-loop = after-slot-size .before in
-    let at-loop = after-loop .before in
-    found-here (at-loop .loop .inv) (ap (at-loop .before .before .before .before .before .slot-start .result +_) (after-slot-size .slot-size .ensures .0)) (after-loop .loop-test .left) (sym (after-holds-record .holds-record .ensures) ∙ c .if5 .taken)
+    found-here (at-loop-from-slot-size after-slot-size .loop .inv) (ap (slot-start-from-slot-size after-slot-size .slot-start .result +_) (after-slot-size .slot-size .ensures .0)) (after-slot-size .before .loop-test .left) (sym (after-holds-record .holds-record .ensures) ∙ c .if5 .taken)
 
 pub find-spec : {M : Type 1} → statement M
 find-spec =

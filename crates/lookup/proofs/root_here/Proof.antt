@@ -14,8 +14,11 @@ use Rattle.lookup.proofs.root_here.Statement.{statement}
 use Rattle.lookup.proofs.root_here.Tie as tie
 
 -- `A-from-B` is the state A as the later state B has it.
+abbrev start-from-count-at : tie.After-count-at → tie.Start
+start-from-count-at c = c .before .before
+
 abbrev start-from-version-at : tie.After-version-at → tie.Start
-start-from-version-at c = c .before .before .before .before
+start-from-version-at c = start-from-count-at (c .before .before)
 
 abbrev start-from-covers : tie.After-covers → tie.Start
 start-from-covers c = start-from-version-at (c .before .before)
@@ -25,13 +28,13 @@ count-at-requires c κs = slot-within (c .before .pre)
 
 returns : tie.Need-returns
 returns c =
-    let known = c .before .before in
-    let start = known .before in
-    deep (start .pre) (all-of Byte (start .args .store .now) 0 (λ i _. omega (arith, known .shared-slice-known .given i)))
-    (start .args .version) (λ e. c .if1 .taken (c .before .count-at .ensures ∙ e))
+    let after-count-at = c .before in
+    let start = start-from-count-at after-count-at in
+    deep (start .pre) (all-of Byte (start .args .store .now) 0 (λ i _. omega (arith, after-count-at .before .shared-slice-known .given i)))
+    (start .args .version) (λ e. c .if1 .taken (after-count-at .count-at .ensures ∙ e))
 
 version-at-requires : tie.Need-version-at-requires
-version-at-requires c κs = slot-within (c .before .before .before .pre)
+version-at-requires c κs = slot-within (start-from-count-at (c .before) .pre)
 
 retired-at-requires : tie.Need-retired-at-requires
 retired-at-requires c κs = slot-within (start-from-version-at c .pre)

@@ -19,16 +19,22 @@ put-u32-requires c κs = search needs
 same-length : tie.Need-same-length
 same-length c = search needs
 
+-- `A-from-B` is the state A as the later state B has it.
+abbrev write-from-wrote2 : tie.After-wrote2 → tie.After-write
+write-from-wrote2 c = c .before .before .before .before
+
 returns : tie.Need-returns
 returns c =
-    write-refused (c .before .before .before .before .before .write .ensures) (c .before .before .before .before .before .before .before .before .before .before .before .before .before .before .args .length .now) (c .before .wrote .given .1)
+    let after-wrote = c .before in
+    let after-write = after-wrote .before .before .before .before in
+    let after-shared-slice-known5 = after-write .before .before .before .before in
+    write-refused (after-write .write .ensures) (after-shared-slice-known5 .before .before .before .before .before .args .length .now) (after-wrote .wrote .given .1)
 
 same-length-2 : tie.Need-same-length-2
 same-length-2 c = search needs
 
 returns-2 : tie.Need-returns-2
-returns-2 c =
-    write-given (c .before .before .before .before .before .before .before .write .ensures) (c .before .before .before .before .before .before .before .before .before .before .before .before .before .before .before .before .args .length .now) (c .before .before .before .wrote2 .given .1) (search needs) (c .put-u32 .ensures)
+returns-2 c = write-given (write-from-wrote2 (c .before .before .before) .write .ensures) (c .before .before .before .before .before .before .before .before .before .before .before .before .before .before .before .before .args .length .now) (c .before .before .before .wrote2 .given .1) (search needs) (c .put-u32 .ensures)
 
 pub grants-ics23-write-spec : {M : Type 1} → statement M
 grants-ics23-write-spec =

@@ -19,6 +19,9 @@ nobody-requires c κs = search needs
 abbrev start-from-field : tie.After-field → tie.Start
 start-from-field c = c .before .before .before .before .before
 
+abbrev field-from-else3 : tie.Else3 → tie.After-field
+field-from-else3 c = c .before .before
+
 returns : tie.Need-returns
 returns c =
     let start = c .before .before .before in
@@ -59,8 +62,7 @@ part-existence-start : tie.Need-part-existence-start
 part-existence-start c = search needs
 
 part-existence-end : tie.Need-part-existence-end
-part-existence-end c =
-    omega (arith, c .before .before .field .ensures .inside (not-false _ (c .if3 .left)) .2)
+part-existence-end c = omega (arith, field-from-else3 c .field .ensures .inside (not-false _ (c .if3 .left)) .2)
 
 existence-requires : tie.Need-existence-requires
 existence-requires c κs =
@@ -77,14 +79,14 @@ returns-4 c =
     let then4 = c .before in
     let after-existence = then4 .before .before in
     let else3 = after-existence .before .before in
-    let after-field = else3 .before .before in
+    let after-field = field-from-else3 else3 in
     neighbours-no-proof (after-field .before .if2 .left) (after-field .field .ensures) (not-false _ (else3 .if3 .left)) (subst (λ k. Shows (take k (start-from-field after-field .args .x .now)) (after-field .field .result .from) (after-existence .existence .result)) (sub-zero (after-field .field .result .to)) (after-existence .existence .ensures)) (not-true _ (then4 .if4 .taken)) (c .no-neighbour2 .ensures)
 
 returns-5 : tie.Need-returns-5
 returns-5 c =
     let after-existence = c .before .before in
     let else3 = after-existence .before .before in
-    let after-field = else3 .before .before in
+    let after-field = field-from-else3 else3 in
     let start = start-from-field after-field in
     neighbours-there (after-field .before .if2 .left) (after-field .field .ensures) (not-false _ (else3 .if3 .left)) (subst (λ k. Shows (take k (start .args .x .now)) (after-field .field .result .from) (after-existence .existence .result)) (sub-zero (after-field .field .result .to)) (after-existence .existence .ensures)) (start .pre .1)
     (all-bytes (start .args .x .now) (λ i. omega (arith, after-field .before .before .before .before .shared-slice-known .given i))) (not-false _ (c .if4 .left))

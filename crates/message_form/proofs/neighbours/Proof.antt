@@ -17,6 +17,9 @@ no-absent-requires c κs = search needs
 abbrev start-from-else1 : tie.Else1 → tie.Start
 start-from-else1 c = c .before .before .before .before
 
+abbrev beside-from-else1 : tie.Else1 → tie.After-beside
+beside-from-else1 c = c .before .before
+
 returns : tie.Need-returns
 returns c =
     let then1 = c .before in
@@ -24,8 +27,7 @@ returns c =
     follows-none (no-left (after-beside .before .before .args .key) (after-beside .beside .ensures) (not-true _ (then1 .if1 .taken))) (c .no-absent .ensures)
 
 beside-requires-2 : tie.Need-beside-requires-2
-beside-requires-2 c κs =
-    (c .before .before .beside .ensures .inside (not-false _ (c .if1 .left)) .1, omega arith)
+beside-requires-2 c κs = (beside-from-else1 c .beside .ensures .inside (not-false _ (c .if1 .left)) .1, omega arith)
 
 no-absent-requires-2 : tie.Need-no-absent-requires-2
 no-absent-requires-2 c κs = search needs
@@ -35,7 +37,7 @@ returns-2 c =
     let then2 = c .before in
     let after-beside2 = then2 .before .before in
     let else1 = after-beside2 .before in
-    follows-none (no-right (start-from-else1 else1 .args .key) (else1 .before .before .beside .ensures) (not-false _ (else1 .if1 .left)) (after-beside2 .beside2 .ensures) (not-true _ (then2 .if2 .taken))) (c .no-absent2 .ensures)
+    follows-none (no-right (start-from-else1 else1 .args .key) (beside-from-else1 else1 .beside .ensures) (not-false _ (else1 .if1 .left)) (after-beside2 .beside2 .ensures) (not-true _ (then2 .if2 .taken))) (c .no-absent2 .ensures)
 
 no-absent-requires-3 : tie.Need-no-absent-requires-3
 no-absent-requires-3 c κs = search needs
@@ -46,7 +48,7 @@ returns-3 c =
     let else2 = then3 .before .before in
     let after-beside2 = else2 .before .before in
     let else1 = after-beside2 .before in
-    follows-none (bytes-over (start-from-else1 else1 .args .key) (else1 .before .before .beside .ensures) (not-false _ (else1 .if1 .left)) (after-beside2 .beside2 .ensures) (not-false _ (else2 .if2 .left)) (then3 .if3 .taken)) (c .no-absent3 .ensures)
+    follows-none (bytes-over (start-from-else1 else1 .args .key) (beside-from-else1 else1 .beside .ensures) (not-false _ (else1 .if1 .left)) (after-beside2 .beside2 .ensures) (not-false _ (else2 .if2 .left)) (then3 .if3 .taken)) (c .no-absent3 .ensures)
 
 somebody-requires : tie.Need-somebody-requires
 somebody-requires c κs = search needs
@@ -61,7 +63,7 @@ returns-4 c =
     let else2 = after-somebody .before .before .before in
     let after-beside2 = else2 .before .before in
     let else1 = after-beside2 .before in
-    follows-none (nobody-there (start-from-else1 else1 .args .key) (else1 .before .before .beside .ensures) (not-false _ (else1 .if1 .left)) (after-beside2 .beside2 .ensures) (not-false _ (else2 .if2 .left)) (sym (after-somebody .somebody .ensures) ∙ not-true _ (then4 .if4 .taken))) (c .no-absent4 .ensures)
+    follows-none (nobody-there (start-from-else1 else1 .args .key) (beside-from-else1 else1 .beside .ensures) (not-false _ (else1 .if1 .left)) (after-beside2 .beside2 .ensures) (not-false _ (else2 .if2 .left)) (sym (after-somebody .somebody .ensures) ∙ not-true _ (then4 .if4 .taken))) (c .no-absent4 .ensures)
 
 returns-5 : tie.Need-returns-5
 returns-5 c =
@@ -71,7 +73,7 @@ returns-5 c =
     let else2 = else3 .before .before in
     let after-beside2 = else2 .before .before in
     let else1 = after-beside2 .before in
-    follows-there (start-from-else1 else1 .args .key) (else1 .before .before .beside .ensures) (not-false _ (else1 .if1 .left)) (after-beside2 .beside2 .ensures) (not-false _ (else2 .if2 .left)) (else3 .if3 .left) (sym (after-somebody .somebody .ensures) ∙ not-false _ (else4 .if4 .left))
+    follows-there (start-from-else1 else1 .args .key) (beside-from-else1 else1 .beside .ensures) (not-false _ (else1 .if1 .left)) (after-beside2 .beside2 .ensures) (not-false _ (else2 .if2 .left)) (else3 .if3 .left) (sym (after-somebody .somebody .ensures) ∙ not-false _ (else4 .if4 .left))
 
 pub neighbours-spec : {M : Type 1} → statement M
 neighbours-spec =

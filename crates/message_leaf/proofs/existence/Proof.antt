@@ -16,13 +16,15 @@ no-shown-requires c κs = search needs
 abbrev start-from-else1 : tie.Else1 → tie.Start
 start-from-else1 c = c .before .before .before .before
 
+abbrev head-from-else1 : tie.Else1 → tie.After-head
+head-from-else1 c = c .before .before
+
 returns : tie.Need-returns
 returns c =
     shows-none (head-none (c .before .before .before .head .ensures) (not-true _ (c .before .if1 .taken))) (c .no-shown .ensures)
 
 length-right-requires : tie.Need-length-right-requires
-length-right-requires c κs =
-    c .before .before .head .ensures .inside (not-false _ (c .if1 .left)) .key-inside .1
+length-right-requires c κs = head-from-else1 c .head .ensures .inside (not-false _ (c .if1 .left)) .key-inside .1
 
 no-shown-requires-2 : tie.Need-no-shown-requires-2
 no-shown-requires-2 c κs = search needs
@@ -33,13 +35,14 @@ returns-2 c =
     let after-length-right = then2 .before in
     let else1 = after-length-right .before in
     let f = not-false _ (else1 .if1 .left) in
-    let h = else1 .before .before .head in
+    let h = head-from-else1 else1 .head in
     let i = h .ensures .inside f .key-inside in
     shows-none (key-length-wrong (h .ensures) f (length-right-is 256 (h .result .key) (h .result .kstop) (start-from-else1 else1 .args .x .now) (i .1) (i .2) ∙ sym (after-length-right .length-right .ensures) ∙ not-true _ (then2 .if2 .taken))) (c .no-shown2 .ensures)
 
 length-right-requires-2 : tie.Need-length-right-requires-2
 length-right-requires-2 c κs =
-    c .before .before .before .before .head .ensures .inside (not-false _ (c .before .before .if1 .left)) .value-inside .1
+    let else1 = c .before .before in
+    head-from-else1 else1 .head .ensures .inside (not-false _ (else1 .if1 .left)) .value-inside .1
 
 no-shown-requires-3 : tie.Need-no-shown-requires-3
 no-shown-requires-3 c κs = search needs
@@ -53,7 +56,7 @@ returns-3 c =
     let else1 = after-length-right .before in
     let start = start-from-else1 else1 in
     let f = not-false _ (else1 .if1 .left) in
-    let h = else1 .before .before .head in
+    let h = head-from-else1 else1 .head in
     let i = h .ensures .inside f .key-inside in
     let j = h .ensures .inside f .value-inside in
     shows-none (value-length-wrong (h .ensures) f (length-right-is 256 (h .result .key) (h .result .kstop) (start .args .x .now) (i .1) (i .2) ∙ sym (after-length-right .length-right .ensures) ∙ not-false _ (else2 .if2 .left))
@@ -62,7 +65,7 @@ returns-3 c =
 walk-requires : tie.Need-walk-requires
 walk-requires c κs =
     let else1 = c .before .before .before .before in
-    else1 .before .before .head .ensures .inside (not-false _ (else1 .if1 .left)) .path-inside .1
+    head-from-else1 else1 .head .ensures .inside (not-false _ (else1 .if1 .left)) .path-inside .1
 
 no-shown-requires-4 : tie.Need-no-shown-requires-4
 no-shown-requires-4 c κs = search needs
@@ -78,7 +81,7 @@ returns-4 c =
     let else1 = after-length-right .before in
     let start = start-from-else1 else1 in
     let f = not-false _ (else1 .if1 .left) in
-    let h = else1 .before .before .head in
+    let h = head-from-else1 else1 .head in
     let i = h .ensures .inside f .key-inside in
     let j = h .ensures .inside f .value-inside in
     shows-none (no-path (h .ensures) f (length-right-is 256 (h .result .key) (h .result .kstop) (start .args .x .now) (i .1) (i .2) ∙ sym (after-length-right .length-right .ensures) ∙ not-false _ (else2 .if2 .left))
@@ -94,7 +97,7 @@ returns-5 c =
     let else1 = after-length-right .before in
     let start = start-from-else1 else1 in
     let f = not-false _ (else1 .if1 .left) in
-    let h = else1 .before .before .head in
+    let h = head-from-else1 else1 .head in
     let i = h .ensures .inside f .key-inside in
     let j = h .ensures .inside f .value-inside in
     shows-there (h .ensures) f (length-right-is 256 (h .result .key) (h .result .kstop) (start .args .x .now) (i .1) (i .2) ∙ sym (after-length-right .length-right .ensures) ∙ not-false _ (else2 .if2 .left))

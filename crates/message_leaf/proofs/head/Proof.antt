@@ -15,13 +15,19 @@ field-requires c κs = search needs
 no-shown-requires : tie.Need-no-shown-requires
 no-shown-requires c κs = search needs
 
+-- `A-from-B` is the state A as the later state B has it.
+abbrev field-from-else1 : tie.Else1 → tie.After-field
+field-from-else1 c = c .before .before
+
+abbrev field3-from-else3 : tie.Else3 → tie.After-field3
+field3-from-else3 c = c .before .before
+
 returns : tie.Need-returns
 returns c =
     heads-none (no-key (c .before .before .before .field .ensures) (not-true _ (c .before .if1 .taken))) (c .no-shown .ensures)
 
 field-requires-2 : tie.Need-field-requires-2
-field-requires-2 c κs =
-    (c .before .before .field .ensures .inside (not-false _ (c .if1 .left)) .2, omega arith)
+field-requires-2 c κs = (field-from-else1 c .field .ensures .inside (not-false _ (c .if1 .left)) .2, omega arith)
 
 no-shown-requires-2 : tie.Need-no-shown-requires-2
 no-shown-requires-2 c κs = search needs
@@ -31,7 +37,7 @@ returns-2 c =
     let then2 = c .before in
     let after-field2 = then2 .before .before in
     let else1 = after-field2 .before in
-    heads-none (no-value (else1 .before .before .field .ensures) (not-false _ (else1 .if1 .left)) (after-field2 .field2 .ensures) (not-true _ (then2 .if2 .taken))) (c .no-shown2 .ensures)
+    heads-none (no-value (field-from-else1 else1 .field .ensures) (not-false _ (else1 .if1 .left)) (after-field2 .field2 .ensures) (not-true _ (then2 .if2 .taken))) (c .no-shown2 .ensures)
 
 field-requires-3 : tie.Need-field-requires-3
 field-requires-3 c κs =
@@ -47,19 +53,16 @@ returns-3 c =
     let else2 = after-field3 .before in
     let after-field2 = else2 .before .before in
     let else1 = after-field2 .before in
-    heads-none (no-op (else1 .before .before .field .ensures) (not-false _ (else1 .if1 .left)) (after-field2 .field2 .ensures) (not-false _ (else2 .if2 .left)) (after-field3 .field3 .ensures) (not-true _ (then3 .if3 .taken))) (c .no-shown3 .ensures)
+    heads-none (no-op (field-from-else1 else1 .field .ensures) (not-false _ (else1 .if1 .left)) (after-field2 .field2 .ensures) (not-false _ (else2 .if2 .left)) (after-field3 .field3 .ensures) (not-true _ (then3 .if3 .taken))) (c .no-shown3 .ensures)
 
 sub-same : tie.Need-sub-same
-sub-same c =
-    omega (arith, c .before .before .field3 .ensures .inside (not-false _ (c .if3 .left)) .1)
+sub-same c = omega (arith, field3-from-else3 c .field3 .ensures .inside (not-false _ (c .if3 .left)) .1)
 
 part-same-start : tie.Need-part-same-start
-part-same-start c =
-    let i = c .before .before .field3 .ensures .inside (not-false _ (c .if3 .left)) in omega (arith, i .1, i .2)
+part-same-start c = let i = field3-from-else3 c .field3 .ensures .inside (not-false _ (c .if3 .left)) in omega (arith, i .1, i .2)
 
 part-same-end : tie.Need-part-same-end
-part-same-end c =
-    omega (arith, c .before .before .field3 .ensures .inside (not-false _ (c .if3 .left)) .2)
+part-same-end c = omega (arith, field3-from-else3 c .field3 .ensures .inside (not-false _ (c .if3 .left)) .2)
 
 slice-aggregate-same : tie.Need-slice-aggregate-same
 slice-aggregate-same c = search needs

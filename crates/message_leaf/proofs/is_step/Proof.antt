@@ -18,17 +18,24 @@ enum-told-2 c = search needs
 enum-told-3 : tie.Need-enum-told-3
 enum-told-3 c = search needs
 
+-- `A-from-B` is the state A as the later state B has it.
+abbrev start-from-inner-op : tie.After-inner-op → tie.Start
+start-from-inner-op c = c .before .before
+
 returns : tie.Need-returns
 returns c =
-    step-is (c .before .before .inner-op .ensures ∙ ap (stepBy (c .before .before .before .before .args .x .now)) (c .enum-told .given .1))
+    let after-inner-op = c .before .before in
+    step-is (after-inner-op .inner-op .ensures ∙ ap (stepBy (start-from-inner-op after-inner-op .args .x .now)) (c .enum-told .given .1))
 
 returns-2 : tie.Need-returns-2
 returns-2 c =
-    step-is (c .before .before .inner-op .ensures ∙ ap (stepBy (c .before .before .before .before .args .x .now)) (c .enum-told2 .given .1))
+    let after-inner-op = c .before .before in
+    step-is (after-inner-op .inner-op .ensures ∙ ap (stepBy (start-from-inner-op after-inner-op .args .x .now)) (c .enum-told2 .given .1))
 
 returns-3 : tie.Need-returns-3
 returns-3 c =
-    step-none (c .before .before .inner-op .ensures ∙ ap (stepBy (c .before .before .before .before .args .x .now)) (c .enum-told3 .given .1))
+    let after-inner-op = c .before .before in
+    step-none (after-inner-op .inner-op .ensures ∙ ap (stepBy (start-from-inner-op after-inner-op .args .x .now)) (c .enum-told3 .given .1))
 
 pub is-step-spec : {M : Type 1} → statement M
 is-step-spec =

@@ -15,9 +15,14 @@ Inv-loop x from at₀ count₀ at count = Walking x from at count
 abbrev μ-loop : tie.MeasureT-loop
 μ-loop x from at₀ count₀ at count = length x - at
 
+-- `A-from-B` is the state A as the later state B has it.
+abbrev field-from-else2 : tie.Else2 Inv-loop μ-loop → tie.After-field Inv-loop μ-loop
+field-from-else2 c = c .before .before
+
 loop-holds : tie.Need-loop-holds Inv-loop μ-loop
 loop-holds c =
-    walk-start (c .before .args .x .now) (c .before .args .from) (c .before .pre)
+    let start = c .before in
+    walk-start (start .args .x .now) (start .args .from) (start .pre)
 
 no-steps-requires : tie.Need-no-steps-requires Inv-loop μ-loop
 no-steps-requires c κs = search needs
@@ -43,16 +48,15 @@ returns-2 c =
     walks-none (path-no-field (in-loop .before .loop .inv) (in-loop .loop-test .taken) (after-field .field .ensures) (not-true _ (then2 .if2 .taken))) (c .no-steps2 .ensures)
 
 sub-is-step : tie.Need-sub-is-step Inv-loop μ-loop
-sub-is-step c =
-    omega (arith, c .before .before .field .ensures .inside (not-false _ (c .if2 .left)) .1)
+sub-is-step c = omega (arith, field-from-else2 c .field .ensures .inside (not-false _ (c .if2 .left)) .1)
 
 part-is-step-start : tie.Need-part-is-step-start Inv-loop μ-loop
 part-is-step-start c =
-    omega (arith, c .before .before .field .ensures .inside (not-false _ (c .if2 .left)) .1, c .before .before .field .ensures .inside (not-false _ (c .if2 .left)) .2)
+    let after-field = field-from-else2 c in
+    omega (arith, after-field .field .ensures .inside (not-false _ (c .if2 .left)) .1, after-field .field .ensures .inside (not-false _ (c .if2 .left)) .2)
 
 part-is-step-end : tie.Need-part-is-step-end Inv-loop μ-loop
-part-is-step-end c =
-    omega (arith, c .before .before .field .ensures .inside (not-false _ (c .if2 .left)) .2)
+part-is-step-end c = omega (arith, field-from-else2 c .field .ensures .inside (not-false _ (c .if2 .left)) .2)
 
 is-step-requires : tie.Need-is-step-requires Inv-loop μ-loop
 is-step-requires c κs = search needs
@@ -77,7 +81,7 @@ add-count c =
 loop-less : tie.Need-loop-less Inv-loop μ-loop
 loop-less c =
     let else2 = c .before .before .before in
-    let i = else2 .before .before .field .ensures .inside (not-false _ (else2 .if2 .left)) in omega (arith, i .0, i .1, i .2)
+    let i = field-from-else2 else2 .field .ensures .inside (not-false _ (else2 .if2 .left)) in omega (arith, i .0, i .1, i .2)
 
 loop-again : tie.Need-loop-again Inv-loop μ-loop
 unfolding slice

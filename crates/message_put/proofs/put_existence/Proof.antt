@@ -13,15 +13,15 @@ use Rattle.message_put.proofs.put_existence.Statement.{statement}
 use Rattle.message_put.proofs.put_existence.Tie as tie
 
 -- `A-from-B` is the state A as the later state B has it.
-abbrev start-from-put-field : tie.After-put-field → tie.Start
-start-from-put-field c = c .before .before .before .before .before .before
+abbrev start-from-put-field-arg : tie.After-put-field-arg → tie.Start
+start-from-put-field-arg c = c .before .before .before .before .before
 
-abbrev start-from-put-field2 : tie.After-put-field2 → tie.Start
-start-from-put-field2 c = start-from-put-field (c .before .before .before .before)
+abbrev start-from-put-field : tie.After-put-field → tie.Start
+start-from-put-field c = start-from-put-field-arg (c .before)
 
 put-field-requires : tie.Need-put-field-requires
 put-field-requires c κs =
-    let start = c .before .before .before .before .before in
+    let start = start-from-put-field-arg c in
     let a = start .args in
     let l = start .pre .0 .1 in
     ((omega arith, omega (arith, l .key-short)), room-first (messageField 2 (a .value .now) ++ (messageField 3 leafOp ++ path (presenceIn (a .p .now) .steps))) (existence-parts (a .key .now) (a .value .now) (presenceIn (a .p .now)) l) (start .pre .1))
@@ -37,19 +37,21 @@ put-field-requires-2 c κs =
 put-leaf-op-requires : tie.Need-put-leaf-op-requires
 put-leaf-op-requires c κs =
     let after-put-field2 = c .before .before .before in
-    let start = start-from-put-field2 after-put-field2 in
+    let after-put-field = after-put-field2 .before .before .before .before in
+    let start = start-from-put-field after-put-field in
     let a = start .args in
     let l = start .pre .0 .1 in
-    room-third (messageField 3 leafOp) (path (presenceIn (a .p .now) .steps)) (after-put-field2 .before .before .before .before .put-field .ensures) (after-put-field2 .put-field2 .ensures) (existence-parts (a .key .now) (a .value .now) (presenceIn (a .p .now)) l) (start .pre .1)
+    room-third (messageField 3 leafOp) (path (presenceIn (a .p .now) .steps)) (after-put-field .put-field .ensures) (after-put-field2 .put-field2 .ensures) (existence-parts (a .key .now) (a .value .now) (presenceIn (a .p .now)) l) (start .pre .1)
 
 put-path-requires : tie.Need-put-path-requires
 put-path-requires c κs =
     let after-put-leaf-op = c .before .before .before in
     let after-put-field2 = after-put-leaf-op .before .before .before .before in
-    let start = start-from-put-field2 after-put-field2 in
+    let after-put-field = after-put-field2 .before .before .before .before in
+    let start = start-from-put-field after-put-field in
     let a = start .args in
     let l = start .pre .0 .1 in
-    (start .pre .0 .0, room-fourth (messageField 3 leafOp) (path (presenceIn (a .p .now) .steps)) (after-put-field2 .before .before .before .before .put-field .ensures) (after-put-field2 .put-field2 .ensures) (existence-parts (a .key .now) (a .value .now) (presenceIn (a .p .now)) l) (start .pre .1) (after-put-leaf-op .put-leaf-op .ensures))
+    (start .pre .0 .0, room-fourth (messageField 3 leafOp) (path (presenceIn (a .p .now) .steps)) (after-put-field .put-field .ensures) (after-put-field2 .put-field2 .ensures) (existence-parts (a .key .now) (a .value .now) (presenceIn (a .p .now)) l) (start .pre .1) (after-put-leaf-op .put-leaf-op .ensures))
 
 same-length : tie.Need-same-length
 same-length c = search needs
@@ -59,9 +61,10 @@ returns c =
     let after-put-path = c .before .before in
     let after-put-leaf-op = after-put-path .before .before .before .before in
     let after-put-field2 = after-put-leaf-op .before .before .before .before in
-    let start = start-from-put-field2 after-put-field2 in
+    let after-put-field = after-put-field2 .before .before .before .before in
+    let start = start-from-put-field after-put-field in
     let a = start .args in
-    puts-four (messageField 3 leafOp) (path (presenceIn (a .p .now) .steps)) (after-put-field2 .before .before .before .before .put-field .ensures) (after-put-field2 .put-field2 .ensures) (existence-parts (a .key .now) (a .value .now) (presenceIn (a .p .now)) (start .pre .0 .1)) (start .pre .1) (after-put-leaf-op .put-leaf-op .ensures) (after-put-path .put-path .ensures)
+    puts-four (messageField 3 leafOp) (path (presenceIn (a .p .now) .steps)) (after-put-field .put-field .ensures) (after-put-field2 .put-field2 .ensures) (existence-parts (a .key .now) (a .value .now) (presenceIn (a .p .now)) (start .pre .0 .1)) (start .pre .1) (after-put-leaf-op .put-leaf-op .ensures) (after-put-path .put-path .ensures)
 
 pub put-existence-spec : {M : Type 1} → statement M
 put-existence-spec =

@@ -11,15 +11,18 @@ start-from-put-head c = c .before .before .before .before
 abbrev start-from-put-bytes : tie.After-put-bytes → tie.Start
 start-from-put-bytes c = start-from-put-head (c .before .before .before .before)
 
+abbrev start-from-put-head-arg : tie.After-put-head-arg → tie.Start
+start-from-put-head-arg c = c .before .before .before
+
 put-head-requires : tie.Need-put-head-requires
 put-head-requires c κs =
-    let start = c .before .before .before in
+    let start = start-from-put-head-arg c in
     let a = start .args in (start .pre .0, room-first (a .x .now) (field-parts (a .n) (a .x .now) (start .pre .0 .0)) (start .pre .1))
 
 put-bytes-requires : tie.Need-put-bytes-requires
 put-bytes-requires c κs =
     let after-put-head = c .before .before .before in
-    let start = after-put-head .before .before .before .before in
+    let start = start-from-put-head-arg (after-put-head .before) in
     let a = start .args in room-second (after-put-head .put-head .ensures) (field-parts (a .n) (a .x .now) (start .pre .0 .0)) (start .pre .1)
 
 same-length : tie.Need-same-length

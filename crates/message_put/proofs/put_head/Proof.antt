@@ -19,14 +19,16 @@ start-from-put-byte c = c .before .before .before
 abbrev start-from-put-varint : tie.After-put-varint → tie.Start
 start-from-put-varint c = start-from-put-byte (c .before .before .before .before)
 
+abbrev start-from-put-byte-arg : tie.After-put-byte-arg → tie.Start
+start-from-put-byte-arg c = c .before .before
+
 put-byte-requires : tie.Need-put-byte-requires
-put-byte-requires c κs =
-    omega (arith, c .before .before .pre .1 .fits)
+put-byte-requires c κs = omega (arith, start-from-put-byte-arg c .pre .1 .fits)
 
 put-varint-requires : tie.Need-put-varint-requires
 put-varint-requires c κs =
     let after-put-byte = c .before .before .before in
-    let start = after-put-byte .before .before .before in
+    let start = start-from-put-byte-arg (after-put-byte .before) in
     (start .pre .0 .1, room-second (after-put-byte .put-byte .ensures) refl (start .pre .1))
 
 same-length : tie.Need-same-length

@@ -15,9 +15,12 @@ start-from-put-inner-head c = c .before .before .before .before .before
 abbrev start-from-put-bytes : tie.After-put-bytes → tie.Start
 start-from-put-bytes c = start-from-put-inner-head (c .before .before .before .before .before)
 
+abbrev start-from-shared-slice-known2 : tie.After-shared-slice-known2 → tie.Start
+start-from-shared-slice-known2 c = c .before .before .before .before
+
 put-inner-head-requires : tie.Need-put-inner-head-requires
 put-inner-head-requires c κs =
-    let start = c .before .before .before .before in
+    let start = start-from-shared-slice-known2 c in
     room-first (slice 1 32 (start .args .step .now)) (inner-parts (start .args .step .now) (start .pre .0)) (start .pre .1)
 
 sub-put-bytes : tie.Need-sub-put-bytes
@@ -33,7 +36,7 @@ put-bytes-requires : tie.Need-put-bytes-requires
 unfolding slice
 put-bytes-requires c κs =
     let after-put-inner-head = c .before .before .before .before in
-    let start = after-put-inner-head .before .before .before .before .before in
+    let start = start-from-shared-slice-known2 (after-put-inner-head .before) in
     room-second (after-put-inner-head .put-inner-head .ensures) (inner-parts (start .args .step .now) (start .pre .0)) (start .pre .1)
 
 same-length : tie.Need-same-length

@@ -19,12 +19,22 @@ abbrev μ-loop : tie.MeasureT-loop
 μ-loop room₀ at p n next₀ i₀ room next i = n - i
 
 -- `A-from-B` is the state A as the later state B has it.
-abbrev start-from-at-loop : tie.At-loop Inv-loop μ-loop → tie.Start Inv-loop μ-loop
-start-from-at-loop c = c .before .before .before .before
+abbrev get-u16-from-in-loop : tie.In-loop Inv-loop μ-loop → tie.After-get-u16 Inv-loop μ-loop
+get-u16-from-in-loop c = c .before .before
+
+abbrev get-u16-from-loop : tie.After-loop Inv-loop μ-loop → tie.After-get-u16 Inv-loop μ-loop
+get-u16-from-loop c = c .before .before
+
+abbrev start-from-shared-slice-known : tie.After-shared-slice-known Inv-loop μ-loop → tie.Start Inv-loop μ-loop
+start-from-shared-slice-known c = c .before .before
+
+abbrev start-from-get-u16 : tie.After-get-u16 Inv-loop μ-loop → tie.Start Inv-loop μ-loop
+start-from-get-u16 c = start-from-shared-slice-known (c .before)
 
 get-u16-requires : tie.Need-get-u16-requires Inv-loop μ-loop
 get-u16-requires c κs =
-    omega (arith, presence-whole (c .before .before .args .p .now) (c .before .before .pre .0))
+    let start = start-from-shared-slice-known c in
+    omega (arith, presence-whole (start .args .p .now) (start .pre .0))
 
 cast-n : tie.Need-cast-n Inv-loop μ-loop
 cast-n c = omega arith
@@ -50,25 +60,25 @@ sub-put-inner c = omega arith
 
 part-put-inner-start : tie.Need-part-put-inner-start Inv-loop μ-loop
 part-put-inner-start c =
-    let after-get-u16 = c .before .before .before in
-    let start = after-get-u16 .before .before .before in
+    let after-get-u16 = get-u16-from-in-loop (c .before) in
+    let start = start-from-get-u16 after-get-u16 in
     omega (arith, long-enough (start .args .p .now) (after-get-u16 .get-u16 .result) (start .pre .0) (count-read (start .args .p .now) (after-get-u16 .get-u16 .result) (after-get-u16 .get-u16 .ensures)))
 
 part-put-inner-end : tie.Need-part-put-inner-end Inv-loop μ-loop
 part-put-inner-end c =
-    let after-get-u16 = c .before .before .before in
-    let start = after-get-u16 .before .before .before in
+    let after-get-u16 = get-u16-from-in-loop (c .before) in
+    let start = start-from-get-u16 after-get-u16 in
     omega (arith, long-enough (start .args .p .now) (after-get-u16 .get-u16 .result) (start .pre .0) (count-read (start .args .p .now) (after-get-u16 .get-u16 .result) (after-get-u16 .get-u16 .ensures)))
 
 put-inner-requires : tie.Need-put-inner-requires Inv-loop μ-loop
 put-inner-requires c κs =
     let in-loop = c .before .before in
-    let at-loop = in-loop .before in
-    let start = start-from-at-loop at-loop in
+    let after-get-u16 = get-u16-from-in-loop in-loop in
+    let start = start-from-get-u16 after-get-u16 in
     let a = start .args in
-    let e = count-read (a .p .now) (at-loop .before .get-u16 .result) (at-loop .before .get-u16 .ensures) in
-    let long = long-enough (a .p .now) (at-loop .before .get-u16 .result) (start .pre .0) e in
-    inner-room (at-loop .loop .inv) (in-loop .loop-test .taken) long (path-room (a .p .now) (at-loop .before .get-u16 .result) (a .at) (a .room .now) e (start .pre .1))
+    let e = count-read (a .p .now) (after-get-u16 .get-u16 .result) (after-get-u16 .get-u16 .ensures) in
+    let long = long-enough (a .p .now) (after-get-u16 .get-u16 .result) (start .pre .0) e in
+    inner-room (in-loop .before .loop .inv) (in-loop .loop-test .taken) long (path-room (a .p .now) (after-get-u16 .get-u16 .result) (a .at) (a .room .now) e (start .pre .1))
 
 add-i : tie.Need-add-i Inv-loop μ-loop
 add-i c = omega arith
@@ -80,26 +90,26 @@ loop-again : tie.Need-loop-again Inv-loop μ-loop
 loop-again c =
     let after-put-inner = c .before .before in
     let in-loop = after-put-inner .before .before .before in
-    let at-loop = in-loop .before in
-    let start = start-from-at-loop at-loop in
+    let after-get-u16 = get-u16-from-in-loop in-loop in
+    let start = start-from-get-u16 after-get-u16 in
     let a = start .args in
-    let e = count-read (a .p .now) (at-loop .before .get-u16 .result) (at-loop .before .get-u16 .ensures) in
-    let long = long-enough (a .p .now) (at-loop .before .get-u16 .result) (start .pre .0) e in
-    inner-next (at-loop .loop .inv) (in-loop .loop-test .taken) long (path-room (a .p .now) (at-loop .before .get-u16 .result) (a .at) (a .room .now) e (start .pre .1)) (after-put-inner .put-inner .ensures)
+    let e = count-read (a .p .now) (after-get-u16 .get-u16 .result) (after-get-u16 .get-u16 .ensures) in
+    let long = long-enough (a .p .now) (after-get-u16 .get-u16 .result) (start .pre .0) e in
+    inner-next (in-loop .before .loop .inv) (in-loop .loop-test .taken) long (path-room (a .p .now) (after-get-u16 .get-u16 .result) (a .at) (a .room .now) e (start .pre .1)) (after-put-inner .put-inner .ensures)
 
 same-length : tie.Need-same-length Inv-loop μ-loop
 same-length c =
-    let at-loop = c .before in
-    let start = start-from-at-loop at-loop in
+    let after-get-u16 = get-u16-from-loop c in
+    let start = start-from-get-u16 after-get-u16 in
     let a = start .args in
-    let e = count-read (a .p .now) (at-loop .before .get-u16 .result) (at-loop .before .get-u16 .ensures) in
-    puts-length (pathing-done (at-loop .loop .inv) (c .loop-test .left) e) (start .pre .1 .fits)
+    let e = count-read (a .p .now) (after-get-u16 .get-u16 .result) (after-get-u16 .get-u16 .ensures) in
+    puts-length (pathing-done (c .before .loop .inv) (c .loop-test .left) e) (start .pre .1 .fits)
 
 returns : tie.Need-returns Inv-loop μ-loop
 returns c =
-    let at-loop = c .before in
-    let e = count-read (start-from-at-loop at-loop .args .p .now) (at-loop .before .get-u16 .result) (at-loop .before .get-u16 .ensures) in
-    pathing-done (at-loop .loop .inv) (c .loop-test .left) e
+    let after-get-u16 = get-u16-from-loop c in
+    let e = count-read (start-from-get-u16 after-get-u16 .args .p .now) (after-get-u16 .get-u16 .result) (after-get-u16 .get-u16 .ensures) in
+    pathing-done (c .before .loop .inv) (c .loop-test .left) e
 
 pub put-path-spec : {M : Type 1} → statement M
 put-path-spec =

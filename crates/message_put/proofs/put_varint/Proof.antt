@@ -21,6 +21,9 @@ start-from-low c = c .before .before .before .before
 abbrev start-from-put-byte2 : tie.After-put-byte2 → tie.Start
 start-from-put-byte2 c = start-from-low (c .before)
 
+abbrev else1-from-put-byte2 : tie.After-put-byte2 → tie.Else1
+else1-from-put-byte2 c = c .before .before .before
+
 put-byte-requires : tie.Need-put-byte-requires
 put-byte-requires c κs =
     let start = c .before .before .before in
@@ -40,7 +43,7 @@ low-requires c κs = search needs
 
 put-byte-requires-2 : tie.Need-put-byte-requires-2
 put-byte-requires-2 c κs =
-    let start = c .before .before .before .before in
+    let start = start-from-low c in
     low-byte (start .args .x) (start .pre .1)
 
 cast-put-byte-2 : tie.Need-cast-put-byte-2
@@ -51,11 +54,10 @@ put-byte-requires-3 : tie.Need-put-byte-requires-3
 put-byte-requires-3 c κs =
     let then2 = c .before in
     let after-put-byte2 = then2 .before .before .before in
-    let after-low = after-put-byte2 .before in
-    let start = start-from-low after-low in
+    let start = start-from-put-byte2 after-put-byte2 in
     let a = start .args in
-    let e = after-low .low .ensures in
-    let k = room-second {g = a .x / 128 ∷ []} (rw e at (after-put-byte2 .put-byte2 .ensures)) (varint-two (a .x) (after-low .before .before .if1 .left) (then2 .if2 .taken)) (start .pre .1) in omega (arith, k .fits)
+    let e = after-put-byte2 .before .low .ensures in
+    let k = room-second {g = a .x / 128 ∷ []} (rw e at (after-put-byte2 .put-byte2 .ensures)) (varint-two (a .x) (else1-from-put-byte2 after-put-byte2 .if1 .left) (then2 .if2 .taken)) (start .pre .1) in omega (arith, k .fits)
 
 same-length-2 : tie.Need-same-length-2
 same-length-2 c = search needs
@@ -65,11 +67,10 @@ returns-2 c =
     let after-put-byte3 = c .before .before in
     let then2 = after-put-byte3 .before .before in
     let after-put-byte2 = then2 .before .before .before in
-    let after-low = after-put-byte2 .before in
-    let start = start-from-low after-low in
+    let start = start-from-put-byte2 after-put-byte2 in
     let a = start .args in
-    let e = after-low .low .ensures in
-    puts-two (rw e at (after-put-byte2 .put-byte2 .ensures)) (after-put-byte3 .put-byte3 .ensures) (varint-two (a .x) (after-low .before .before .if1 .left) (then2 .if2 .taken)) (start .pre .1)
+    let e = after-put-byte2 .before .low .ensures in
+    puts-two (rw e at (after-put-byte2 .put-byte2 .ensures)) (after-put-byte3 .put-byte3 .ensures) (varint-two (a .x) (else1-from-put-byte2 after-put-byte2 .if1 .left) (then2 .if2 .taken)) (start .pre .1)
 
 low-requires-2 : tie.Need-low-requires-2
 low-requires-2 c κs = search needs

@@ -24,9 +24,6 @@ flag-requires-2 : tie.Need-flag-requires-2
 flag-requires-2 c κs = search needs
 
 -- `A-from-B` is the state A as the later state B has it.
-abbrev put-u32-from-put-u16 : tie.After-put-u16 → tie.After-put-u32
-put-u32-from-put-u16 c = c .before .before .before .before
-
 abbrev start-from-flag : tie.After-flag → tie.Start
 start-from-flag c = c .before .before .before .before .before
 
@@ -36,14 +33,32 @@ start-from-flag2 c = start-from-flag (c .before)
 abbrev start-from-neighbour-size : tie.After-neighbour-size → tie.Start
 start-from-neighbour-size c = start-from-flag2 (c .before .before)
 
-abbrev start-from-put-u32 : tie.After-put-u32 → tie.Start
-start-from-put-u32 c = start-from-neighbour-size (c .before .before)
+abbrev neighbour-size-from-put-u32 : tie.After-put-u32 → tie.After-neighbour-size
+neighbour-size-from-put-u32 c = c .before .before
+
+abbrev put-u32-from-put-u16-arg : tie.After-put-u16-arg → tie.After-put-u32
+put-u32-from-put-u16-arg c = c .before .before .before
+
+abbrev start-from-absence-size : tie.After-absence-size → tie.Start
+start-from-absence-size c = start-from-flag2 (c .before)
+
+abbrev start-from-put-u32-arg : tie.After-put-u32-arg → tie.Start
+start-from-put-u32-arg c = start-from-absence-size (c .before .before)
+
+abbrev start-from-put-u16-arg : tie.After-put-u16-arg → tie.Start
+start-from-put-u16-arg c = start-from-put-u32-arg (c .before .before .before .before)
+
+abbrev put-u32-from-put-u16 : tie.After-put-u16 → tie.After-put-u32
+put-u32-from-put-u16 c = put-u32-from-put-u16-arg (c .before)
 
 abbrev start-from-put-u16 : tie.After-put-u16 → tie.Start
-start-from-put-u16 c = start-from-put-u32 (c .before .before .before .before)
+start-from-put-u16 c = start-from-put-u16-arg (c .before)
 
-abbrev start-from-put-u162 : tie.After-put-u162 → tie.Start
-start-from-put-u162 c = start-from-put-u16 (c .before .before .before .before)
+abbrev start-from-slice-known3 : tie.After-slice-known3 → tie.Start
+start-from-slice-known3 c = start-from-put-u16 (c .before .before)
+
+abbrev start-from-put-digest-arg : tie.After-put-digest-arg → tie.Start
+start-from-put-digest-arg c = start-from-slice-known3 (c .before .before .before .before .before)
 
 add-flags : tie.Need-add-flags
 add-flags c =
@@ -63,19 +78,18 @@ add-after c = omega (arith, c .neighbour-size .ensures, few-bytes (start-from-ne
 
 cast-put-u32 : tie.Need-cast-put-u32
 cast-put-u32 c =
-    let start = start-from-neighbour-size (c .before) in
+    let start = start-from-put-u32-arg c in
     omega (arith, c .before .before .absence-size .ensures, size-is (start .args .a), few-bytes (start .pre .0 .left-ready), few-bytes (start .pre .0 .right-ready))
 
 put-u32-requires : tie.Need-put-u32-requires
 put-u32-requires c κs =
-    let start = start-from-neighbour-size (c .before) in
+    let start = start-from-put-u32-arg c in
     omega (arith, size-is (start .args .a), start .pre .1)
 
 put-u16-requires : tie.Need-put-u16-requires
 put-u16-requires c κs =
-    let after-put-u32 = c .before .before .before in
-    let start = start-from-put-u32 after-put-u32 in
-    omega (arith, size-is (start .args .a), start .pre .1, after-put-u32 .put-u32 .kept .0)
+    let start = start-from-put-u16-arg c in
+    omega (arith, size-is (start .args .a), start .pre .1, put-u32-from-put-u16-arg c .put-u32 .kept .0)
 
 put-u16-requires-2 : tie.Need-put-u16-requires-2
 put-u16-requires-2 c κs =
@@ -84,15 +98,15 @@ put-u16-requires-2 c κs =
     omega (arith, size-is (start .args .a), start .pre .1, put-u32-from-put-u16 after-put-u16 .put-u32 .kept .0, after-put-u16 .put-u16 .kept .0)
 
 sub-put-digest : tie.Need-sub-put-digest
-sub-put-digest c = omega (arith, start-from-put-u162 (c .before .before .before) .pre .0 .key-in .0)
+sub-put-digest c = omega (arith, start-from-put-digest-arg c .pre .0 .key-in .0)
 
 part-put-digest-start : tie.Need-part-put-digest-start
 part-put-digest-start c =
-    let start = start-from-put-u162 (c .before .before .before) in
+    let start = start-from-put-digest-arg c in
     omega (arith, start .pre .0 .key-in .0, start .pre .0 .key-in .1)
 
 part-put-digest-end : tie.Need-part-put-digest-end
-part-put-digest-end c = omega (arith, start-from-put-u162 (c .before .before .before) .pre .0 .key-in .1)
+part-put-digest-end c = omega (arith, start-from-put-digest-arg c .pre .0 .key-in .1)
 
 put-digest-requires : tie.Need-put-digest-requires
 put-digest-requires c κs =
@@ -109,9 +123,7 @@ part-put-neighbour-start c =
     omega arith
 
 part-put-neighbour-end : tie.Need-part-put-neighbour-end
-part-put-neighbour-end c =
-    let after-put-digest = c .before .before .before in
-    omega (arith, start-from-put-u162 (after-put-digest .before .before .before .before .before) .pre .0 .middle-in)
+part-put-neighbour-end c = omega (arith, start-from-put-digest-arg (c .before .before .before .before .before) .pre .0 .middle-in)
 
 put-neighbour-requires : tie.Need-put-neighbour-requires
 put-neighbour-requires c κs =
@@ -128,10 +140,9 @@ put-neighbour-requires-2 c κs =
     let after-put-digest = after-put-neighbour .before .before .before .before .before in
     let after-put-u162 = after-put-digest .before .before .before .before .before in
     let after-put-u16 = after-put-u162 .before .before .before .before in
-    let after-put-u32 = after-put-u16 .before .before .before .before in
-    let start = start-from-put-u32 after-put-u32 in
+    let start = start-from-put-u16 after-put-u16 in
     let a = start .args in
-    (start .pre .0 .right-ready, omega (arith, size-is (a .a), start .pre .1, after-put-u32 .before .before .neighbour-size .ensures, after-put-u32 .put-u32 .kept .0, after-put-u16 .put-u16 .kept .0, after-put-u162 .put-u162 .kept .0, after-put-digest .put-digest .kept .0, after-put-neighbour .put-neighbour .kept .0))
+    (start .pre .0 .right-ready, omega (arith, size-is (a .a), start .pre .1, neighbour-size-from-put-u32 (after-put-u16 .before .before .before .before) .neighbour-size .ensures, put-u32-from-put-u16 after-put-u16 .put-u32 .kept .0, after-put-u16 .put-u16 .kept .0, after-put-u162 .put-u162 .kept .0, after-put-digest .put-digest .kept .0, after-put-neighbour .put-neighbour .kept .0))
 
 same-length : tie.Need-same-length
 same-length c =
@@ -151,7 +162,7 @@ returns c =
     let after-put-u162 = after-put-digest .before .before .before .before .before in
     let after-put-u16 = after-put-u162 .before .before .before .before in
     let after-put-u32 = put-u32-from-put-u16 after-put-u16 in
-    let after-neighbour-size = after-put-u32 .before .before in
+    let after-neighbour-size = neighbour-size-from-put-u32 after-put-u32 in
     let after-absence-size = after-neighbour-size .before in
     let after-flag2 = after-absence-size .before in
     let after-flag = after-flag2 .before in

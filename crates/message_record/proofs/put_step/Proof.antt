@@ -14,12 +14,18 @@ use Rattle.message_record.proofs.put_step.Tie as tie
 abbrev side-from-copy : tie.After-copy → tie.After-side
 side-from-copy c = c .before .before .before
 
+abbrev copy-from-slice-known2 : tie.After-slice-known2 → tie.After-copy
+copy-from-slice-known2 c = c .before .before
+
+abbrev start-from-shared-slice-known : tie.After-shared-slice-known → tie.Start
+start-from-shared-slice-known c = c .before .before
+
 abbrev start-from-side : tie.After-side → tie.Start
-start-from-side c = c .before .before .before
+start-from-side c = start-from-shared-slice-known (c .before)
 
 sub-from : tie.Need-sub-from
 sub-from c =
-    let start = c .before .before in
+    let start = start-from-shared-slice-known c in
     omega (arith, sided (start .args .op .now) (start .pre .0 .0) (start .pre .0 .1) .long .0)
 
 add-start : tie.Need-add-start
@@ -60,7 +66,7 @@ copy-requires c κs =
 
 same-length : tie.Need-same-length
 same-length c =
-    let after-copy = c .before .before in
+    let after-copy = copy-from-slice-known2 c in
     let after-side = side-from-copy after-copy in
     let start = start-from-side after-side in
     let a = start .args in
@@ -71,7 +77,7 @@ same-length c =
 
 returns : tie.Need-returns
 returns c =
-    let after-copy = c .before .before in
+    let after-copy = copy-from-slice-known2 c in
     let after-side = side-from-copy after-copy in
     let start = start-from-side after-side in
     let a = start .args in

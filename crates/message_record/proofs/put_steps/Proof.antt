@@ -13,12 +13,15 @@ abbrev μ-loop : tie.MeasureT-loop
 μ-loop room₀ at x path count from₀ to₀ i₀ room from to i = count - i
 
 -- `A-from-B` is the state A as the later state B has it.
+abbrev start-from-shared-slice-known : tie.After-shared-slice-known Inv-loop μ-loop → tie.Start Inv-loop μ-loop
+start-from-shared-slice-known c = c .before .before
+
 abbrev start-from-at-loop : tie.At-loop Inv-loop μ-loop → tie.Start Inv-loop μ-loop
-start-from-at-loop c = c .before .before .before
+start-from-at-loop c = start-from-shared-slice-known (c .before)
 
 loop-holds : tie.Need-loop-holds Inv-loop μ-loop
 loop-holds c =
-    let start = c .before .before in
+    let start = start-from-shared-slice-known c in
     (stepping-start (start .args .x .now) (start .args .path) (start .args .at) (start .args .room .now) (start .pre .0), omega arith)
 
 field-requires : tie.Need-field-requires Inv-loop μ-loop

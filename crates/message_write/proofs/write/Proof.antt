@@ -12,14 +12,11 @@ is-presence-requires : tie.Need-is-presence-requires
 is-presence-requires c κs = search needs
 
 -- `A-from-B` is the state A as the later state B has it.
+abbrev start-from-shared-slice-known3 : tie.After-shared-slice-known3 → tie.Start
+start-from-shared-slice-known3 c = c .before .before .before
+
 abbrev start-from-is-presence : tie.After-is-presence → tie.Start
-start-from-is-presence c = c .before .before .before .before .before .before .before .before
-
-abbrev start-from-then1 : tie.Then1 → tie.Start
-start-from-then1 c = start-from-is-presence (c .before)
-
-abbrev start-from-else1 : tie.Else1 → tie.Start
-start-from-else1 c = start-from-is-presence (c .before)
+start-from-is-presence c = start-from-shared-slice-known3 (c .before .before .before .before .before)
 
 write-presence-requires : tie.Need-write-presence-requires
 write-presence-requires c κs =
@@ -32,8 +29,9 @@ returns : tie.Need-returns
 returns c =
     let after-write-presence = c .before .before in
     let then1 = after-write-presence .before .before in
-    let a = start-from-then1 then1 .args in
-    writes-same (is-presence (a .p .now) (lent (a .asked .now) (leaf (a .key1 .now) (a .value1 .now)) (leaf (a .key2 .now) (a .value2 .now))) (length (a .room .now)) (sym (then1 .before .is-presence .ensures) ∙ then1 .if1 .taken)) (after-write-presence .write-presence .ensures)
+    let after-is-presence = then1 .before in
+    let a = start-from-is-presence after-is-presence .args in
+    writes-same (is-presence (a .p .now) (lent (a .asked .now) (leaf (a .key1 .now) (a .value1 .now)) (leaf (a .key2 .now) (a .value2 .now))) (length (a .room .now)) (sym (after-is-presence .is-presence .ensures) ∙ then1 .if1 .taken)) (after-write-presence .write-presence .ensures)
 
 is-absence-requires : tie.Need-is-absence-requires
 is-absence-requires c κs = search needs
@@ -51,15 +49,17 @@ returns-2 c =
     let then2 = after-write-absence .before .before in
     let after-is-absence = then2 .before in
     let else1 = after-is-absence .before in
-    let a = start-from-else1 else1 .args in
-    writes-same (is-absence (a .p .now) (lent (a .asked .now) (leaf (a .key1 .now) (a .value1 .now)) (leaf (a .key2 .now) (a .value2 .now))) (length (a .room .now)) (sym (else1 .before .is-presence .ensures) ∙ else1 .if1 .left) (sym (after-is-absence .is-absence .ensures) ∙ then2 .if2 .taken)) (after-write-absence .write-absence .ensures)
+    let after-is-presence = else1 .before in
+    let a = start-from-is-presence after-is-presence .args in
+    writes-same (is-absence (a .p .now) (lent (a .asked .now) (leaf (a .key1 .now) (a .value1 .now)) (leaf (a .key2 .now) (a .value2 .now))) (length (a .room .now)) (sym (after-is-presence .is-presence .ensures) ∙ else1 .if1 .left) (sym (after-is-absence .is-absence .ensures) ∙ then2 .if2 .taken)) (after-write-absence .write-absence .ensures)
 
 returns-3 : tie.Need-returns-3
 returns-3 c =
     let after-is-absence = c .before in
     let else1 = after-is-absence .before in
-    let a = start-from-else1 else1 .args in
-    not-in-form (a .p .now) (lent (a .asked .now) (leaf (a .key1 .now) (a .value1 .now)) (leaf (a .key2 .now) (a .value2 .now))) (a .room .now) (sym (else1 .before .is-presence .ensures) ∙ else1 .if1 .left) (sym (after-is-absence .is-absence .ensures) ∙ c .if2 .left)
+    let after-is-presence = else1 .before in
+    let a = start-from-is-presence after-is-presence .args in
+    not-in-form (a .p .now) (lent (a .asked .now) (leaf (a .key1 .now) (a .value1 .now)) (leaf (a .key2 .now) (a .value2 .now))) (a .room .now) (sym (after-is-presence .is-presence .ensures) ∙ else1 .if1 .left) (sym (after-is-absence .is-absence .ensures) ∙ c .if2 .left)
 
 pub write-spec : {M : Type 1} → statement M
 write-spec =

@@ -20,18 +20,24 @@ start-from-hashes-to c = c .before .before .before .before .before .before .befo
 abbrev start-from-then1 : tie.Then1 → tie.Start
 start-from-then1 c = start-from-hashes-to (c .before)
 
+abbrev get-u32-from-write-neighbours-arg3 : tie.After-write-neighbours-arg3 → tie.After-get-u32
+get-u32-from-write-neighbours-arg3 c = c .before .before .before
+
+abbrev start-from-shared-slice-known2 : tie.After-shared-slice-known2 → tie.Start
+start-from-shared-slice-known2 c = c .before .before
+
+abbrev start-from-slice-known : tie.After-slice-known → tie.Start
+start-from-slice-known c = start-from-shared-slice-known2 (c .before .before .before .before .before)
+
 abbrev start-from-else1 : tie.Else1 → tie.Start
-start-from-else1 c = start-from-hashes-to (c .before)
+start-from-else1 c = start-from-slice-known (c .before .before)
 
 abbrev start-from-else2 : tie.Else2 → tie.Start
 start-from-else2 c = start-from-else1 (c .before .before)
 
-abbrev start-from-get-u32 : tie.After-get-u32 → tie.Start
-start-from-get-u32 c = start-from-else2 (c .before)
-
 hashes-to-requires : tie.Need-hashes-to-requires
 hashes-to-requires c κs =
-    let start = c .before .before .before .before .before .before .before in
+    let start = start-from-slice-known c in
     omega (arith, absence-head (start .args .p .now) (start .pre))
 
 returns : tie.Need-returns
@@ -41,7 +47,7 @@ returns c = let a = start-from-then1 c .args in
 
 get-u16-requires : tie.Need-get-u16-requires
 get-u16-requires c κs =
-    let start = start-from-hashes-to (c .before) in
+    let start = start-from-else1 c in
     omega (arith, absence-head (start .args .p .now) (start .pre))
 
 write-one-requires : tie.Need-write-one-requires
@@ -78,8 +84,9 @@ part-write-neighbours-start c = search needs
 
 part-write-neighbours-end : tie.Need-part-write-neighbours-end
 part-write-neighbours-end c =
-    let start = start-from-get-u32 c in
-    let two : 2 < flags (start .args .p .now) = omega (arith, flags-read (start .args .p .now) (c .before .before .get-u16 .ensures), c .before .if2 .left) in
+    let else2 = c .before in
+    let start = start-from-else2 else2 in
+    let two : 2 < flags (start .args .p .now) = omega (arith, flags-read (start .args .p .now) (else2 .before .get-u16 .ensures), else2 .if2 .left) in
     omega (arith, both-room (start .args .p .now) (start .pre) two, length-read (start .args .p .now) (c .get-u32 .ensures))
 
 sub-write-neighbours-2 : tie.Need-sub-write-neighbours-2
@@ -103,7 +110,7 @@ part-write-neighbours-end-2 c = search needs
 
 write-neighbours-requires : tie.Need-write-neighbours-requires
 write-neighbours-requires c κs =
-    let after-get-u32 = c .before .before .before in
+    let after-get-u32 = get-u32-from-write-neighbours-arg3 c in
     let else2 = after-get-u32 .before in
     let after-get-u16 = else2 .before in
     let else1 = after-get-u16 .before in
@@ -119,7 +126,7 @@ same-length-2 c = search needs
 returns-3 : tie.Need-returns-3
 returns-3 c =
     let after-write-neighbours = c .before .before in
-    let after-get-u32 = after-write-neighbours .before .before .before .before in
+    let after-get-u32 = get-u32-from-write-neighbours-arg3 (after-write-neighbours .before) in
     let else2 = after-get-u32 .before in
     let after-get-u16 = else2 .before in
     let else1 = after-get-u16 .before in

@@ -14,18 +14,15 @@ use Rattle.message_write.proofs.write_exist.Statement.{statement}
 use Rattle.message_write.proofs.write_exist.Tie as tie
 
 -- `A-from-B` is the state A as the later state B has it.
-abbrev start-from-existence-size : tie.After-existence-size → tie.Start
-start-from-existence-size c = c .before .before .before .before .before
+abbrev start-from-slice-known : tie.After-slice-known → tie.Start
+start-from-slice-known c = c .before .before .before .before
 
 abbrev start-from-field-size : tie.After-field-size → tie.Start
-start-from-field-size c = start-from-existence-size (c .before)
-
-abbrev start-from-then1 : tie.Then1 → tie.Start
-start-from-then1 c = start-from-field-size (c .before)
+start-from-field-size c = start-from-slice-known (c .before .before)
 
 existence-size-requires : tie.Need-existence-size-requires
 existence-size-requires c κs =
-    let start = c .before .before .before .before in
+    let start = start-from-slice-known c in
     (start .pre .0, start .pre .1 .key-short, start .pre .1 .value-short)
 
 field-size-requires : tie.Need-field-size-requires
@@ -34,9 +31,10 @@ field-size-requires c κs =
 
 returns : tie.Need-returns
 returns c =
-    let start = start-from-then1 c in
+    let after-field-size = c .before in
+    let start = start-from-field-size after-field-size in
     let a = start .args in
-    let e = exist-total (a .key .now) (a .value .now) (presenceIn (a .p .now)) (start .pre .1) (c .before .before .existence-size .ensures .0) (c .before .field-size .ensures .0) in
+    let e = exist-total (a .key .now) (a .value .now) (presenceIn (a .p .now)) (start .pre .1) (after-field-size .before .existence-size .ensures .0) (after-field-size .field-size .ensures .0) in
     writes-no-room (presence (rawPresence (leaf (a .key .now) (a .value .now)) (presenceIn (a .p .now)))) (a .room .now) (omega (arith, e, c .if1 .taken))
 
 put-head-requires : tie.Need-put-head-requires
@@ -64,7 +62,9 @@ put-existence-requires c κs =
 
 cast-t15 : tie.Need-cast-t15
 cast-t15 c =
-    let after-field-size = c .before .before .before .before .before .before .before .before .before in
+    let after-put-existence-arg = c .before .before .before in
+    let else1 = after-put-existence-arg .before .before .before .before .before in
+    let after-field-size = else1 .before in
     omega (arith, after-field-size .before .existence-size .ensures .1, after-field-size .field-size .ensures .1)
 
 same-length : tie.Need-same-length

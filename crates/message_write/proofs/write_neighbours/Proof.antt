@@ -15,12 +15,17 @@ start-from-neighbour-fits c = c .before .before .before .before .before .before 
 abbrev start-from-then1 : tie.Then1 → tie.Start
 start-from-then1 c = start-from-neighbour-fits (c .before)
 
+abbrev start-from-shared-slice-known3 : tie.After-shared-slice-known3 → tie.Start
+start-from-shared-slice-known3 c = c .before .before .before
+
+abbrev start-from-slice-known : tie.After-slice-known → tie.Start
+start-from-slice-known c = start-from-shared-slice-known3 (c .before .before .before .before .before)
+
 abbrev start-from-else1 : tie.Else1 → tie.Start
-start-from-else1 c = start-from-neighbour-fits (c .before)
+start-from-else1 c = start-from-slice-known (c .before .before)
 
 neighbour-fits-requires : tie.Need-neighbour-fits-requires
-neighbour-fits-requires c κs =
-    c .before .before .before .before .before .before .before .before .pre .1 .0
+neighbour-fits-requires c κs = start-from-slice-known c .pre .1 .0
 
 returns : tie.Need-returns
 returns c =
@@ -28,7 +33,7 @@ returns c =
     writes-15 (first-off (start .args .room .now) (besides (start .args .asked .now) (leaf (start .args .lkey .now) (start .args .lvalue .now)) (recordIn (start .args .left .now)) (leaf (start .args .rkey .now) (start .args .rvalue .now)) (recordIn (start .args .right .now))) (neighbourFits (leaf (start .args .rkey .now) (start .args .rvalue .now)) (recordIn (start .args .right .now))) (sym (c .before .neighbour-fits .ensures) ∙ not-true _ (c .if1 .taken)))
 
 neighbour-fits-requires-2 : tie.Need-neighbour-fits-requires-2
-neighbour-fits-requires-2 c κs = start-from-neighbour-fits (c .before) .pre .1 .1
+neighbour-fits-requires-2 c κs = start-from-else1 c .pre .1 .1
 
 returns-2 : tie.Need-returns-2
 returns-2 c =

@@ -15,8 +15,26 @@ use Rattle.message_write.proofs.write_nonexist.Statement.{statement}
 use Rattle.message_write.proofs.write_nonexist.Tie as tie
 
 -- `A-from-B` is the state A as the later state B has it.
+abbrev field-size-from-neighbour-size2 : tie.After-neighbour-size2 → tie.After-field-size
+field-size-from-neighbour-size2 c = c .before .before
+
+abbrev field-size2-from-put-head-arg : tie.After-put-head-arg → tie.After-field-size2
+field-size2-from-put-head-arg c = c .before .before
+
+abbrev field-size2-from-put-head : tie.After-put-head → tie.After-field-size2
+field-size2-from-put-head c = field-size2-from-put-head-arg (c .before)
+
+abbrev else1-from-put-head : tie.After-put-head → tie.Else1
+else1-from-put-head c = c .before .before
+
+abbrev start-from-shared-slice-known3 : tie.After-shared-slice-known3 → tie.Start
+start-from-shared-slice-known3 c = c .before .before .before
+
+abbrev start-from-slice-known : tie.After-slice-known → tie.Start
+start-from-slice-known c = start-from-shared-slice-known3 (c .before .before .before .before .before)
+
 abbrev start-from-field-size : tie.After-field-size → tie.Start
-start-from-field-size c = c .before .before .before .before .before .before .before .before .before
+start-from-field-size c = start-from-slice-known (c .before)
 
 abbrev start-from-neighbour-size : tie.After-neighbour-size → tie.Start
 start-from-neighbour-size c = start-from-field-size (c .before)
@@ -25,8 +43,7 @@ abbrev start-from-neighbour-size2 : tie.After-neighbour-size2 → tie.Start
 start-from-neighbour-size2 c = start-from-neighbour-size (c .before)
 
 field-size-requires : tie.Need-field-size-requires
-field-size-requires c κs =
-    omega (arith, c .before .before .before .before .before .before .before .before .pre .0 .1)
+field-size-requires c κs = omega (arith, start-from-slice-known c .pre .0 .1)
 
 neighbour-size-requires : tie.Need-neighbour-size-requires
 neighbour-size-requires c κs = let l = start-from-field-size c .pre .1 .0 in (l .0, λ h. (l .1 h .key-short, l .1 h .value-short))
@@ -38,10 +55,10 @@ neighbour-size-requires-2 : tie.Need-neighbour-size-requires-2
 neighbour-size-requires-2 c κs = let l = start-from-neighbour-size c .pre .1 .1 in (l .0, λ h. (l .1 h .key-short, l .1 h .value-short))
 
 add-size-2 : tie.Need-add-size-2
-add-size-2 c = omega (arith, c .before .before .field-size .ensures .1, c .before .neighbour-size .ensures .1, c .neighbour-size2 .ensures .1, start-from-neighbour-size2 c .pre .0 .1)
+add-size-2 c = omega (arith, field-size-from-neighbour-size2 c .field-size .ensures .1, c .before .neighbour-size .ensures .1, c .neighbour-size2 .ensures .1, start-from-neighbour-size2 c .pre .0 .1)
 
 field-size-requires-2 : tie.Need-field-size-requires-2
-field-size-requires-2 c κs = omega (arith, c .before .before .field-size .ensures .1, c .before .neighbour-size .ensures .1, c .neighbour-size2 .ensures .1, start-from-neighbour-size2 c .pre .0 .1)
+field-size-requires-2 c κs = omega (arith, field-size-from-neighbour-size2 c .field-size .ensures .1, c .before .neighbour-size .ensures .1, c .neighbour-size2 .ensures .1, start-from-neighbour-size2 c .pre .0 .1)
 
 returns : tie.Need-returns
 returns c =
@@ -69,47 +86,41 @@ put-head-requires c κs =
 put-field-requires : tie.Need-put-field-requires
 put-field-requires c κs =
     let after-put-head = c .before .before .before in
-    let else1 = after-put-head .before .before in
-    let after-field-size2 = else1 .before in
+    let after-field-size2 = field-size2-from-put-head after-put-head in
     let after-neighbour-size2 = after-field-size2 .before in
-    let after-neighbour-size = after-neighbour-size2 .before in
-    let after-field-size = after-neighbour-size .before in
+    let after-field-size = field-size-from-neighbour-size2 after-neighbour-size2 in
     let start = start-from-field-size after-field-size in
     let a = start .args in
-    let e = nonexist-total (a .asked .now) (start .pre .0 .0) (a .lkey .now) (a .lvalue .now) (a .left .now) (a .rkey .now) (a .rvalue .now) (a .right .now) (start .pre .1 .0) (start .pre .1 .1) (after-field-size .field-size .ensures .0) (after-neighbour-size .neighbour-size .ensures .0) (after-neighbour-size2 .neighbour-size2 .ensures .0) (after-field-size2 .field-size2 .ensures .0) in
-    let w = nonexist-parts (a .asked .now) (start .pre .0 .0) (a .lkey .now) (a .lvalue .now) (a .left .now) (a .rkey .now) (a .rvalue .now) (a .right .now) (start .pre .1 .0) (start .pre .1 .1) (after-field-size .field-size .ensures .0) (after-neighbour-size .neighbour-size .ensures .0) (after-neighbour-size2 .neighbour-size2 .ensures .0) (after-field-size2 .field-size2 .ensures .0) in
-    ((omega arith, omega (arith, start .pre .0 .1)), room-first (neighbourField 2 (rawNeighbour (leaf (a .lkey .now) (a .lvalue .now)) (recordIn (a .left .now))) ++ neighbourField 3 (rawNeighbour (leaf (a .rkey .now) (a .rvalue .now)) (recordIn (a .right .now)))) refl (room-second (after-put-head .put-head .ensures) w (record { fits = omega (arith, e, else1 .if1 .left) })))
+    let e = nonexist-total (a .asked .now) (start .pre .0 .0) (a .lkey .now) (a .lvalue .now) (a .left .now) (a .rkey .now) (a .rvalue .now) (a .right .now) (start .pre .1 .0) (start .pre .1 .1) (after-field-size .field-size .ensures .0) (after-neighbour-size2 .before .neighbour-size .ensures .0) (after-neighbour-size2 .neighbour-size2 .ensures .0) (after-field-size2 .field-size2 .ensures .0) in
+    let w = nonexist-parts (a .asked .now) (start .pre .0 .0) (a .lkey .now) (a .lvalue .now) (a .left .now) (a .rkey .now) (a .rvalue .now) (a .right .now) (start .pre .1 .0) (start .pre .1 .1) (after-field-size .field-size .ensures .0) (after-neighbour-size2 .before .neighbour-size .ensures .0) (after-neighbour-size2 .neighbour-size2 .ensures .0) (after-field-size2 .field-size2 .ensures .0) in
+    ((omega arith, omega (arith, start .pre .0 .1)), room-first (neighbourField 2 (rawNeighbour (leaf (a .lkey .now) (a .lvalue .now)) (recordIn (a .left .now))) ++ neighbourField 3 (rawNeighbour (leaf (a .rkey .now) (a .rvalue .now)) (recordIn (a .right .now)))) refl (room-second (after-put-head .put-head .ensures) w (record { fits = omega (arith, e, else1-from-put-head after-put-head .if1 .left) })))
 
 put-neighbour-requires : tie.Need-put-neighbour-requires
 put-neighbour-requires c κs =
     let after-put-field = c .before .before .before in
     let after-put-head = after-put-field .before .before .before .before in
-    let else1 = after-put-head .before .before in
-    let after-field-size2 = else1 .before in
+    let after-field-size2 = field-size2-from-put-head after-put-head in
     let after-neighbour-size2 = after-field-size2 .before in
-    let after-neighbour-size = after-neighbour-size2 .before in
-    let after-field-size = after-neighbour-size .before in
+    let after-field-size = field-size-from-neighbour-size2 after-neighbour-size2 in
     let start = start-from-field-size after-field-size in
     let a = start .args in
-    let e = nonexist-total (a .asked .now) (start .pre .0 .0) (a .lkey .now) (a .lvalue .now) (a .left .now) (a .rkey .now) (a .rvalue .now) (a .right .now) (start .pre .1 .0) (start .pre .1 .1) (after-field-size .field-size .ensures .0) (after-neighbour-size .neighbour-size .ensures .0) (after-neighbour-size2 .neighbour-size2 .ensures .0) (after-field-size2 .field-size2 .ensures .0) in
-    let w = nonexist-parts (a .asked .now) (start .pre .0 .0) (a .lkey .now) (a .lvalue .now) (a .left .now) (a .rkey .now) (a .rvalue .now) (a .right .now) (start .pre .1 .0) (start .pre .1 .1) (after-field-size .field-size .ensures .0) (after-neighbour-size .neighbour-size .ensures .0) (after-neighbour-size2 .neighbour-size2 .ensures .0) (after-field-size2 .field-size2 .ensures .0) in
-    ((omega arith, start .pre .1 .0 .0, start .pre .1 .0 .1), room-third (neighbourField 2 (rawNeighbour (leaf (a .lkey .now) (a .lvalue .now)) (recordIn (a .left .now)))) (neighbourField 3 (rawNeighbour (leaf (a .rkey .now) (a .rvalue .now)) (recordIn (a .right .now)))) (after-put-head .put-head .ensures) (after-put-field .put-field .ensures) w (record { fits = omega (arith, e, else1 .if1 .left) }))
+    let e = nonexist-total (a .asked .now) (start .pre .0 .0) (a .lkey .now) (a .lvalue .now) (a .left .now) (a .rkey .now) (a .rvalue .now) (a .right .now) (start .pre .1 .0) (start .pre .1 .1) (after-field-size .field-size .ensures .0) (after-neighbour-size2 .before .neighbour-size .ensures .0) (after-neighbour-size2 .neighbour-size2 .ensures .0) (after-field-size2 .field-size2 .ensures .0) in
+    let w = nonexist-parts (a .asked .now) (start .pre .0 .0) (a .lkey .now) (a .lvalue .now) (a .left .now) (a .rkey .now) (a .rvalue .now) (a .right .now) (start .pre .1 .0) (start .pre .1 .1) (after-field-size .field-size .ensures .0) (after-neighbour-size2 .before .neighbour-size .ensures .0) (after-neighbour-size2 .neighbour-size2 .ensures .0) (after-field-size2 .field-size2 .ensures .0) in
+    ((omega arith, start .pre .1 .0 .0, start .pre .1 .0 .1), room-third (neighbourField 2 (rawNeighbour (leaf (a .lkey .now) (a .lvalue .now)) (recordIn (a .left .now)))) (neighbourField 3 (rawNeighbour (leaf (a .rkey .now) (a .rvalue .now)) (recordIn (a .right .now)))) (after-put-head .put-head .ensures) (after-put-field .put-field .ensures) w (record { fits = omega (arith, e, else1-from-put-head after-put-head .if1 .left) }))
 
 put-neighbour-requires-2 : tie.Need-put-neighbour-requires-2
 put-neighbour-requires-2 c κs =
     let after-put-neighbour = c .before .before .before in
     let after-put-field = after-put-neighbour .before .before .before .before in
     let after-put-head = after-put-field .before .before .before .before in
-    let else1 = after-put-head .before .before in
-    let after-field-size2 = else1 .before in
+    let after-field-size2 = field-size2-from-put-head after-put-head in
     let after-neighbour-size2 = after-field-size2 .before in
-    let after-neighbour-size = after-neighbour-size2 .before in
-    let after-field-size = after-neighbour-size .before in
+    let after-field-size = field-size-from-neighbour-size2 after-neighbour-size2 in
     let start = start-from-field-size after-field-size in
     let a = start .args in
-    let e = nonexist-total (a .asked .now) (start .pre .0 .0) (a .lkey .now) (a .lvalue .now) (a .left .now) (a .rkey .now) (a .rvalue .now) (a .right .now) (start .pre .1 .0) (start .pre .1 .1) (after-field-size .field-size .ensures .0) (after-neighbour-size .neighbour-size .ensures .0) (after-neighbour-size2 .neighbour-size2 .ensures .0) (after-field-size2 .field-size2 .ensures .0) in
-    let w = nonexist-parts (a .asked .now) (start .pre .0 .0) (a .lkey .now) (a .lvalue .now) (a .left .now) (a .rkey .now) (a .rvalue .now) (a .right .now) (start .pre .1 .0) (start .pre .1 .1) (after-field-size .field-size .ensures .0) (after-neighbour-size .neighbour-size .ensures .0) (after-neighbour-size2 .neighbour-size2 .ensures .0) (after-field-size2 .field-size2 .ensures .0) in
-    ((omega arith, start .pre .1 .1 .0, start .pre .1 .1 .1), room-fourth (neighbourField 2 (rawNeighbour (leaf (a .lkey .now) (a .lvalue .now)) (recordIn (a .left .now)))) (neighbourField 3 (rawNeighbour (leaf (a .rkey .now) (a .rvalue .now)) (recordIn (a .right .now)))) (after-put-head .put-head .ensures) (after-put-field .put-field .ensures) w (record { fits = omega (arith, e, else1 .if1 .left) }) (after-put-neighbour .put-neighbour .ensures))
+    let e = nonexist-total (a .asked .now) (start .pre .0 .0) (a .lkey .now) (a .lvalue .now) (a .left .now) (a .rkey .now) (a .rvalue .now) (a .right .now) (start .pre .1 .0) (start .pre .1 .1) (after-field-size .field-size .ensures .0) (after-neighbour-size2 .before .neighbour-size .ensures .0) (after-neighbour-size2 .neighbour-size2 .ensures .0) (after-field-size2 .field-size2 .ensures .0) in
+    let w = nonexist-parts (a .asked .now) (start .pre .0 .0) (a .lkey .now) (a .lvalue .now) (a .left .now) (a .rkey .now) (a .rvalue .now) (a .right .now) (start .pre .1 .0) (start .pre .1 .1) (after-field-size .field-size .ensures .0) (after-neighbour-size2 .before .neighbour-size .ensures .0) (after-neighbour-size2 .neighbour-size2 .ensures .0) (after-field-size2 .field-size2 .ensures .0) in
+    ((omega arith, start .pre .1 .1 .0, start .pre .1 .1 .1), room-fourth (neighbourField 2 (rawNeighbour (leaf (a .lkey .now) (a .lvalue .now)) (recordIn (a .left .now)))) (neighbourField 3 (rawNeighbour (leaf (a .rkey .now) (a .rvalue .now)) (recordIn (a .right .now)))) (after-put-head .put-head .ensures) (after-put-field .put-field .ensures) w (record { fits = omega (arith, e, else1-from-put-head after-put-head .if1 .left) }) (after-put-neighbour .put-neighbour .ensures))
 
 cast-t32 : tie.Need-cast-t32
 cast-t32 c =
@@ -131,15 +142,14 @@ returns-2 c =
     let after-put-neighbour = after-put-neighbour2 .before .before .before .before in
     let after-put-field = after-put-neighbour .before .before .before .before in
     let after-put-head = after-put-field .before .before .before .before in
-    let else1 = after-put-head .before .before in
+    let else1 = else1-from-put-head after-put-head in
     let after-field-size2 = else1 .before in
     let after-neighbour-size2 = after-field-size2 .before in
-    let after-neighbour-size = after-neighbour-size2 .before in
-    let after-field-size = after-neighbour-size .before in
+    let after-field-size = field-size-from-neighbour-size2 after-neighbour-size2 in
     let start = start-from-field-size after-field-size in
     let a = start .args in
-    let e = nonexist-total (a .asked .now) (start .pre .0 .0) (a .lkey .now) (a .lvalue .now) (a .left .now) (a .rkey .now) (a .rvalue .now) (a .right .now) (start .pre .1 .0) (start .pre .1 .1) (after-field-size .field-size .ensures .0) (after-neighbour-size .neighbour-size .ensures .0) (after-neighbour-size2 .neighbour-size2 .ensures .0) (after-field-size2 .field-size2 .ensures .0) in
-    let w = nonexist-parts (a .asked .now) (start .pre .0 .0) (a .lkey .now) (a .lvalue .now) (a .left .now) (a .rkey .now) (a .rvalue .now) (a .right .now) (start .pre .1 .0) (start .pre .1 .1) (after-field-size .field-size .ensures .0) (after-neighbour-size .neighbour-size .ensures .0) (after-neighbour-size2 .neighbour-size2 .ensures .0) (after-field-size2 .field-size2 .ensures .0) in
+    let e = nonexist-total (a .asked .now) (start .pre .0 .0) (a .lkey .now) (a .lvalue .now) (a .left .now) (a .rkey .now) (a .rvalue .now) (a .right .now) (start .pre .1 .0) (start .pre .1 .1) (after-field-size .field-size .ensures .0) (after-neighbour-size2 .before .neighbour-size .ensures .0) (after-neighbour-size2 .neighbour-size2 .ensures .0) (after-field-size2 .field-size2 .ensures .0) in
+    let w = nonexist-parts (a .asked .now) (start .pre .0 .0) (a .lkey .now) (a .lvalue .now) (a .left .now) (a .rkey .now) (a .rvalue .now) (a .right .now) (start .pre .1 .0) (start .pre .1 .1) (after-field-size .field-size .ensures .0) (after-neighbour-size2 .before .neighbour-size .ensures .0) (after-neighbour-size2 .neighbour-size2 .ensures .0) (after-field-size2 .field-size2 .ensures .0) in
     writes-there (besides (a .asked .now) (leaf (a .lkey .now) (a .lvalue .now)) (recordIn (a .left .now)) (leaf (a .rkey .now) (a .rvalue .now)) (recordIn (a .right .now))) (omega (arith, e, else1 .if1 .left)) e (puts-four (neighbourField 2 (rawNeighbour (leaf (a .lkey .now) (a .lvalue .now)) (recordIn (a .left .now)))) (neighbourField 3 (rawNeighbour (leaf (a .rkey .now) (a .rvalue .now)) (recordIn (a .right .now)))) (after-put-head .put-head .ensures) (after-put-field .put-field .ensures) w (record { fits = omega (arith, e, else1 .if1 .left) }) (after-put-neighbour .put-neighbour .ensures) (after-put-neighbour2 .put-neighbour2 .ensures))
 
 pub write-nonexist-spec : {M : Type 1} → statement M

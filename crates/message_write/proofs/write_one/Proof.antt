@@ -16,14 +16,23 @@ unlent-requires : tie.Need-unlent-requires
 unlent-requires c κs = search needs
 
 -- `A-from-B` is the state A as the later state B has it.
+abbrev start-from-shared-slice-known3 : tie.After-shared-slice-known3 → tie.Start
+start-from-shared-slice-known3 c = c .before .before .before
+
 abbrev start-from-unlent : tie.After-unlent → tie.Start
-start-from-unlent c = c .before .before .before .before .before .before .before .before
+start-from-unlent c = start-from-shared-slice-known3 (c .before .before .before .before .before)
 
 abbrev start-from-then1 : tie.Then1 → tie.Start
 start-from-then1 c = start-from-unlent (c .before)
 
 abbrev start-from-else1 : tie.Else1 → tie.Start
 start-from-else1 c = start-from-unlent (c .before)
+
+abbrev start-from-then2 : tie.Then2 → tie.Start
+start-from-then2 c = start-from-else1 (c .before .before)
+
+abbrev start-from-write-neighbours-arg4 : tie.After-write-neighbours-arg4 → tie.Start
+start-from-write-neighbours-arg4 c = start-from-else1 (c .before .before .before)
 
 returns : tie.Need-returns
 returns c =
@@ -38,12 +47,12 @@ get-u16-requires c κs =
 
 sub-write-neighbours : tie.Need-sub-write-neighbours
 sub-write-neighbours c =
-    let start = start-from-unlent (c .before .before .before) in
+    let start = start-from-then2 c in
     omega (arith, absence-head (start .args .p .now) (start .pre .0 .0))
 
 part-write-neighbours-start : tie.Need-part-write-neighbours-start
 part-write-neighbours-start c =
-    let start = start-from-unlent (c .before .before .before) in
+    let start = start-from-then2 c in
     omega (arith, absence-head (start .args .p .now) (start .pre .0 .0))
 
 part-write-neighbours-end : tie.Need-part-write-neighbours-end
@@ -60,8 +69,7 @@ part-write-neighbours-end-2 c = search needs
 
 write-neighbours-requires : tie.Need-write-neighbours-requires
 write-neighbours-requires c κs =
-    let after-unlent = c .before .before .before .before .before .before in
-    let start = start-from-unlent after-unlent in
+    let start = start-from-then2 (c .before .before .before) in
     let a = start .args in
     (right-lengths 256 (a .asked .now) (slice 8 32 (a .p .now)) (start .pre .1), (form-rest (a .p .now) (start .pre .0 .0) (start .pre .0 .1), form-none (a .p .now)))
 
@@ -89,12 +97,12 @@ part-write-neighbours-end-3 c = search needs
 
 sub-write-neighbours-4 : tie.Need-sub-write-neighbours-4
 sub-write-neighbours-4 c =
-    let start = start-from-unlent (c .before .before .before .before) in
+    let start = start-from-write-neighbours-arg4 c in
     omega (arith, absence-head (start .args .p .now) (start .pre .0 .0))
 
 part-write-neighbours-start-4 : tie.Need-part-write-neighbours-start-4
 part-write-neighbours-start-4 c =
-    let start = start-from-unlent (c .before .before .before .before) in
+    let start = start-from-write-neighbours-arg4 c in
     omega (arith, absence-head (start .args .p .now) (start .pre .0 .0))
 
 part-write-neighbours-end-4 : tie.Need-part-write-neighbours-end-4
@@ -102,8 +110,7 @@ part-write-neighbours-end-4 c = search needs
 
 write-neighbours-requires-2 : tie.Need-write-neighbours-requires-2
 write-neighbours-requires-2 c κs =
-    let after-unlent = c .before .before .before .before .before .before in
-    let start = start-from-unlent after-unlent in
+    let start = start-from-write-neighbours-arg4 (c .before .before) in
     let a = start .args in
     (right-lengths 256 (a .asked .now) (slice 8 32 (a .p .now)) (start .pre .1), (form-none (a .p .now), form-rest (a .p .now) (start .pre .0 .0) (start .pre .0 .1)))
 

@@ -18,15 +18,21 @@ start-from-hashes-to c = c .before .before .before .before .before .before .befo
 abbrev start-from-then1 : tie.Then1 → tie.Start
 start-from-then1 c = start-from-hashes-to (c .before)
 
+abbrev start-from-shared-slice-known2 : tie.After-shared-slice-known2 → tie.Start
+start-from-shared-slice-known2 c = c .before .before
+
+abbrev start-from-slice-known : tie.After-slice-known → tie.Start
+start-from-slice-known c = start-from-shared-slice-known2 (c .before .before .before .before .before)
+
 abbrev start-from-else1 : tie.Else1 → tie.Start
-start-from-else1 c = start-from-hashes-to (c .before)
+start-from-else1 c = start-from-slice-known (c .before .before)
 
 abbrev start-from-else2 : tie.Else2 → tie.Start
 start-from-else2 c = start-from-else1 (c .before .before)
 
 hashes-to-requires : tie.Need-hashes-to-requires
 hashes-to-requires c κs =
-    let start = c .before .before .before .before .before .before .before in
+    let start = start-from-slice-known c in
     omega (arith, presence-whole (start .args .p .now) (start .pre))
 
 returns : tie.Need-returns

@@ -8,21 +8,26 @@ use Rattle.move_count.specs.Count.{NodeIn}
 use Rattle.move_count.proofs.child_slot.Statement.{statement}
 use Rattle.move_count.proofs.child_slot.Tie as tie
 
+-- `A-from-B` is the state A as the later state B has it.
+abbrev start-from-else1 : tie.Else1 → tie.Start
+start-from-else1 c = c .before .before
+
 returns : tie.Need-returns
 returns c =
     let start = c .before .before in
     no-version (start .pre .0) (start .args .version) (placeOf (start .args .place)) (c .if1 .taken)
 
 is-node-requires : tie.Need-is-node-requires
-is-node-requires c κs = (c .before .before .pre .0, omega (arith, c .if1 .left), c .before .before .pre .1)
+is-node-requires c κs =
+    let start = start-from-else1 c in
+    (start .pre .0, omega (arith, c .if1 .left), start .pre .1)
 
 returns-2 : tie.Need-returns-2
-returns-2 c =
-    let a = c .before .before .before .before .args in subst (NodeIn (a .store .now) (a .guess) (a .version) (placeOf (a .place))) (c .if2 .taken) (c .before .is-node .ensures)
+returns-2 c = let a = start-from-else1 (c .before .before) .args in subst (NodeIn (a .store .now) (a .guess) (a .version) (placeOf (a .place))) (c .if2 .taken) (c .before .is-node .ensures)
 
 find-requires : tie.Need-find-requires
 find-requires c κs =
-    let start = c .before .before .before .before in
+    let start = start-from-else1 (c .before .before) in
     (start .pre .0 .size, start .pre .1)
 
 returns-3 : tie.Need-returns-3

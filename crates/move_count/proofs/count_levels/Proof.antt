@@ -15,12 +15,18 @@ Inv-loop store n guess counts₀ levels level₀ counts level = CountedFrom stor
 abbrev μ-loop : tie.MeasureT-loop
 μ-loop store n guess counts₀ levels level₀ counts level = level
 
+-- `A-from-B` is the state A as the later state B has it.
+abbrev start-from-levels : tie.After-levels Inv-loop μ-loop → tie.Start Inv-loop μ-loop
+start-from-levels c = c .before .before
+
 levels-of-requires : tie.Need-levels-of-requires Inv-loop μ-loop
-levels-of-requires c κs = (c .before .before .pre .0, c .before .before .pre .1, length-replicate {0} {A = ℕ} 16384 0)
+levels-of-requires c κs =
+    let start = start-from-levels c in
+    (start .pre .0, start .pre .1, length-replicate {0} {A = ℕ} 16384 0)
 
 loop-holds : tie.Need-loop-holds Inv-loop μ-loop
 loop-holds c =
-    let start = c .before .before .before in
+    let start = start-from-levels (c .before) in
     (none-longest (start .pre .0) (start .pre .2), omega arith)
 
 sub-level : tie.Need-sub-level Inv-loop μ-loop
@@ -31,7 +37,7 @@ count-level-requires c κs =
     let in-loop = c .before .before in
     let at-loop = in-loop .before in
     let after-levels-of = at-loop .before in
-    let start = after-levels-of .before .before .before in (
+    let start = start-from-levels (after-levels-of .before) in (
       start .pre .0,
       start .pre .1,
       after-levels-of .levels-of .ensures,

@@ -12,17 +12,26 @@ use Rattle.move_count.proofs.count_slot.Statement.{statement}
 use Rattle.move_count.proofs.count_slot.Tie as tie
 
 -- `A-from-B` is the state A as the later state B has it.
-abbrev start-from-count-at : tie.After-count-at → tie.Start
-start-from-count-at c = c .before .before .before .before
+abbrev count-at-from-child-place : tie.After-child-place → tie.After-count-at
+count-at-from-child-place c = c .before .before .before .before .before
+
+abbrev place-at-from-leaves-at-arg : tie.After-leaves-at-arg → tie.After-place-at
+place-at-from-leaves-at-arg c = c .before .before .before
+
+abbrev place-at-from-child-place : tie.After-child-place → tie.After-place-at
+place-at-from-child-place c = place-at-from-leaves-at-arg (c .before)
+
+abbrev start-from-bits-of : tie.After-bits-of → tie.Start
+start-from-bits-of c = c .before .before .before
 
 abbrev start-from-place-at : tie.After-place-at → tie.Start
-start-from-place-at c = start-from-count-at (c .before)
+start-from-place-at c = start-from-bits-of (c .before .before)
 
 abbrev start-from-child-version-at : tie.After-child-version-at → tie.Start
 start-from-child-version-at c = start-from-place-at (c .before)
 
 abbrev start-from-child-place : tie.After-child-place → tie.Start
-start-from-child-place c = start-from-child-version-at (c .before .before .before)
+start-from-child-place c = start-from-place-at (c .before .before .before .before)
 
 abbrev start-from-leaves-at2 : tie.After-leaves-at2 → tie.Start
 start-from-leaves-at2 c = start-from-child-place (c .before .before .before .before)
@@ -34,16 +43,17 @@ bits-of-requires : tie.Need-bits-of-requires
 bits-of-requires c κs = search needs
 
 count-at-requires : tie.Need-count-at-requires
-count-at-requires c κs = slot-within (c .before .before .before .pre .1)
+count-at-requires c κs = slot-within (start-from-bits-of c .pre .1)
 
 cast-place-at : tie.Need-cast-place-at
 cast-place-at c = search needs
 
 place-at-requires : tie.Need-place-at-requires
 place-at-requires c κs =
-    let start = start-from-count-at c in
+    let after-bits-of = c .before in
+    let start = start-from-bits-of after-bits-of in
     inner-place (slotIn plain (start .args .i) (start .args .store .now)) (start .pre .2) (c .count-at .ensures)
-    (c .before .bits-of .ensures .0 ∙ ap bitsIn (c .before .before .slot-of .ensures .0)) (c .before .bits-of .ensures .1)
+    (after-bits-of .bits-of .ensures .0 ∙ ap bitsIn (after-bits-of .before .slot-of .ensures .0)) (after-bits-of .bits-of .ensures .1)
 
 child-version-at-requires : tie.Need-child-version-at-requires
 child-version-at-requires c κs = slot-within (start-from-place-at c .pre .1)
@@ -53,7 +63,7 @@ child-version-at-requires-2 c κs = slot-within (start-from-child-version-at c .
 
 child-place-requires : tie.Need-child-place-requires
 child-place-requires c κs =
-    let after-place-at = c .before .before .before in
+    let after-place-at = place-at-from-leaves-at-arg c in
     let start = start-from-place-at after-place-at in (
       after-place-at .place-at .ensures .proper,
       omega (arith, after-place-at .place-at .ensures .count, after-place-at .before .count-at .ensures, inner-short (slotIn plain (start .args .i) (start .args .store .now)) (start .pre .2)),
@@ -61,17 +71,15 @@ child-place-requires c κs =
 
 leaves-at-requires : tie.Need-leaves-at-requires
 leaves-at-requires c κs =
-    let after-place-at = c .before .before .before .before in
-    let start = start-from-place-at after-place-at in (
+    let start = start-from-child-place c in (
       start .pre .0,
       c .child-place .ensures .proper,
-      child-level (start .pre .0) (start .pre .1) (after-place-at .before .count-at .ensures) (after-place-at .place-at .ensures .count) (c .child-place .ensures) (start .pre .3),
+      child-level (start .pre .0) (start .pre .1) (count-at-from-child-place c .count-at .ensures) (place-at-from-child-place c .place-at .ensures .count) (c .child-place .ensures) (start .pre .3),
     )
 
 child-place-requires-2 : tie.Need-child-place-requires-2
 child-place-requires-2 c κs =
-    let after-child-version-at = c .before .before .before .before .before in
-    let after-place-at = after-child-version-at .before in
+    let after-place-at = place-at-from-child-place (c .before .before) in
     let start = start-from-place-at after-place-at in (
       after-place-at .place-at .ensures .proper,
       omega (arith, after-place-at .place-at .ensures .count, after-place-at .before .count-at .ensures, inner-short (slotIn plain (start .args .i) (start .args .store .now)) (start .pre .2)),
@@ -79,12 +87,11 @@ child-place-requires-2 c κs =
 
 leaves-at-requires-2 : tie.Need-leaves-at-requires-2
 leaves-at-requires-2 c κs =
-    let after-child-version-at2 = c .before .before .before .before .before in
-    let after-place-at = after-child-version-at2 .before .before in
-    let start = start-from-place-at after-place-at in (
+    let after-child-place = c .before .before .before in
+    let start = start-from-child-place after-child-place in (
       start .pre .0,
       c .child-place2 .ensures .proper,
-      child-level (start .pre .0) (start .pre .1) (after-place-at .before .count-at .ensures) (after-place-at .place-at .ensures .count) (c .child-place2 .ensures) (start .pre .3),
+      child-level (start .pre .0) (start .pre .1) (count-at-from-child-place after-child-place .count-at .ensures) (place-at-from-child-place after-child-place .place-at .ensures .count) (c .child-place2 .ensures) (start .pre .3),
     )
 
 cast-counts : tie.Need-cast-counts
@@ -123,8 +130,9 @@ returns c =
     let after-child-version-at = after-child-version-at2 .before in
     let after-place-at = after-child-version-at .before in
     let after-count-at = after-place-at .before in
-    let start = start-from-count-at after-count-at in
-    slot-counted (start .pre .0) (start .pre .1) (after-count-at .count-at .ensures) (after-count-at .before .bits-of .ensures .0 ∙ ap bitsIn (after-count-at .before .before .slot-of .ensures .0)) (after-place-at .place-at .ensures)
+    let after-bits-of = after-count-at .before in
+    let start = start-from-bits-of after-bits-of in
+    slot-counted (start .pre .0) (start .pre .1) (after-count-at .count-at .ensures) (after-bits-of .bits-of .ensures .0 ∙ ap bitsIn (after-bits-of .before .slot-of .ensures .0)) (after-place-at .place-at .ensures)
     (after-child-place .child-place .ensures) (after-child-place2 .child-place2 .ensures) (start .args .counts .now) (after-child-version-at .child-version-at .ensures) (after-child-version-at2 .child-version-at2 .ensures)
     (after-leaves-at .leaves-at .ensures .0) (c .leaves-at2 .ensures .0) (omega (arith, slot-small (start .pre .1), start .pre .3 .long))
 

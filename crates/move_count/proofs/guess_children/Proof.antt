@@ -4,15 +4,19 @@ use borrow.Author.Needs.{needs}
 use Rattle.move_count.proofs.guess_children.Statement.{statement}
 use Rattle.move_count.proofs.guess_children.Tie as tie
 
+-- `A-from-B` is the state A as the later state B has it.
+abbrev start-from-spare : tie.After-spare → tie.Start
+start-from-spare c = c .before .before .before
+
 sort-requires : tie.Need-sort-requires
 sort-requires c κs =
-    let start = c .before .before .before in
+    let start = start-from-spare c in
     (start .pre .0, start .pre .1)
 
 guessed-requires : tie.Need-guessed-requires
 guessed-requires c κs =
     let after-sort = c .before .before in
-    (after-sort .before .before .before .before .pre .0, after-sort .sort .ensures)
+    (start-from-spare (after-sort .before) .pre .0, after-sort .sort .ensures)
 
 returns : tie.Need-returns
 returns c = search needs

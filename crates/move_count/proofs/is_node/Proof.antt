@@ -22,6 +22,9 @@ start-from-else3 c = start-from-version-at (c .before .before .before .before)
 abbrev start-from-hash-at : tie.After-hash-at → tie.Start
 start-from-hash-at c = start-from-else3 (c .before .before .before .before)
 
+abbrev start-from-else1 : tie.Else1 → tie.Start
+start-from-else1 c = c .before .before .before
+
 slot-count-requires : tie.Need-slot-count-requires
 slot-count-requires c κs = c .before .pre .0 .size
 
@@ -30,18 +33,17 @@ returns c = tt
 
 version-at-requires : tie.Need-version-at-requires
 version-at-requires c κs =
-    let after-slot-count = c .before in
-    let start = after-slot-count .before .before in
-    slot-within (slot-has (start .args .store .now) (start .pre .0) (after-slot-count .slot-count .ensures) (c .if1 .left))
+    let start = start-from-else1 c in
+    slot-within (slot-has (start .args .store .now) (start .pre .0) (c .before .slot-count .ensures) (c .if1 .left))
 
 returns-2 : tie.Need-returns-2
 returns-2 c = tt
 
 count-at-requires : tie.Need-count-at-requires
 count-at-requires c κs =
-    let after-version-at = c .before in
-    let start = start-from-version-at after-version-at in
-    slot-within (slot-has (start .args .store .now) (start .pre .0) (after-version-at .before .before .slot-count .ensures) (after-version-at .before .if1 .left))
+    let else1 = c .before .before in
+    let start = start-from-else1 else1 in
+    slot-within (slot-has (start .args .store .now) (start .pre .0) (else1 .before .slot-count .ensures) (else1 .if1 .left))
 
 cast-if3 : tie.Need-cast-if3
 cast-if3 c = search needs
@@ -52,8 +54,9 @@ returns-3 c = tt
 slot-of-requires : tie.Need-slot-of-requires
 slot-of-requires c κs =
     let after-version-at = c .before .before .before .before .before in
-    let start = start-from-version-at after-version-at in
-    slot-within (slot-has (start .args .store .now) (start .pre .0) (after-version-at .before .before .slot-count .ensures) (after-version-at .before .if1 .left))
+    let else1 = after-version-at .before in
+    let start = start-from-else1 else1 in
+    slot-within (slot-has (start .args .store .now) (start .pre .0) (else1 .before .slot-count .ensures) (else1 .if1 .left))
 
 bits-of-requires : tie.Need-bits-of-requires
 bits-of-requires c κs = search needs
@@ -82,10 +85,11 @@ returns-4 c =
     let after-count-at = else3 .before .before in
     let else2 = after-count-at .before in
     let after-version-at = else2 .before in
-    let start = start-from-version-at after-version-at in
+    let else1 = after-version-at .before in
+    let start = start-from-else1 else1 in
     let a = start .args in
-    node-in (start .pre .0) (all-of Byte (a .store .now) 0 (λ i _. omega (arith, after-version-at .before .before .before .shared-slice-known .given i)))
-    (slot-has (start .args .store .now) (start .pre .0) (after-version-at .before .before .slot-count .ensures) (after-version-at .before .if1 .left)) (after-version-at .version-at .ensures) (else2 .if2 .left) (start .pre .1) (start .pre .2) (after-count-at .count-at .ensures) (else3 .if3 .left)
+    node-in (start .pre .0) (all-of Byte (a .store .now) 0 (λ i _. omega (arith, else1 .before .before .shared-slice-known .given i)))
+    (slot-has (start .args .store .now) (start .pre .0) (else1 .before .slot-count .ensures) (else1 .if1 .left)) (after-version-at .version-at .ensures) (else2 .if2 .left) (start .pre .1) (start .pre .2) (after-count-at .count-at .ensures) (else3 .if3 .left)
     (read-whole (after-hash-at .hash-at .ensures .1) (after-bits-of .bits-of .ensures .1) (after-bits-of .bits-of .ensures .0 ∙ ap bitsIn (after-slot-of .slot-of .ensures .0)))
     (after-hash-at2 .hash-at2 .ensures .1) (c .same-hash .result) (c .same-hash .ensures)
 

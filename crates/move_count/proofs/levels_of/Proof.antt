@@ -15,15 +15,18 @@ abbrev μ-loop : tie.MeasureT-loop
 μ-loop store n levels₀ i₀ levels i = n - i
 
 -- `A-from-B` is the state A as the later state B has it.
+abbrev start-from-in-loop : tie.In-loop Inv-loop μ-loop → tie.Start Inv-loop μ-loop
+start-from-in-loop c = c .before .before .before
+
 abbrev start-from-level-of : tie.After-level-of Inv-loop μ-loop → tie.Start Inv-loop μ-loop
-start-from-level-of c = c .before .before .before .before
+start-from-level-of c = start-from-in-loop (c .before)
 
 loop-holds : tie.Need-loop-holds Inv-loop μ-loop
 loop-holds c = (levels-start (c .before .args .store .now) (c .before .pre .2), omega arith)
 
 level-of-requires : tie.Need-level-of-requires Inv-loop μ-loop
 level-of-requires c κs =
-    let start = c .before .before .before in
+    let start = start-from-in-loop c in
     (start .pre .0, room-has (start .pre .1) (c .loop-test .taken))
 
 mul-levels : tie.Need-mul-levels Inv-loop μ-loop
@@ -39,7 +42,9 @@ loop-less : tie.Need-loop-less Inv-loop μ-loop
 loop-less c = omega (arith, c .before .loop-test .taken)
 
 loop-again : tie.Need-loop-again Inv-loop μ-loop
-loop-again c = (levels-next (c .before .before .loop .inv .0) (c .level-of .ensures) (slot-small (room-has (start-from-level-of c .pre .1) (c .before .loop-test .taken))), omega (arith, c .before .loop-test .taken))
+loop-again c =
+    let in-loop = c .before in
+    (levels-next (in-loop .before .loop .inv .0) (c .level-of .ensures) (slot-small (room-has (start-from-in-loop in-loop .pre .1) (in-loop .loop-test .taken))), omega (arith, in-loop .loop-test .taken))
 
 returns : tie.Need-returns Inv-loop μ-loop
 returns c = levels-all (c .before .loop .inv .0) (c .loop-test .left) (c .before .loop .inv .1)

@@ -9,8 +9,14 @@ use Rattle.move_count.proofs.weight_of.Statement.{statement}
 use Rattle.move_count.proofs.weight_of.Tie as tie
 
 -- `A-from-B` is the state A as the later state B has it.
+abbrev start-from-kind-at : tie.After-kind-at → tie.Start
+start-from-kind-at c = c .before .before
+
+abbrev start-from-else1 : tie.Else1 → tie.Start
+start-from-else1 c = start-from-kind-at (c .before)
+
 abbrev start-from-wide : tie.After-wide → tie.Start
-start-from-wide c = c .before .before .before .before .before
+start-from-wide c = start-from-else1 (c .before .before)
 
 kind-at-requires : tie.Need-kind-at-requires
 kind-at-requires c κs = slot-within (c .before .pre)
@@ -22,13 +28,13 @@ returns c =
     leaf-weighs (start .pre) (start .args .counts .now) (after-kind-at .kind-at .ensures) (c .if1 .taken)
 
 mul-wide : tie.Need-mul-wide
-mul-wide c = omega (arith, slot-small (c .before .before .before .pre))
+mul-wide c = omega (arith, slot-small (start-from-else1 c .pre))
 
 mul-wide-2 : tie.Need-mul-wide-2
-mul-wide-2 c = omega (arith, slot-small (c .before .before .before .pre))
+mul-wide-2 c = omega (arith, slot-small (start-from-else1 c .pre))
 
 element-copy-out-wide : tie.Need-element-copy-out-wide
-element-copy-out-wide c = omega (arith, slot-small (c .before .before .before .pre))
+element-copy-out-wide c = omega (arith, slot-small (start-from-else1 c .pre))
 
 wide-requires : tie.Need-wide-requires
 wide-requires c κs = search needs
@@ -54,8 +60,9 @@ add-result c = omega (arith, c .wide2 .ensures .1, c .before .before .wide .ensu
 returns-2 : tie.Need-returns-2
 returns-2 c =
     let after-wide = c .before .before in
-    let start = start-from-wide after-wide in
-    inner-weighs (start .pre) (start .args .counts .now) (after-wide .before .before .before .kind-at .ensures) (after-wide .before .before .if1 .left) (after-wide .wide .ensures .0) (c .wide2 .ensures .0)
+    let else1 = after-wide .before .before in
+    let start = start-from-else1 else1 in
+    inner-weighs (start .pre) (start .args .counts .now) (else1 .before .kind-at .ensures) (else1 .if1 .left) (after-wide .wide .ensures .0) (c .wide2 .ensures .0)
 
 pub weight-of-spec : {M : Type 1} → statement M
 weight-of-spec =

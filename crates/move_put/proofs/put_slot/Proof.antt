@@ -6,11 +6,14 @@ use Rattle.move_put.proofs.put_slot.Statement.{statement}
 use Rattle.move_put.proofs.put_slot.Tie as tie
 
 -- `A-from-B` is the state A as the later state B has it.
+abbrev start-from-slice-known : tie.After-slice-known → tie.Start
+start-from-slice-known c = c .before .before
+
 abbrev start-from-read-slot : tie.After-read-slot → tie.Start
-start-from-read-slot c = c .before .before .before .before
+start-from-read-slot c = start-from-slice-known (c .before .before)
 
 slot-of-requires : tie.Need-slot-of-requires
-slot-of-requires c κs = slot-within (c .before .before .pre .0)
+slot-of-requires c κs = slot-within (start-from-slice-known c .pre .0)
 
 read-slot-requires : tie.Need-read-slot-requires
 read-slot-requires c κs = search needs

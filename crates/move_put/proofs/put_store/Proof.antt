@@ -18,26 +18,39 @@ abbrev μ-loop : tie.MeasureT-loop
 μ-loop from to source counts target₀ n i₀ target i = n - i
 
 -- `A-from-B` is the state A as the later state B has it.
-abbrev at-loop-from-wide : tie.After-wide Inv-loop μ-loop → tie.At-loop Inv-loop μ-loop
-at-loop-from-wide c = c .before .before .before .before
-
 abbrev start-from-oldest-of : tie.After-oldest-of Inv-loop μ-loop → tie.Start Inv-loop μ-loop
 start-from-oldest-of c = c .before .before .before .before .before
 
 abbrev start-from-latest-of : tie.After-latest-of Inv-loop μ-loop → tie.Start Inv-loop μ-loop
 start-from-latest-of c = start-from-oldest-of (c .before)
 
+abbrev at-loop-from-put-slot-arg : tie.After-put-slot-arg Inv-loop μ-loop → tie.At-loop Inv-loop μ-loop
+at-loop-from-put-slot-arg c = c .before .before
+
+abbrev in-loop-from-wide : tie.After-wide Inv-loop μ-loop → tie.In-loop Inv-loop μ-loop
+in-loop-from-wide c = c .before .before .before
+
+abbrev in-loop-from-wide2 : tie.After-wide2 Inv-loop μ-loop → tie.In-loop Inv-loop μ-loop
+in-loop-from-wide2 c = in-loop-from-wide (c .before .before)
+
+abbrev start-from-slice-known : tie.After-slice-known Inv-loop μ-loop → tie.Start Inv-loop μ-loop
+start-from-slice-known c = c .before .before
+
+abbrev start-from-put-header-arg : tie.After-put-header-arg Inv-loop μ-loop → tie.Start Inv-loop μ-loop
+start-from-put-header-arg c = start-from-slice-known (c .before .before)
+
+abbrev at-loop-from-wide : tie.After-wide Inv-loop μ-loop → tie.At-loop Inv-loop μ-loop
+at-loop-from-wide c = at-loop-from-put-slot-arg (c .before .before)
+
 slot-count-requires : tie.Need-slot-count-requires Inv-loop μ-loop
-slot-count-requires c κs =
-    c .before .before .pre .room .source
+slot-count-requires c κs = start-from-slice-known c .pre .room .source
 
 cast-put-header : tie.Need-cast-put-header Inv-loop μ-loop
-cast-put-header c =
-    omega (arith, few-slots (c .before .before .before .before .pre) (c .before .slot-count .ensures))
+cast-put-header c = omega (arith, few-slots (start-from-put-header-arg c .pre) (c .before .slot-count .ensures))
 
 oldest-of-requires : tie.Need-oldest-of-requires Inv-loop μ-loop
 oldest-of-requires c κs =
-    let start = c .before .before .before .before in
+    let start = start-from-put-header-arg c in
     let a = start .args in omega (arith, size-least (a .from) _ (start .pre .room .source))
 
 latest-of-requires : tie.Need-latest-of-requires Inv-loop μ-loop
@@ -55,11 +68,12 @@ loop-holds c =
     let after-put-header = c .before .before in
     let after-latest-of = after-put-header .before in
     let after-oldest-of = after-latest-of .before in
-    let start = start-from-oldest-of after-oldest-of in
+    let after-slot-count = after-oldest-of .before .before in
+    let start = start-from-slice-known (after-slot-count .before) in
     let a = start .args in
-    putting-starts (start .pre) (after-oldest-of .before .before .slot-count .ensures)
+    putting-starts (start .pre) (after-slot-count .slot-count .ensures)
     (after-put-header .put-header .ensures
-    ∙ ap₂ (λ o l. written 0 (headerBytes (a .to) (after-oldest-of .before .before .slot-count .result) o l) (a .target .now)) (after-oldest-of .oldest-of .ensures) (after-latest-of .latest-of .ensures))
+    ∙ ap₂ (λ o l. written 0 (headerBytes (a .to) (after-slot-count .slot-count .result) o l) (a .target .now)) (after-oldest-of .oldest-of .ensures) (after-latest-of .latest-of .ensures))
 
 mul-wide : tie.Need-mul-wide Inv-loop μ-loop
 mul-wide c =
@@ -86,22 +100,22 @@ wide-requires c κs =
 mul-wide-3 : tie.Need-mul-wide-3 Inv-loop μ-loop
 mul-wide-3 c =
     let at-loop = at-loop-from-wide c in
-    omega (arith, few-slots (at-loop .loop .inv .able) (at-loop .loop .inv .many), c .before .before .before .loop-test .taken)
+    omega (arith, few-slots (at-loop .loop .inv .able) (at-loop .loop .inv .many), in-loop-from-wide c .loop-test .taken)
 
 add-wide : tie.Need-add-wide Inv-loop μ-loop
 add-wide c =
     let at-loop = at-loop-from-wide c in
-    omega (arith, few-slots (at-loop .loop .inv .able) (at-loop .loop .inv .many), c .before .before .before .loop-test .taken)
+    omega (arith, few-slots (at-loop .loop .inv .able) (at-loop .loop .inv .many), in-loop-from-wide c .loop-test .taken)
 
 mul-wide-4 : tie.Need-mul-wide-4 Inv-loop μ-loop
 mul-wide-4 c =
     let at-loop = at-loop-from-wide c in
-    omega (arith, few-slots (at-loop .loop .inv .able) (at-loop .loop .inv .many), c .before .before .before .loop-test .taken)
+    omega (arith, few-slots (at-loop .loop .inv .able) (at-loop .loop .inv .many), in-loop-from-wide c .loop-test .taken)
 
 element-copy-out-wide-2 : tie.Need-element-copy-out-wide-2 Inv-loop μ-loop
 element-copy-out-wide-2 c =
     let at-loop = at-loop-from-wide c in
-    omega (arith, few-slots (at-loop .loop .inv .able) (at-loop .loop .inv .many), c .before .before .before .loop-test .taken)
+    omega (arith, few-slots (at-loop .loop .inv .able) (at-loop .loop .inv .many), in-loop-from-wide c .loop-test .taken)
 
 wide-requires-2 : tie.Need-wide-requires-2 Inv-loop μ-loop
 wide-requires-2 c κs =
@@ -109,26 +123,25 @@ wide-requires-2 c κs =
 
 put-slot-requires : tie.Need-put-slot-requires Inv-loop μ-loop
 put-slot-requires c κs =
-    let in-loop = c .before .before .before .before .before in
+    let in-loop = in-loop-from-wide2 c in
     let at-loop = in-loop .before in
     (putting-has (at-loop .loop .inv) (in-loop .loop-test .taken), putting-whole (at-loop .loop .inv) (in-loop .loop-test .taken), putting-within (at-loop .loop .inv) (in-loop .loop-test .taken))
 
 add-i : tie.Need-add-i Inv-loop μ-loop
 add-i c =
-    let in-loop = c .before .before .before .before .before .before .before .before in
-    let at-loop = in-loop .before in
-    omega (arith, few-slots (at-loop .loop .inv .able) (at-loop .loop .inv .many), in-loop .loop-test .taken)
+    let after-wide = c .before .before .before .before .before in
+    let at-loop = at-loop-from-wide after-wide in
+    omega (arith, few-slots (at-loop .loop .inv .able) (at-loop .loop .inv .many), in-loop-from-wide after-wide .loop-test .taken)
 
 loop-less : tie.Need-loop-less Inv-loop μ-loop
-loop-less c =
-    omega (arith, c .before .before .before .before .before .before .before .before .loop-test .taken)
+loop-less c = omega (arith, in-loop-from-wide2 (c .before .before .before) .loop-test .taken)
 
 loop-again : tie.Need-loop-again Inv-loop μ-loop
 loop-again c =
     let after-put-slot = c .before .before in
     let after-wide2 = after-put-slot .before in
     let after-wide = after-wide2 .before .before in
-    putting-next (at-loop-from-wide after-wide .loop .inv) (after-wide .before .before .before .loop-test .taken) (after-wide .wide .ensures) (after-wide2 .wide2 .ensures) (after-put-slot .put-slot .ensures)
+    putting-next (at-loop-from-wide after-wide .loop .inv) (in-loop-from-wide after-wide .loop-test .taken) (after-wide .wide .ensures) (after-wide2 .wide2 .ensures) (after-put-slot .put-slot .ensures)
 
 same-length : tie.Need-same-length Inv-loop μ-loop
 same-length c =

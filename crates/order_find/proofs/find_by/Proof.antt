@@ -14,11 +14,22 @@ use Rattle.order_find.proofs.find_by.Tie as tie
 first-requires : tie.Need-first-requires
 first-requires c κs = search needs
 
+-- `A-from-B` is the state A as the later state B has it.
+abbrev first-from-wide : tie.After-wide → tie.After-first
+first-from-wide c = c .before .before .before
+
+abbrev else1-from-wide : tie.After-wide → tie.Else1
+else1-from-wide c = c .before .before
+
+abbrev start-from-first : tie.After-first → tie.Start
+start-from-first c = c .before .before
+
 returns : tie.Need-returns
 returns c =
-    let c3 = c .before .before .before in
-    let a = c3 .args in
-    none-left (a .store .now) (c3 .pre .0) (c3 .pre .2) (a .version) (placeOf (a .place)) (c .before .first .result) (omega (arith, c .if1 .taken)) (c .before .first .ensures)
+    let after-first = c .before in
+    let start = start-from-first after-first in
+    let a = start .args in
+    none-left (a .store .now) (start .pre .0) (start .pre .2) (a .version) (placeOf (a .place)) (after-first .first .result) (omega (arith, c .if1 .taken)) (after-first .first .ensures)
 
 mul-wide : tie.Need-mul-wide
 mul-wide c = search needs
@@ -34,9 +45,9 @@ slice-aggregate-compared c = search needs
 
 compared-requires : tie.Need-compared-requires
 compared-requires c κs =
-    let c7 = c .before .before .before .before .before .before .before in (
-      subst (Has counted (c7 .args .store .now)) (sym (c .before .before .wide .ensures))
-          (entry-has (c7 .args .store .now) (c7 .pre .0) (c7 .pre .2) (c .before .before .before .before .before .first .result) (omega (arith, c .before .before .before .before .if1 .left))),
+    let start = start-from-first (c .before .before .before .before .before) in (
+      subst (Has counted (start .args .store .now)) (sym (c .before .before .wide .ensures))
+          (entry-has (start .args .store .now) (start .pre .0) (start .pre .2) (first-from-wide (c .before .before) .first .result) (omega (arith, else1-from-wide (c .before .before) .if1 .left))),
       search needs,
     )
 
@@ -51,24 +62,33 @@ enum-told-3 c = search needs
 
 returns-2 : tie.Need-returns-2
 returns-2 c =
-    let c10 = c .before .before .before .before .before .before .before .before .before .before in
-    let a = c10 .args in
-    none-before (a .store .now) (c10 .pre .0) (c10 .pre .2) (all-of Byte (a .store .now) 0 (λ i _. omega (arith, c .before .before .before .before .before .before .before .before .before .shared-slice-known .given i))) (a .version) (a .place) (c10 .pre .3)
-    (c .before .before .before .before .before .before .before .before .first .result) (omega (arith, c .before .before .before .before .before .before .before .if1 .left)) (c .before .before .before .before .before .wide .ensures) _ (c .before .before .compared .ensures) (c .before .before .before .before .before .before .before .before .first .ensures) (c .enum-told .given .1)
+    let after-compared = c .before .before in
+    let after-wide = after-compared .before .before .before in
+    let after-first = first-from-wide after-wide in
+    let start = start-from-first after-first in
+    let a = start .args in
+    none-before (a .store .now) (start .pre .0) (start .pre .2) (all-of Byte (a .store .now) 0 (λ i _. omega (arith, after-first .before .shared-slice-known .given i))) (a .version) (a .place) (start .pre .3)
+    (after-first .first .result) (omega (arith, else1-from-wide after-wide .if1 .left)) (after-wide .wide .ensures) _ (after-compared .compared .ensures) (after-first .first .ensures) (c .enum-told .given .1)
 
 returns-3 : tie.Need-returns-3
 returns-3 c =
-    let c10 = c .before .before .before .before .before .before .before .before .before .before in
-    let a = c10 .args in
-    none-after (a .store .now) (c10 .pre .0) (c10 .pre .2) (all-of Byte (a .store .now) 0 (λ i _. omega (arith, c .before .before .before .before .before .before .before .before .before .shared-slice-known .given i))) (a .version) (a .place) (c10 .pre .3)
-    (c .before .before .before .before .before .before .before .before .first .result) (omega (arith, c .before .before .before .before .before .before .before .if1 .left)) (c .before .before .before .before .before .wide .ensures) _ (c .before .before .compared .ensures) (c .before .before .before .before .before .before .before .before .first .ensures) (c .enum-told2 .given .1)
+    let after-compared = c .before .before in
+    let after-wide = after-compared .before .before .before in
+    let after-first = first-from-wide after-wide in
+    let start = start-from-first after-first in
+    let a = start .args in
+    none-after (a .store .now) (start .pre .0) (start .pre .2) (all-of Byte (a .store .now) 0 (λ i _. omega (arith, after-first .before .shared-slice-known .given i))) (a .version) (a .place) (start .pre .3)
+    (after-first .first .result) (omega (arith, else1-from-wide after-wide .if1 .left)) (after-wide .wide .ensures) _ (after-compared .compared .ensures) (after-first .first .ensures) (c .enum-told2 .given .1)
 
 returns-4 : tie.Need-returns-4
 returns-4 c =
-    let c10 = c .before .before .before .before .before .before .before .before .before .before in
-    let a = c10 .args in
-    found-here (a .store .now) (c10 .pre .0) (c10 .pre .2) (all-of Byte (a .store .now) 0 (λ i _. omega (arith, c .before .before .before .before .before .before .before .before .before .shared-slice-known .given i))) (a .version) (a .place) (c10 .pre .3)
-    (c .before .before .before .before .before .before .before .before .first .result) (omega (arith, c .before .before .before .before .before .before .before .if1 .left)) (c .before .before .before .before .before .wide .ensures) _ (c .before .before .compared .ensures) (c .before .before .before .before .before .before .before .before .first .ensures) (c .enum-told3 .given .1)
+    let after-compared = c .before .before in
+    let after-wide = after-compared .before .before .before in
+    let after-first = first-from-wide after-wide in
+    let start = start-from-first after-first in
+    let a = start .args in
+    found-here (a .store .now) (start .pre .0) (start .pre .2) (all-of Byte (a .store .now) 0 (λ i _. omega (arith, after-first .before .shared-slice-known .given i))) (a .version) (a .place) (start .pre .3)
+    (after-first .first .result) (omega (arith, else1-from-wide after-wide .if1 .left)) (after-wide .wide .ensures) _ (after-compared .compared .ensures) (after-first .first .ensures) (c .enum-told3 .given .1)
 
 pub find-by-spec : {M : Type 1} → statement M
 find-by-spec =

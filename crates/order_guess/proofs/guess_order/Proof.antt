@@ -11,8 +11,9 @@ slot-count-requires c κs = search needs
 
 sort-requires : tie.Need-sort-requires
 sort-requires c κs =
-    let c4 = c .before .before .before .before in
-    (record { size = c4 .pre; many = c .before .before .slot-count .ensures }, omega (arith, c .before .before .slot-count .ensures, size-says _ (length (c4 .args .store .now)) (c4 .pre)))
+    let after-slot-count = c .before .before in
+    let start = after-slot-count .before .before in
+    (record { size = start .pre; many = after-slot-count .slot-count .ensures }, omega (arith, after-slot-count .slot-count .ensures, size-says _ (length (start .args .store .now)) (start .pre)))
 
 in-form-requires : tie.Need-in-form-requires
 in-form-requires c κs = search needs

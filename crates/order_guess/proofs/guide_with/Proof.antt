@@ -15,7 +15,9 @@ returns : tie.Need-returns
 returns c = record { short = omega arith; sure = λ h. absurd (omega arith) }
 
 returns-2 : tie.Need-returns-2
-returns-2 c = record { short = c .before .before .before .before .guess-order .ensures; sure = λ _. passed-so (c .before .ordered .result) (c .if1 .left) (c .before .ordered .ensures) }
+returns-2 c =
+    let after-ordered = c .before in
+    record { short = after-ordered .before .before .before .guess-order .ensures; sure = λ _. passed-so (after-ordered .ordered .result) (c .if1 .left) (after-ordered .ordered .ensures) }
 
 pub guide-with-spec : {M : Type 1} → statement M
 guide-with-spec = tie.close (tie.spec guess-order-requires ordered-requires returns returns-2)

@@ -41,8 +41,9 @@ loop-less c = omega arith
 
 loop-again : tie.Need-loop-again Inv-loop μ-loop
 loop-again c =
-    let at = c .before .before .before .loop in
-    looked-next (storeOf (c .before .before .before .before .before .args .store .now) .slots) (at .kids) (at .m) (c .kept .result) (at .inv) (c .kept .ensures)
+    let at-loop = c .before .before .before in
+    let at = at-loop .loop in
+    looked-next (storeOf (at-loop .before .before .args .store .now) .slots) (at .kids) (at .m) (c .kept .result) (at .inv) (c .kept .ensures)
 
 returns : tie.Need-returns Inv-loop μ-loop
 returns c = λ m l. c .before .loop .inv m (omega (arith, c .loop-test .left))

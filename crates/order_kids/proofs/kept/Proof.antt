@@ -25,8 +25,10 @@ add-result c = search needs
 
 returns-3 : tie.Need-returns-3
 returns-3 c =
-    let s = storeOf (c .before .before .before .before .before .args .store .now) .slots in
-    λ h. subst (Leads s) (omega (arith, c .before .before .before .wide .ensures)) (passed-so (c .before .leads .result) (c .if2 .left) (c .before .leads .ensures))
+    let after-leads = c .before in
+    let after-wide = after-leads .before .before in
+    let s = storeOf (after-wide .before .before .args .store .now) .slots in
+    λ h. subst (Leads s) (omega (arith, after-wide .wide .ensures)) (passed-so (after-leads .leads .result) (c .if2 .left) (after-leads .leads .ensures))
 
 pub kept-spec : {M : Type 1} → statement M
 kept-spec =

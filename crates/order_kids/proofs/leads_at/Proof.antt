@@ -13,6 +13,10 @@ use borrow.Author.Needs.{needs}
 use Rattle.order_kids.proofs.leads_at.Statement.{statement}
 use Rattle.order_kids.proofs.leads_at.Tie as tie
 
+-- `A-from-B` is the state A as the later state B has it.
+abbrev start-from-wide : tie.After-wide → tie.Start
+start-from-wide c = c .before .before .before .before
+
 returns : tie.Need-returns
 returns c = let start = c .before .before in leads-first (in-order (start .pre .0) (omega (arith, start .pre .1))) (start .args .k) (start .pre .1) (c .if1 .taken)
 
@@ -39,16 +43,19 @@ wide-requires-2 c κs = search needs
 
 node-before-requires : tie.Need-node-before-requires
 node-before-requires c κs =
-    let start = c .before .before .before .before .before .before in
-    (entry-formed (start .pre .0) (start .args .k - 1) (omega (arith, start .pre .1)) (c .before .before .wide .ensures), entry-formed (start .pre .0) (start .args .k) (start .pre .1) (c .wide2 .ensures))
+    let after-wide = c .before .before in
+    let start = start-from-wide after-wide in
+    (entry-formed (start .pre .0) (start .args .k - 1) (omega (arith, start .pre .1)) (after-wide .wide .ensures), entry-formed (start .pre .0) (start .args .k) (start .pre .1) (c .wide2 .ensures))
 
 returns-2 : tie.Need-returns-2
 returns-2 c =
-    let start = c .before .before .before .before .before .before .before in
+    let after-wide2 = c .before in
+    let after-wide = after-wide2 .before .before in
+    let start = start-from-wide after-wide in
     let s = storeOf (start .args .store .now) .slots in
     pass-map (c .node-before .result)
-    (λ h. leads-after (in-order (start .pre .0) (omega (arith, start .pre .1))) (start .args .k) (start .pre .1) (omega (arith, c .before .before .before .before .before .if1 .left))
-    (subst₂ (λ i j. before (keyNo s i) (keyNo s j) ≡ true) (c .before .before .before .wide .ensures) (c .before .wide2 .ensures) h))
+    (λ h. leads-after (in-order (start .pre .0) (omega (arith, start .pre .1))) (start .args .k) (start .pre .1) (omega (arith, after-wide .before .before .if1 .left))
+    (subst₂ (λ i j. before (keyNo s i) (keyNo s j) ≡ true) (after-wide .wide .ensures) (after-wide2 .wide2 .ensures) h))
     (c .node-before .ensures)
 
 pub leads-at-spec : {M : Type 1} → statement M

@@ -13,6 +13,10 @@ use borrow.Author.Needs.{needs}
 use Rattle.order_kids.proofs.node_before.Statement.{statement}
 use Rattle.order_kids.proofs.node_before.Tie as tie
 
+-- `A-from-B` is the state A as the later state B has it.
+abbrev start-from-wide : tie.After-wide → tie.Start
+start-from-wide c = c .before .before .before
+
 count-at-requires : tie.Need-count-at-requires
 count-at-requires c κs = slot-within (c .before .pre .1 .0)
 
@@ -20,16 +24,16 @@ wide-requires : tie.Need-wide-requires
 wide-requires c κs = search needs
 
 version-at-requires : tie.Need-version-at-requires
-version-at-requires c κs = slot-within (c .before .before .before .pre .1 .0)
+version-at-requires c κs = slot-within (start-from-wide c .pre .1 .0)
 
 slot-of-requires : tie.Need-slot-of-requires
-slot-of-requires c κs = slot-within (c .before .before .before .before .pre .1 .0)
+slot-of-requires c κs = slot-within (start-from-wide (c .before) .pre .1 .0)
 
 bits-of-requires : tie.Need-bits-of-requires
 bits-of-requires c κs = search needs
 
 compared-requires : tie.Need-compared-requires
-compared-requires c κs = (c .before .before .before .before .before .before .pre .0 .0, c .bits-of .ensures .1)
+compared-requires c κs = (start-from-wide (c .before .before .before) .pre .0 .0, c .bits-of .ensures .1)
 
 enum-told : tie.Need-enum-told
 enum-told c = search needs
@@ -42,15 +46,18 @@ enum-told-3 c = search needs
 
 returns : tie.Need-returns
 returns c =
-    let bits = c .before .before .before in
-    let version = bits .before .before in
-    let start = version .before .before .before .before in
+    let after-compared = c .before .before in
+    let after-bits-of = after-compared .before in
+    let after-slot-of = after-bits-of .before in
+    let after-version-at = after-slot-of .before in
+    let after-wide = after-version-at .before in
+    let start = start-from-wide after-wide in
     let a = start .args in
     let x = slotIn counted (a .j) (a .store .now) in
-    stands-before (all-of Byte (a .store .now) 0 (λ i _. omega (arith, version .before .before .before .shared-slice-known .given i))) (start .pre .0) (start .pre .1)
-    (all-same _ (countIn x) _ (bitsIn x) _ (versionIn x) (version .before .wide .ensures ∙ version .before .before .count-at .ensures)
-    (bits .bits-of .ensures .0 ∙ ap bitsIn (bits .before .slot-of .ensures .0)) (version .version-at .ensures))
-    _ (c .before .before .compared .ensures) (c .enum-told .given .1)
+    stands-before (all-of Byte (a .store .now) 0 (λ i _. omega (arith, after-wide .before .before .shared-slice-known .given i))) (start .pre .0) (start .pre .1)
+    (all-same _ (countIn x) _ (bitsIn x) _ (versionIn x) (after-wide .wide .ensures ∙ after-wide .before .count-at .ensures)
+    (after-bits-of .bits-of .ensures .0 ∙ ap bitsIn (after-slot-of .slot-of .ensures .0)) (after-version-at .version-at .ensures))
+    _ (after-compared .compared .ensures) (c .enum-told .given .1)
 
 returns-2 : tie.Need-returns-2
 returns-2 c = tt

@@ -15,6 +15,10 @@ use borrow.Author.Needs.{needs}
 use Rattle.order_look.proofs.ahead.Statement.{statement}
 use Rattle.order_look.proofs.ahead.Tie as tie
 
+-- `A-from-B` is the state A as the later state B has it.
+abbrev start-from-wide : tie.After-wide → tie.Start
+start-from-wide c = c .before .before .before
+
 count-at-requires : tie.Need-count-at-requires
 count-at-requires c κs = slot-within (c .before .pre .1 .0)
 
@@ -22,16 +26,16 @@ wide-requires : tie.Need-wide-requires
 wide-requires c κs = search needs
 
 version-at-requires : tie.Need-version-at-requires
-version-at-requires c κs = slot-within (c .before .before .before .pre .1 .0)
+version-at-requires c κs = slot-within (start-from-wide c .pre .1 .0)
 
 slot-of-requires : tie.Need-slot-of-requires
-slot-of-requires c κs = slot-within (c .before .before .before .before .pre .1 .0)
+slot-of-requires c κs = slot-within (start-from-wide (c .before) .pre .1 .0)
 
 bits-of-requires : tie.Need-bits-of-requires
 bits-of-requires c κs = search needs
 
 compared-requires : tie.Need-compared-requires
-compared-requires c κs = (c .before .before .before .before .before .before .pre .0 .0, c .bits-of .ensures .1)
+compared-requires c κs = (start-from-wide (c .before .before .before) .pre .0 .0, c .bits-of .ensures .1)
 
 enum-told : tie.Need-enum-told
 enum-told c = search needs
@@ -44,24 +48,34 @@ enum-told-3 c = search needs
 
 returns : tie.Need-returns
 returns c =
-    let c9 = c .before .before .before .before .before .before .before .before .before in
-    let a = c9 .args in
-    ahead-before (all-of Byte (c .before .before .before .before .before .before .before .before .before .args .store .now) 0 (λ i _. omega (arith, c .before .before .before .before .before .before .before .before .shared-slice-known .given i))) (c9 .pre .0) (c9 .pre .1)
+    let after-compared = c .before .before in
+    let after-bits-of = after-compared .before in
+    let after-slot-of = after-bits-of .before in
+    let after-version-at = after-slot-of .before in
+    let after-wide = after-version-at .before in
+    let start = start-from-wide after-wide in
+    let a = start .args in
+    ahead-before (all-of Byte (start .args .store .now) 0 (λ i _. omega (arith, after-wide .before .before .shared-slice-known .given i))) (start .pre .0) (start .pre .1)
     (all-same _ (countIn (slotIn counted (a .j) (a .store .now))) _ (bitsIn (slotIn counted (a .j) (a .store .now))) _ (versionIn (slotIn counted (a .j) (a .store .now)))
-    (c .before .before .before .before .before .before .wide .ensures ∙ c .before .before .before .before .before .before .before .count-at .ensures) (c .before .before .before .bits-of .ensures .0 ∙ ap bitsIn (c .before .before .before .before .slot-of .ensures .0)) (c .before .before .before .before .before .version-at .ensures))
-    _ (c .before .before .compared .ensures) (c .enum-told .given .1)
+    (after-wide .wide .ensures ∙ after-wide .before .count-at .ensures) (after-bits-of .bits-of .ensures .0 ∙ ap bitsIn (after-slot-of .slot-of .ensures .0)) (after-version-at .version-at .ensures))
+    _ (after-compared .compared .ensures) (c .enum-told .given .1)
 
 returns-2 : tie.Need-returns-2
 returns-2 c = tt
 
 returns-3 : tie.Need-returns-3
 returns-3 c =
-    let c9 = c .before .before .before .before .before .before .before .before .before in
-    let a = c9 .args in
-    ahead-same (all-of Byte (c .before .before .before .before .before .before .before .before .before .args .store .now) 0 (λ i _. omega (arith, c .before .before .before .before .before .before .before .before .shared-slice-known .given i))) (c9 .pre .0) (c9 .pre .1)
+    let after-compared = c .before .before in
+    let after-bits-of = after-compared .before in
+    let after-slot-of = after-bits-of .before in
+    let after-version-at = after-slot-of .before in
+    let after-wide = after-version-at .before in
+    let start = start-from-wide after-wide in
+    let a = start .args in
+    ahead-same (all-of Byte (start .args .store .now) 0 (λ i _. omega (arith, after-wide .before .before .shared-slice-known .given i))) (start .pre .0) (start .pre .1)
     (all-same _ (countIn (slotIn counted (a .j) (a .store .now))) _ (bitsIn (slotIn counted (a .j) (a .store .now))) _ (versionIn (slotIn counted (a .j) (a .store .now)))
-    (c .before .before .before .before .before .before .wide .ensures ∙ c .before .before .before .before .before .before .before .count-at .ensures) (c .before .before .before .bits-of .ensures .0 ∙ ap bitsIn (c .before .before .before .before .slot-of .ensures .0)) (c .before .before .before .before .before .version-at .ensures))
-    _ (c .before .before .compared .ensures) (c .enum-told3 .given .1)
+    (after-wide .wide .ensures ∙ after-wide .before .count-at .ensures) (after-bits-of .bits-of .ensures .0 ∙ ap bitsIn (after-slot-of .slot-of .ensures .0)) (after-version-at .version-at .ensures))
+    _ (after-compared .compared .ensures) (c .enum-told3 .given .1)
     (ltb (a .i) (a .j)) refl
 
 pub ahead-spec : {M : Type 1} → statement M

@@ -16,13 +16,18 @@ Inv-loop store table many ranks n i₀ i = Walk counted store (NamedNo store tab
 abbrev μ-loop : tie.MeasureT-loop
 μ-loop store table many ranks n i₀ i = n - i
 
+-- `A-from-B` is the state A as the later state B has it.
+abbrev start-from-slot-count : tie.After-slot-count Inv-loop μ-loop → tie.Start Inv-loop μ-loop
+start-from-slot-count c = c .before .before
+
 slot-count-requires : tie.Need-slot-count-requires Inv-loop μ-loop
 slot-count-requires c κs = c .before .pre .0
 
 loop-holds : tie.Need-loop-holds Inv-loop μ-loop
 loop-holds c =
-    let a = c .before .before .args in
-    walk-start (a .store .now) (NamedNo (a .store .now) (a .table .now) (a .many)) (c .before .before .pre .0) (c .slot-count .ensures)
+    let start = start-from-slot-count c in
+    let a = start .args in
+    walk-start (a .store .now) (NamedNo (a .store .now) (a .table .now) (a .many)) (start .pre .0) (c .slot-count .ensures)
 
 mul-slot-named : tie.Need-mul-slot-named Inv-loop μ-loop
 mul-slot-named c = omega (arith, c .before .loop .inv .scan .small)
@@ -31,7 +36,10 @@ element-copy-out-slot-named : tie.Need-element-copy-out-slot-named Inv-loop μ-l
 element-copy-out-slot-named c = omega (arith, c .before .loop .inv .scan .small)
 
 slot-named-requires : tie.Need-slot-named-requires Inv-loop μ-loop
-slot-named-requires c κs = (walk-slot (c .before .before .loop .inv) (c .before .loop-test .taken), c .before .before .before .before .before .pre .1)
+slot-named-requires c κs =
+    let in-loop = c .before in
+    let at-loop = in-loop .before in
+    (walk-slot (at-loop .loop .inv) (in-loop .loop-test .taken), start-from-slot-count (at-loop .before) .pre .1)
 
 returns : tie.Need-returns Inv-loop μ-loop
 returns c = tt
@@ -43,12 +51,17 @@ loop-less : tie.Need-loop-less Inv-loop μ-loop
 loop-less c = omega arith
 
 loop-again : tie.Need-loop-again Inv-loop μ-loop
-loop-again c = walk-on (c .before .before .before .before .loop .inv) (c .before .before .before .loop-test .taken) (c .before .slot-named .result) (c .if1 .left) (c .before .slot-named .ensures)
+loop-again c =
+    let after-slot-named = c .before in
+    let in-loop = after-slot-named .before .before in
+    walk-on (in-loop .before .loop .inv) (in-loop .loop-test .taken) (after-slot-named .slot-named .result) (c .if1 .left) (after-slot-named .slot-named .ensures)
 
 returns-2 : tie.Need-returns-2 Inv-loop μ-loop
 returns-2 c =
-    let a = c .before .before .before .before .args in
-    each-below (NamedNo (a .store .now) (a .table .now) (a .many)) (roomOf counted (length (a .store .now))) _ (omega (arith, c .loop-test .left, c .before .before .slot-count .ensures)) (c .before .loop .inv .each)
+    let at-loop = c .before in
+    let after-slot-count = at-loop .before in
+    let a = start-from-slot-count after-slot-count .args in
+    each-below (NamedNo (a .store .now) (a .table .now) (a .many)) (roomOf counted (length (a .store .now))) _ (omega (arith, c .loop-test .left, after-slot-count .slot-count .ensures)) (at-loop .loop .inv .each)
 
 pub all-named-spec : {M : Type 1} → statement M
 all-named-spec =

@@ -26,12 +26,18 @@ names-form-requires c κs = search needs
 returns : tie.Need-returns
 returns c = tt
 
+-- `A-from-B` is the state A as the later state B has it.
+abbrev start-from-names-form : tie.After-names-form → tie.Start
+start-from-names-form c = c .before .before .before .before
+
 returns-2 : tie.Need-returns-2
 returns-2 c =
-    let c6 = c .before .before .before .before .before .before in
-    let a = c6 .args in
-    order-next (a .store .now) (a .table .now) (a .k) (c6 .pre .2) (c .before .before .before .wide .ensures)
-    (passed-so (c .before .before .names-form .result) (c .before .if1 .left) (c .before .before .names-form .ensures)) (λ h. absurd (omega (arith, h, c .if2 .taken)))
+    let else1 = c .before in
+    let after-names-form = else1 .before in
+    let start = start-from-names-form after-names-form in
+    let a = start .args in
+    order-next (a .store .now) (a .table .now) (a .k) (start .pre .2) (after-names-form .before .wide .ensures)
+    (passed-so (after-names-form .names-form .result) (else1 .if1 .left) (after-names-form .names-form .ensures)) (λ h. absurd (omega (arith, h, c .if2 .taken)))
 
 sub-wide : tie.Need-sub-wide
 sub-wide c = search needs
@@ -47,20 +53,26 @@ wide-requires-2 c κs = search needs
 
 ahead-requires : tie.Need-ahead-requires
 ahead-requires c κs =
-    let c8 = c .before .before .before .before .before .before .before .before in
-    let a = c8 .args in (
-      subst (Formed (a .store .now)) (sym (c .wide2 .ensures)) (c8 .pre .2 .each (a .k - 1) (omega (arith, c .before .before .if2 .left))),
-      passed-so (c .before .before .before .before .names-form .result) (c .before .before .before .if1 .left) (c .before .before .before .before .names-form .ensures),
+    let else2 = c .before .before in
+    let else1 = else2 .before in
+    let after-names-form = else1 .before in
+    let start = start-from-names-form after-names-form in
+    let a = start .args in (
+      subst (Formed (a .store .now)) (sym (c .wide2 .ensures)) (start .pre .2 .each (a .k - 1) (omega (arith, else2 .if2 .left))),
+      passed-so (after-names-form .names-form .result) (else1 .if1 .left) (after-names-form .names-form .ensures),
     )
 
 returns-3 : tie.Need-returns-3
 returns-3 c =
-    let c9 = c .before .before .before .before .before .before .before .before .before in
-    let a = c9 .args in
+    let after-wide2 = c .before in
+    let else1 = after-wide2 .before .before .before in
+    let after-names-form = else1 .before in
+    let start = start-from-names-form after-names-form in
+    let a = start .args in
     pass-map (c .ahead .result)
-    (λ up. order-next (a .store .now) (a .table .now) (a .k) (c9 .pre .2) (c .before .before .before .before .before .before .wide .ensures)
-    (passed-so (c .before .before .before .before .before .names-form .result) (c .before .before .before .before .if1 .left) (c .before .before .before .before .before .names-form .ensures))
-    (λ h. subst (λ z. Ahead (storeOf (a .store .now) .slots) z (c .before .before .before .before .before .before .wide .result)) (c .before .wide2 .ensures) up))
+    (λ up. order-next (a .store .now) (a .table .now) (a .k) (start .pre .2) (after-names-form .before .wide .ensures)
+    (passed-so (after-names-form .names-form .result) (else1 .if1 .left) (after-names-form .names-form .ensures))
+    (λ h. subst (λ z. Ahead (storeOf (a .store .now) .slots) z (after-names-form .before .wide .result)) (after-wide2 .wide2 .ensures) up))
     (c .ahead .ensures)
 
 pub follows-spec : {M : Type 1} → statement M

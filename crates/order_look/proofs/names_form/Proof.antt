@@ -23,12 +23,14 @@ holds-record-requires c κs = search needs
 
 returns-2 : tie.Need-returns-2
 returns-2 c =
-    let c4 = c .before .before .before .before in
-    let a = c4 .args in
-    let has = room-has {i = a .i} (c4 .pre) (omega (arith, c .before .before .if1 .left)) in
+    let after-slot-of = c .before in
+    let else1 = after-slot-of .before in
+    let start = else1 .before .before in
+    let a = start .args in
+    let has = room-has {i = a .i} (start .pre) (omega (arith, else1 .if1 .left)) in
     pass-map (c .holds-record .result) (λ f. (has, f))
     (formed (c .holds-record .result) (storeOf (a .store .now) .slots) (a .i)
-    (c .holds-record .ensures ∙ ap (λ x. isUsed (slotOf x)) (c .before .slot-of .ensures .0) ∙ ap isUsed (sym (slot-is has))))
+    (c .holds-record .ensures ∙ ap (λ x. isUsed (slotOf x)) (after-slot-of .slot-of .ensures .0) ∙ ap isUsed (sym (slot-is has))))
 
 pub names-form-spec : {M : Type 1} → statement M
 names-form-spec = tie.close (tie.spec returns slot-of-requires holds-record-requires returns-2)

@@ -19,8 +19,10 @@ join-requires c κs = search needs
 
 returns : tie.Need-returns
 returns c =
-    let a = c .before .before .before .before .args in
-    rw (c .join .ensures .0, c .before .word-at2 .ensures, c .before .before .word-at .ensures) (number-of-words (a .s .now) (a .at) (search needs))
+    let after-word-at2 = c .before in
+    let after-word-at = after-word-at2 .before in
+    let a = after-word-at .before .before .args in
+    rw (c .join .ensures .0, after-word-at2 .word-at2 .ensures, after-word-at .word-at .ensures) (number-of-words (a .s .now) (a .at) (search needs))
 
 pub number-at-spec : {M : Type 1} → statement M
 number-at-spec =

@@ -19,11 +19,12 @@ all-named-requires c κs = search needs
 
 returns-2 : tie.Need-returns-2
 returns-2 c =
-    let c5 = c .before .before .before .before .before in
-    let a = c5 .before .before .args in
+    let else1 = c .before .before .before .before in
+    let after-ascending = else1 .before in
+    let a = after-ascending .before .before .args in
     pass-map (c .all-named .result)
     (both-passed (a .store .now) (a .table .now) (a .many)
-    (passed-so (c5 .ascending .result) (c .before .before .before .before .if1 .left) (c5 .ascending .ensures)))
+    (passed-so (after-ascending .ascending .result) (else1 .if1 .left) (after-ascending .ascending .ensures)))
     (c .all-named .ensures)
 
 pub ordered-spec : {M : Type 1} → statement M

@@ -13,6 +13,10 @@ use borrow.Author.Needs.{needs}
 use Rattle.order_look.proofs.slot_named.Statement.{statement}
 use Rattle.order_look.proofs.slot_named.Tie as tie
 
+-- `A-from-B` is the state A as the later state B has it.
+abbrev start-from-holds-record : tie.After-holds-record → tie.Start
+start-from-holds-record c = c .before .before .before
+
 slot-of-requires : tie.Need-slot-of-requires
 slot-of-requires c κs = slot-within (c .before .pre .0)
 
@@ -21,10 +25,11 @@ holds-record-requires c κs = search needs
 
 returns : tie.Need-returns
 returns c =
-    let c4 = c .before .before .before .before in
-    let a = c4 .args in
+    let after-holds-record = c .before in
+    let start = start-from-holds-record after-holds-record in
+    let a = start .args in
     unformed (storeOf (a .store .now) .slots) (a .i)
-    (ap isUsed (slot-is (c4 .pre .0)) ∙ ap (λ x. isUsed (slotOf x)) (sym (c .before .before .slot-of .ensures .0)) ∙ sym (c .before .holds-record .ensures) ∙ not-true _ (c .if1 .taken))
+    (ap isUsed (slot-is (start .pre .0)) ∙ ap (λ x. isUsed (slotOf x)) (sym (after-holds-record .before .slot-of .ensures .0)) ∙ sym (after-holds-record .holds-record .ensures) ∙ not-true _ (c .if1 .taken))
 
 wide-requires : tie.Need-wide-requires
 wide-requires c κs = search needs
@@ -43,9 +48,10 @@ wide-requires-2 c κs = search needs
 
 returns-3 : tie.Need-returns-3
 returns-3 c =
-    let a = c .before .before .before .before .before .before .before .before .args in
+    let else2 = c .before .before in
+    let a = start-from-holds-record (else2 .before .before .before) .args in
     pass-map (eqb (c .wide2 .result) (a .i)) (λ n f. n)
-    (named-here (eqb (c .wide2 .result) (a .i)) (a .table .now) (a .i) {n = a .many} _ (omega (arith, c .before .before .if2 .left)) (c .wide2 .ensures) refl)
+    (named-here (eqb (c .wide2 .result) (a .i)) (a .table .now) (a .i) {n = a .many} _ (omega (arith, else2 .if2 .left)) (c .wide2 .ensures) refl)
 
 pub slot-named-spec : {M : Type 1} → statement M
 slot-named-spec =

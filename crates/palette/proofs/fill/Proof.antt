@@ -17,9 +17,21 @@ Inv-loop part₀ store index kids version keys start₀ at₀ part start at = Fi
 abbrev μ-loop : tie.MeasureT-loop
 μ-loop part₀ store index kids version keys start₀ at₀ part start at = length keys - at
 
+-- `A-from-B` is the state A as the later state B has it.
+abbrev at-loop-from-plan-of : tie.After-plan-of Inv-loop μ-loop → tie.At-loop Inv-loop μ-loop
+at-loop-from-plan-of c = c .before .before .before
+
+abbrev in-loop-from-plan-of : tie.After-plan-of Inv-loop μ-loop → tie.In-loop Inv-loop μ-loop
+in-loop-from-plan-of c = c .before .before
+
+abbrev start-from-shared-slice-known4 : tie.After-shared-slice-known4 Inv-loop μ-loop → tie.Start Inv-loop μ-loop
+start-from-shared-slice-known4 c = c .before .before .before .before .before
+
 loop-holds : tie.Need-loop-holds Inv-loop μ-loop
 unfolding plannedIn
-loop-holds c = let start = c .before .before .before .before .before in filling-starts _ (start .args .keys .now) (start .args .part .now) (start .pre .1) (start .pre .2)
+loop-holds c =
+    let start = start-from-shared-slice-known4 c in
+    filling-starts _ (start .args .keys .now) (start .args .part .now) (start .pre .1) (start .pre .2)
 
 add-end : tie.Need-add-end Inv-loop μ-loop
 add-end c = let w = c .before .loop .inv .left in omega (arith, w .here, w .short, c .loop-test .taken)
@@ -35,18 +47,21 @@ part-key-end c = omega (arith, c .before .loop .inv .left .here, c .loop-test .t
 
 plan-of-requires : tie.Need-plan-of-requires Inv-loop μ-loop
 plan-of-requires c κs =
-    let start = c .before .before .before .before .before .before .before .before in
-    (start .pre .0, next (c .before .before .loop .inv) (c .before .loop-test .taken) .whole, start .pre .3)
+    let in-loop = c .before in
+    let at-loop = in-loop .before in
+    let start = start-from-shared-slice-known4 (at-loop .before) in
+    (start .pre .0, next (at-loop .loop .inv) (in-loop .loop-test .taken) .whole, start .pre .3)
 
 add-next : tie.Need-add-next Inv-loop μ-loop
 add-next c =
-    let turn = c .before .before .before in
-    let n = next (turn .before .loop .inv) (turn .loop-test .taken) in
-    let its = c .before .plan-of in
+    let after-plan-of = c .before in
+    let at-loop = at-loop-from-plan-of after-plan-of in
+    let n = next (at-loop .loop .inv) (in-loop-from-plan-of after-plan-of .loop-test .taken) in
+    let its = after-plan-of .plan-of in
     let e = its .ensures .says ∙ n .is in
     let p = planned _ _ (its .result) (n .proof) (its .ensures .within) e in
     let l = its-length (p .proof) (n .proof) (p .says) e (p .long) in
-    let w = turn .before .loop .inv in
+    let w = at-loop .loop .inv in
     omega (arith, w .few, p .few, w .left .here, w .left .short)
 
 sub-write : tie.Need-sub-write Inv-loop μ-loop
@@ -57,37 +72,41 @@ part-write-start c = omega arith
 
 part-write-end : tie.Need-part-write-end Inv-loop μ-loop
 part-write-end c =
-    let turn = c .before .before .before in
-    let n = next (turn .before .loop .inv) (turn .loop-test .taken) in
-    let its = c .before .plan-of in
+    let after-plan-of = c .before in
+    let at-loop = at-loop-from-plan-of after-plan-of in
+    let n = next (at-loop .loop .inv) (in-loop-from-plan-of after-plan-of .loop-test .taken) in
+    let its = after-plan-of .plan-of in
     let e = its .ensures .says ∙ n .is in
     let p = planned _ _ (its .result) (n .proof) (its .ensures .within) e in
     let l = its-length (p .proof) (n .proof) (p .says) e (p .long) in
-    omega (arith, n .reaches, l, turn .before .loop .inv .long)
+    omega (arith, n .reaches, l, at-loop .loop .inv .long)
 
 write-requires : tie.Need-write-requires Inv-loop μ-loop
 write-requires c κs =
-    let turn = c .before .before .before .before in
-    let n = next (turn .before .loop .inv) (turn .loop-test .taken) in
-    let its = c .before .before .plan-of in
+    let after-plan-of = c .before .before in
+    let at-loop = at-loop-from-plan-of after-plan-of in
+    let n = next (at-loop .loop .inv) (in-loop-from-plan-of after-plan-of .loop-test .taken) in
+    let its = after-plan-of .plan-of in
     let e = its .ensures .says ∙ n .is in
     let p = planned _ _ (its .result) (n .proof) (its .ensures .within) e in
     let l = its-length (p .proof) (n .proof) (p .says) e (p .long) in
-    (its .ensures .within, n .whole, part-room _ _ _ _ refl (omega (arith, n .reaches, l, turn .before .loop .inv .long)) ∙ p .long ∙ sym (ap plannedLength (p .says)))
+    (its .ensures .within, n .whole, part-room _ _ _ _ refl (omega (arith, n .reaches, l, at-loop .loop .inv .long)) ∙ p .long ∙ sym (ap plannedLength (p .says)))
 
 loop-less : tie.Need-loop-less Inv-loop μ-loop
-loop-less c = omega (arith, c .before .before .before .before .before .before .before .loop-test .taken)
+loop-less c = omega (arith, in-loop-from-plan-of (c .before .before .before .before .before) .loop-test .taken)
 
 loop-again : tie.Need-loop-again Inv-loop μ-loop
 loop-again c =
-    let its = c .before .before .before .before .before in
-    let turn = its .before .before in
-    let n = next (turn .before .loop .inv) (turn .loop-test .taken) in
-    let e = its .plan-of .ensures .says ∙ n .is in
-    let p = planned _ _ (its .plan-of .result) (n .proof) (its .plan-of .ensures .within) e in
+    let after-write = c .before .before in
+    let after-plan-of = after-write .before .before .before in
+    let in-loop = in-loop-from-plan-of after-plan-of in
+    let at-loop = in-loop .before in
+    let n = next (at-loop .loop .inv) (in-loop .loop-test .taken) in
+    let e = after-plan-of .plan-of .ensures .says ∙ n .is in
+    let p = planned _ _ (after-plan-of .plan-of .result) (n .proof) (after-plan-of .plan-of .ensures .within) e in
     let l = its-length (p .proof) (n .proof) (p .says) e (p .long) in
-    filling-next (turn .before .loop .inv) (turn .loop-test .taken) n (c .before .before .write .last .0) l (p .few) (c .before .before .write .kept .0)
-    (c .before .before .write .ensures ∙ ap plannedBytes e)
+    filling-next (at-loop .loop .inv) (in-loop .loop-test .taken) n (after-write .write .last .0) l (p .few) (after-write .write .kept .0)
+    (after-write .write .ensures ∙ ap plannedBytes e)
 
 same-length : tie.Need-same-length Inv-loop μ-loop
 same-length c = c .before .loop .inv .long

@@ -14,15 +14,23 @@ enum-known-measured c = search needs
 enum-known-measured-2 : tie.Need-enum-known-measured-2
 enum-known-measured-2 c = search needs
 
+-- `A-from-B` is the state A as the later state B has it.
+abbrev start-from-slice-known : tie.After-slice-known → tie.Start
+start-from-slice-known c = c .before .before .before .before .before
+
 give-requires : tie.Need-give-requires
 give-requires c κs =
-    let start = c .before .before .before .before .before .before .before .before .before .before in
-    (start .pre .0, start .pre .1, measured-length _ (c .before .before .before .before .measure .ensures) (c .before .before .measured2 .given .1), start .pre .2)
+    let after-measured2 = c .before .before in
+    let after-measure = after-measured2 .before .before in
+    let start = start-from-slice-known (after-measure .before) in
+    (start .pre .0, start .pre .1, measured-length _ (after-measure .measure .ensures) (after-measured2 .measured2 .given .1), start .pre .2)
 
 returns : tie.Need-returns
 returns c =
-    let a = c .before .before .before .before .before .before .before .before .before .args in
-    single-refused (plannedIn (a .store .now) (a .index .now) (a .version) (a .keys .now)) (a .room .now) _ (c .before .before .before .measure .ensures) (c .before .measured .given .1)
+    let after-measured = c .before in
+    let after-measure = after-measured .before .before in
+    let a = start-from-slice-known (after-measure .before) .args in
+    single-refused (plannedIn (a .store .now) (a .index .now) (a .version) (a .keys .now)) (a .room .now) _ (after-measure .measure .ensures) (after-measured .measured .given .1)
 
 same-length : tie.Need-same-length
 same-length c = search needs

@@ -17,8 +17,14 @@ Inv-loop store index kids version keys total₀ at₀ total at = Measuring (plan
 abbrev μ-loop : tie.MeasureT-loop
 μ-loop store index kids version keys total₀ at₀ total at = length keys - at
 
+-- `A-from-B` is the state A as the later state B has it.
+abbrev start-from-shared-slice-known4 : tie.After-shared-slice-known4 Inv-loop μ-loop → tie.Start Inv-loop μ-loop
+start-from-shared-slice-known4 c = c .before .before .before .before
+
 loop-holds : tie.Need-loop-holds Inv-loop μ-loop
-loop-holds c = let start = c .before .before .before .before in measuring-starts _ (start .args .keys .now) (start .pre .1)
+loop-holds c =
+    let start = start-from-shared-slice-known4 c in
+    measuring-starts _ (start .args .keys .now) (start .pre .1)
 
 add-end : tie.Need-add-end Inv-loop μ-loop
 add-end c = let w = c .before .loop .inv .left in omega (arith, w .here, w .short, c .loop-test .taken)
@@ -34,8 +40,10 @@ part-plan-of-end c = omega (arith, c .before .loop .inv .left .here, c .loop-tes
 
 plan-of-requires : tie.Need-plan-of-requires Inv-loop μ-loop
 plan-of-requires c κs =
-    let start = c .before .before .before .before .before .before .before in
-    (start .pre .0, its-turn (c .before .before .loop .inv) (c .before .loop-test .taken) .whole, start .pre .2)
+    let in-loop = c .before in
+    let at-loop = in-loop .before in
+    let start = start-from-shared-slice-known4 (at-loop .before) in
+    (start .pre .0, its-turn (at-loop .loop .inv) (in-loop .loop-test .taken) .whole, start .pre .2)
 
 enum-known-shape : tie.Need-enum-known-shape Inv-loop μ-loop
 enum-known-shape c = search needs
@@ -43,28 +51,35 @@ enum-known-shape c = search needs
 returns : tie.Need-returns Inv-loop μ-loop
 unfolding provedSays plannedIn
 returns c =
-    let planned = c .before .before .before .plan-of in
-    let turn = c .before .before .before .before .before in
-    measuring-refused (turn .before .loop .inv) (turn .loop-test .taken) (sym (planned .ensures .says) ∙ refusal-planned _ _ (planned .result) (c .before .shape .given .1))
+    let after-shape = c .before in
+    let after-plan-of = after-shape .before .before in
+    let in-loop = after-plan-of .before .before in
+    let planned = after-plan-of .plan-of in
+    measuring-refused (in-loop .before .loop .inv) (in-loop .loop-test .taken) (sym (planned .ensures .says) ∙ refusal-planned _ _ (planned .result) (after-shape .shape .given .1))
 
 add-total : tie.Need-add-total Inv-loop μ-loop
 add-total c =
-    let planned = c .before .before .plan-of in
-    let turn = c .before .before .before .before in
-    let a = turn .before .before .before .before .before .before .args in
-    let p = not-refused (a .store .now) (keyAt (a .keys .now) (turn .before .loop .at)) (planned .result) (planned .ensures .within) (c .before .match .keys2) in
-    let w = turn .before .loop .inv in
-    omega (arith, p .few, w .few, w .left .here, w .left .short, turn .loop-test .taken)
+    let at-match-keys2 = c .before in
+    let after-plan-of = at-match-keys2 .before in
+    let in-loop = after-plan-of .before .before in
+    let at-loop = in-loop .before in
+    let planned = after-plan-of .plan-of in
+    let a = start-from-shared-slice-known4 (at-loop .before) .args in
+    let p = not-refused (a .store .now) (keyAt (a .keys .now) (at-loop .loop .at)) (planned .result) (planned .ensures .within) (at-match-keys2 .match .keys2) in
+    let w = at-loop .loop .inv in
+    omega (arith, p .few, w .few, w .left .here, w .left .short, in-loop .loop-test .taken)
 
 loop-less : tie.Need-loop-less Inv-loop μ-loop
 loop-less c = omega (arith, c .before .before .before .before .loop-test .taken)
 
 loop-again : tie.Need-loop-again Inv-loop μ-loop
 loop-again c =
-    let planned = c .before .before .plan-of in
-    let turn = c .before .before .before .before in
-    let p = not-refused _ _ (planned .result) (planned .ensures .within) (c .before .match .keys2) in
-    measuring-next (turn .before .loop .inv) (turn .loop-test .taken) (p .proof) (sym (planned .ensures .says) ∙ p .says) (p .long) (p .few)
+    let at-match-keys2 = c .before in
+    let after-plan-of = at-match-keys2 .before in
+    let in-loop = after-plan-of .before .before in
+    let planned = after-plan-of .plan-of in
+    let p = not-refused _ _ (planned .result) (planned .ensures .within) (at-match-keys2 .match .keys2) in
+    measuring-next (in-loop .before .loop .inv) (in-loop .loop-test .taken) (p .proof) (sym (planned .ensures .says) ∙ p .says) (p .long) (p .few)
 
 cast-t17 : tie.Need-cast-t17 Inv-loop μ-loop
 cast-t17 c = let w = c .before .loop .inv in omega (arith, w .few, w .left .here, w .left .short)

@@ -21,9 +21,15 @@ whole-keys-requires c κs = search needs
 cast-t10 : tie.Need-cast-t10
 cast-t10 c = search needs
 
+-- `A-from-B` is the state A as the later state B has it.
+abbrev start-from-whole-keys : tie.After-whole-keys → tie.Start
+start-from-whole-keys c = c .before .before .before .before .before
+
+abbrev start-from-else1 : tie.Else1 → tie.Start
+start-from-else1 c = start-from-whole-keys (c .before)
+
 returns : tie.Need-returns
-returns c =
-    let a = c .before .before .before .before .before .before .args in
+returns c = let a = start-from-whole-keys (c .before) .args in
     torn-list (a .store .now) (a .index .now) (a .version) (a .keys .now) (a .room .now) (c .before .whole-keys .ensures) (not-true _ (c .if1 .taken))
 
 open-requires : tie.Need-open-requires
@@ -37,10 +43,12 @@ cast-t11 c = search needs
 
 returns-2 : tie.Need-returns-2
 returns-2 c =
-    let o = c .before .before .before in
-    let w = o .before .before .whole-keys in
-    let a = o .before .before .before .before .before .before .before .args in
-    first-refused (a .store .now) (a .index .now) (a .version) (a .keys .now) (a .room .now) (w .ensures) (not-false _ (o .before .if1 .left)) _ (o .«open» .ensures) (c .before .opened .given .1)
+    let after-opened = c .before in
+    let after-open = after-opened .before .before in
+    let else1 = after-open .before in
+    let w = else1 .before .whole-keys in
+    let a = start-from-else1 else1 .args in
+    first-refused (a .store .now) (a .index .now) (a .version) (a .keys .now) (a .room .now) (w .ensures) (not-false _ (else1 .if1 .left)) _ (after-open .«open» .ensures) (after-opened .opened .given .1)
 
 enum-told : tie.Need-enum-told
 enum-told c = search needs
@@ -50,30 +58,39 @@ pays-requires c κs = search needs
 
 give-many-requires : tie.Need-give-many-requires
 give-many-requires c κs =
-    let o = c .before .before .before .before .before in
-    let w = o .before .before .whole-keys in
-    let a = o .before .before .before .before .before .before .before .args in
-    (kept-size (a .store .now) (a .version) (o .«open» .ensures) (c .before .before .before .enum-told .given .1), sym (w .ensures) ∙ not-false _ (o .before .if1 .left))
+    let after-enum-told = c .before .before .before in
+    let after-open = after-enum-told .before .before in
+    let else1 = after-open .before in
+    let w = else1 .before .whole-keys in
+    let a = start-from-else1 else1 .args in
+    (kept-size (a .store .now) (a .version) (after-open .«open» .ensures) (after-enum-told .enum-told .given .1), sym (w .ensures) ∙ not-false _ (else1 .if1 .left))
 
 same-length : tie.Need-same-length
 same-length c = search needs
 
 returns-3 : tie.Need-returns-3
 returns-3 c =
-    let o = c .before .before .before .before .before .before .before .before in
-    let w = o .before .before .whole-keys in
-    let a = o .before .before .before .before .before .before .before .args in
-    let none = c .before .before .before .before .before .pays .ensures (c .before .before .before .before .if2 .taken) in
-    all-given (a .store .now) (a .index .now) (a .version) (a .keys .now) (a .room .now) (w .ensures) (not-false _ (o .before .if1 .left)) (o .«open» .ensures)
-    (c .before .before .before .before .before .before .enum-told .given .1)
-    (gives-as (ap (λ t. fittedTogether (length (a .room .now)) (plannedIn (a .store .now) t (a .version) (a .keys .now))) (sym none)) (c .before .before .give-many .ensures))
+    let after-give-many = c .before .before in
+    let then2 = after-give-many .before .before in
+    let after-pays = then2 .before in
+    let after-enum-told = after-pays .before in
+    let after-open = after-enum-told .before .before in
+    let else1 = after-open .before in
+    let w = else1 .before .whole-keys in
+    let a = start-from-else1 else1 .args in
+    let none = after-pays .pays .ensures (then2 .if2 .taken) in
+    all-given (a .store .now) (a .index .now) (a .version) (a .keys .now) (a .room .now) (w .ensures) (not-false _ (else1 .if1 .left)) (after-open .«open» .ensures)
+    (after-enum-told .enum-told .given .1)
+    (gives-as (ap (λ t. fittedTogether (length (a .room .now)) (plannedIn (a .store .now) t (a .version) (a .keys .now))) (sym none)) (after-give-many .give-many .ensures))
 
 give-each-requires : tie.Need-give-each-requires
 give-each-requires c κs =
-    let o = c .before .before .before .before .before in
-    let w = o .before .before .whole-keys in
-    let start = start-from-open o in
-    (kept-size (start .args .store .now) (start .args .version) (o .«open» .ensures) (c .before .before .before .enum-told .given .1), sym (w .ensures) ∙ not-false _ (o .before .if1 .left))
+    let after-enum-told = c .before .before .before in
+    let after-open = after-enum-told .before .before in
+    let else1 = after-open .before in
+    let w = else1 .before .whole-keys in
+    let start = start-from-open after-open in
+    (kept-size (start .args .store .now) (start .args .version) (after-open .«open» .ensures) (after-enum-told .enum-told .given .1), sym (w .ensures) ∙ not-false _ (else1 .if1 .left))
 
 same-length-2 : tie.Need-same-length-2
 same-length-2 c = search needs

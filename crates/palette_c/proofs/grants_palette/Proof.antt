@@ -17,8 +17,10 @@ same-length c = search needs
 
 returns : tie.Need-returns
 returns c =
-    let a = c .before .before .before .before .before .before .before .before .before .args in
-    palette-told (palette-as (palette-plain (a .store .now) (a .version) (a .keys .now) (length (a .room .now))) (c .before .before .palette-by .ensures))
+    let after-palette-by = c .before .before in
+    let after-palette-by-arg2 = after-palette-by .before .before in
+    let a = after-palette-by-arg2 .before .before .before .before .before .args in
+    palette-told (palette-as (palette-plain (a .store .now) (a .version) (a .keys .now) (length (a .room .now))) (after-palette-by .palette-by .ensures))
 
 pub grants-palette-spec : {M : Type 1} → statement M
 grants-palette-spec = tie.close (tie.spec slice-aggregate-palette-by palette-by-requires same-length returns)

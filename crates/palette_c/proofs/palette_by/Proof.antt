@@ -19,20 +19,28 @@ put-u32-requires c κs = search needs
 same-length : tie.Need-same-length
 same-length c = search needs
 
+-- `A-from-B` is the state A as the later state B has it.
+abbrev start-from-palette-arg : tie.After-palette-arg → tie.Start
+start-from-palette-arg c = c .before .before .before .before .before
+
 returns : tie.Need-returns
 returns c =
-    let a = c .before .before .before .before .before .before .before .before .before .before .before .args in
-    let d = c .before .before .before .before .before .palette .ensures in
-    palette-refused d (a .length .now) (c .before .proved .given .1)
+    let after-proved = c .before in
+    let after-palette = after-proved .before .before .before .before in
+    let a = start-from-palette-arg (after-palette .before) .args in
+    let d = after-palette .palette .ensures in
+    palette-refused d (a .length .now) (after-proved .proved .given .1)
 
 same-length-2 : tie.Need-same-length-2
 same-length-2 c = search needs
 
 returns-2 : tie.Need-returns-2
 returns-2 c =
-    let a = c .before .before .before .before .before .before .before .before .before .before .before .before .before .args in
-    let d = c .before .before .before .before .before .before .before .palette .ensures in
-    palette-given d (a .length .now) (c .before .before .before .proved2 .given .1) (search needs) (c .put-u32 .ensures)
+    let after-proved2 = c .before .before .before in
+    let after-palette = after-proved2 .before .before .before .before in
+    let a = start-from-palette-arg (after-palette .before) .args in
+    let d = after-palette .palette .ensures in
+    palette-given d (a .length .now) (after-proved2 .proved2 .given .1) (search needs) (c .put-u32 .ensures)
 
 pub palette-by-spec : {M : Type 1} → statement M
 palette-by-spec =

@@ -14,9 +14,12 @@ whole-keys-requires c κs = search needs
 cast-result : tie.Need-cast-result
 cast-result c = search needs
 
+-- `A-from-B` is the state A as the later state B has it.
+abbrev start-from-whole-keys : tie.After-whole-keys → tie.Start
+start-from-whole-keys c = c .before .before .before .before .before
+
 returns : tie.Need-returns
-returns c =
-    let a = c .before .before .before .before .before .before .args in
+returns c = let a = start-from-whole-keys (c .before) .args in
     palette-told-by (palette-refusal 12 (a .room .now) (a .length .now) (palette-torn (a .store .now) (a .index .now) (a .version) (a .keys .now) (length (a .room .now)) (sym (c .before .whole-keys .ensures) ∙ not-true _ (c .if1 .taken))))
 
 as-many-requires : tie.Need-as-many-requires
@@ -27,9 +30,12 @@ cast-result-2 c = search needs
 
 returns-2 : tie.Need-returns-2
 returns-2 c =
-    let a = c .before .before .before .before .before .before .before .before .args in
+    let after-as-many = c .before in
+    let else1 = after-as-many .before in
+    let after-whole-keys = else1 .before in
+    let a = start-from-whole-keys after-whole-keys .args in
     palette-told-by (palette-refusal 1 (a .room .now) (a .length .now)
-    (palette-not-as-many (a .store .now) (a .index .now) (a .version) (a .keys .now) (length (a .room .now)) (sym (c .before .before .before .whole-keys .ensures) ∙ not-false _ (c .before .before .if1 .left)) (sym (c .before .as-many .ensures) ∙ not-true _ (c .if2 .taken))))
+    (palette-not-as-many (a .store .now) (a .index .now) (a .version) (a .keys .now) (length (a .room .now)) (sym (after-whole-keys .whole-keys .ensures) ∙ not-false _ (else1 .if1 .left)) (sym (after-as-many .as-many .ensures) ∙ not-true _ (c .if2 .taken))))
 
 palette-by-requires : tie.Need-palette-by-requires
 palette-by-requires c κs = search needs
@@ -39,9 +45,14 @@ same-length c = search needs
 
 returns-3 : tie.Need-returns-3
 returns-3 c =
-    let a = c .before .before .before .before .before .before .before .before .before .before .before .before .before .args in
-    palette-told-by (palette-as (palette-as-many (a .store .now) (a .index .now) (a .version) (a .keys .now) (length (a .room .now)) (sym (c .before .before .before .before .before .before .before .before .whole-keys .ensures) ∙ not-false _ (c .before .before .before .before .before .before .before .if1 .left)) (sym (c .before .before .before .before .before .before .as-many .ensures) ∙ not-false _ (c .before .before .before .before .before .if2 .left)))
-    (c .before .before .palette-by .ensures))
+    let after-palette-by = c .before .before in
+    let else2 = after-palette-by .before .before .before in
+    let after-as-many = else2 .before in
+    let else1 = after-as-many .before in
+    let after-whole-keys = else1 .before in
+    let a = start-from-whole-keys after-whole-keys .args in
+    palette-told-by (palette-as (palette-as-many (a .store .now) (a .index .now) (a .version) (a .keys .now) (length (a .room .now)) (sym (after-whole-keys .whole-keys .ensures) ∙ not-false _ (else1 .if1 .left)) (sym (after-as-many .as-many .ensures) ∙ not-false _ (else2 .if2 .left)))
+    (after-palette-by .palette-by .ensures))
 
 pub palette-indexed-spec : {M : Type 1} → statement M
 palette-indexed-spec =

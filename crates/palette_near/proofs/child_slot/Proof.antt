@@ -43,10 +43,11 @@ element-write-kids c = search needs
 
 returns-3 : tie.Need-returns-3
 returns-3 c =
-    let at = c .before .before .before .before .before .before in
-    let start = at .before .before .before in
+    let else2 = c .before in
+    let after-guess-at = else2 .before .before .before .before .before in
+    let start = after-guess-at .before .before .before in
     let a = start .args in
-    led-set (a .store .now) (a .index .now) (a .kids .now) (at .guess-at .result) (c .found-by .result) (start .pre .1) (c .found-by .ensures)
+    led-set (a .store .now) (a .index .now) (a .kids .now) (after-guess-at .guess-at .result) (c .found-by .result) (start .pre .1) (c .found-by .ensures)
 
 pub child-slot-spec : {M : Type 1} → statement M
 child-slot-spec =

@@ -18,45 +18,51 @@ abbrev μ-loop : tie.MeasureT-loop
 top-requires : tie.Need-top-requires Inv-loop μ-loop
 top-requires c κs = search needs
 
+-- `A-from-B` is the state A as the later state B has it.
+abbrev at-loop-from-then1 : tie.Then1 Inv-loop μ-loop → tie.At-loop Inv-loop μ-loop
+at-loop-from-then1 c = c .before .before
+
+abbrev at-loop-from-else2 : tie.Else2 Inv-loop μ-loop → tie.At-loop Inv-loop μ-loop
+at-loop-from-else2 c = at-loop-from-then1 (c .before)
+
+abbrev start-from-top : tie.After-top Inv-loop μ-loop → tie.Start Inv-loop μ-loop
+start-from-top c = c .before .before .before .before
+
+abbrev start-from-else2 : tie.Else2 Inv-loop μ-loop → tie.Start Inv-loop μ-loop
+start-from-else2 c = start-from-top (c .before .before .before .before)
+
+abbrev then1-from-else3 : tie.Else3 Inv-loop μ-loop → tie.Then1 Inv-loop μ-loop
+then1-from-else3 c = c .before .before .before .before
+
 loop-holds : tie.Need-loop-holds Inv-loop μ-loop
-loop-holds c =
-    (c .before .before .before .before .pre .3, c .top .ensures .proper)
+loop-holds c = (start-from-top c .pre .3, c .top .ensures .proper)
 
 returns : tie.Need-returns Inv-loop μ-loop
-returns c = c .before .before .before .loop .inv .0
+returns c = at-loop-from-then1 (c .before) .loop .inv .0
 
 slot-of-requires : tie.Need-slot-of-requires Inv-loop μ-loop
 slot-of-requires c κs =
-    let at-loop = c .before .before .before in
-    let start = at-loop .before .before .before .before .before in
+    let start = start-from-else2 c in
     slot-within {s = start .args .store .now} (record { size = start .pre .0; inside = omega (arith, start .pre .1, c .if2 .left) })
 
 is-leaf-requires : tie.Need-is-leaf-requires Inv-loop μ-loop
 is-leaf-requires c κs = search needs
 
 returns-2 : tie.Need-returns-2 Inv-loop μ-loop
-returns-2 c =
-    let no-end = c .before .before .before in
-    no-end .before .before .before .loop .inv .0
+returns-2 c = at-loop-from-else2 (c .before .before .before) .loop .inv .0
 
 key-bit-requires : tie.Need-key-bit-requires Inv-loop μ-loop
-key-bit-requires c κs =
-    let in-loop = c .before .before .before .before in
-    let start = in-loop .before .before .before .before .before .before .before in
-    omega (arith, in-loop .if1 .taken, start .pre .2)
+key-bit-requires c κs = omega (arith, then1-from-else3 c .if1 .taken, start-from-else2 (c .before .before .before) .pre .2)
 
 child-place-requires : tie.Need-child-place-requires Inv-loop μ-loop
-child-place-requires c κs =
-    let in-loop = c .before .before .before .before .before in
-    (in-loop .before .before .loop .inv .1, in-loop .if1 .taken)
+child-place-requires c κs = (at-loop-from-else2 (c .before .before .before .before) .loop .inv .1, then1-from-else3 (c .before) .if1 .taken)
 
 child-slot-requires : tie.Need-child-slot-requires Inv-loop μ-loop
 child-slot-requires c κs =
-    let grown = c .before in
-    let no-end = grown .before .before .before .before .before in
-    let at-loop = no-end .before .before .before in
-    let start = at-loop .before .before .before .before .before in
-    (record { size = start .pre .0; inside = omega (arith, start .pre .1, no-end .if2 .left); proper = grown .child-place .ensures .proper }, at-loop .loop .inv .0)
+    let after-child-place = c .before in
+    let else2 = after-child-place .before .before .before .before .before in
+    let start = start-from-else2 else2 in
+    (record { size = start .pre .0; inside = omega (arith, start .pre .1, else2 .if2 .left); proper = after-child-place .child-place .ensures .proper }, at-loop-from-else2 else2 .loop .inv .0)
 
 returns-3 : tie.Need-returns-3 Inv-loop μ-loop
 returns-3 c = c .before .child-slot .ensures
@@ -66,10 +72,8 @@ sub-i c = search needs
 
 loop-less : tie.Need-loop-less Inv-loop μ-loop
 loop-less c =
-    let grown = c .before .before .before in
-    let no-end = grown .before .before .before .before .before in
-    let in-loop = no-end .before in
-    omega (arith, grown .child-place .ensures .count, in-loop .if1 .taken)
+    let after-child-place = c .before .before .before in
+    omega (arith, after-child-place .child-place .ensures .count, then1-from-else3 (after-child-place .before .before) .if1 .taken)
 
 loop-again : tie.Need-loop-again Inv-loop μ-loop
 loop-again c = (c .before .child-slot .ensures, c .before .before .before .child-place .ensures .proper)

@@ -32,10 +32,15 @@ start-from-loop c =
     let seen = told .before .before .before in
     seen .before .before .before .before .before
 
+-- `A-from-B` is the state A as the later state B has it.
+abbrev in-loop-from-follow : tie.After-follow Inv-loop μ-loop → tie.In-loop Inv-loop μ-loop
+in-loop-from-follow c = c .before .before .before
+
+abbrev start-from-slot-count : tie.After-slot-count Inv-loop μ-loop → tie.Start Inv-loop μ-loop
+start-from-slot-count c = c .before .before .before .before
+
 loop-holds : tie.Need-loop-holds Inv-loop μ-loop
-loop-holds c =
-    let seen = c .before .before .before in
-    (seen .before .before .before .before .before .pre .2, omega arith)
+loop-holds c = (start-from-slot-count (c .before .before .before .before) .pre .2, omega arith)
 
 add-loop : tie.Need-add-loop Inv-loop μ-loop
 add-loop c = record { fits = omega (arith, c .loop .inv .1, start-from-loop c .pre .1) }
@@ -61,14 +66,10 @@ follow-requires c κs =
     (start .pre .0, counted .slot-count .ensures, simp (length-take, length-drop) (omega (arith, in-loop .loop-test .taken)), at-loop .loop .inv .0)
 
 loop-less : tie.Need-loop-less Inv-loop μ-loop
-loop-less c =
-    let in-loop = c .before .before .before in
-    omega (arith, in-loop .loop-test .taken)
+loop-less c = omega (arith, in-loop-from-follow c .loop-test .taken)
 
 loop-again : tie.Need-loop-again Inv-loop μ-loop
-loop-again c =
-    let in-loop = c .before .before .before in
-    (c .follow .ensures, in-loop .loop-test .taken)
+loop-again c = (c .follow .ensures, in-loop-from-follow c .loop-test .taken)
 
 returns-2 : tie.Need-returns-2 Inv-loop μ-loop
 returns-2 c = c .before .loop .inv .0

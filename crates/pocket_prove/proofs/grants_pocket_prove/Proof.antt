@@ -19,19 +19,24 @@ put-u32-requires c κs = search needs
 same-length : tie.Need-same-length
 same-length c = search needs
 
+-- `A-from-B` is the state A as the later state B has it.
+abbrev pocket-prove-from-proved2 : tie.After-proved2 → tie.After-pocket-prove
+pocket-prove-from-proved2 c = c .before .before .before .before
+
 returns : tie.Need-returns
 returns c =
-    let a = c .before .before .before .before .before .before .before .before .before .before .args in
-    let d = c .before .before .before .before .before .pocket-prove .ensures in
-    prove-refused d (a .length .now) (c .before .proved .given .1)
+    let after-proved = c .before in
+    let after-pocket-prove = after-proved .before .before .before .before in
+    let a = after-pocket-prove .before .before .before .before .before .args in
+    let d = after-pocket-prove .pocket-prove .ensures in
+    prove-refused d (a .length .now) (after-proved .proved .given .1)
 
 same-length-2 : tie.Need-same-length-2
 same-length-2 c = search needs
 
 returns-2 : tie.Need-returns-2
-returns-2 c =
-    let a = c .before .before .before .before .before .before .before .before .before .before .before .before .args in
-    let d = c .before .before .before .before .before .before .before .pocket-prove .ensures in
+returns-2 c = let a = c .before .before .before .before .before .before .before .before .before .before .before .before .args in
+    let d = pocket-prove-from-proved2 (c .before .before .before) .pocket-prove .ensures in
     prove-given d (a .length .now) (c .before .before .before .proved2 .given .1) (search needs) (c .put-u32 .ensures)
 
 pub grants-pocket-prove-spec : {M : Type 1} → statement M

@@ -19,19 +19,25 @@ one-is-long-requires c κs = search needs
 
 returns : tie.Need-returns
 unfolding planOutside
-returns c = let p = c .before .before .before .before .before .before .args .plan in sym (ap (λ h. shapeOutside h (p .first) (p .second)) (c .enum-told .given .1))
+returns c =
+    let at-match-keys1 = c .before in
+    let p = at-match-keys1 .before .before .before .before .before .args .plan in sym (ap (λ h. shapeOutside h (p .first) (p .second)) (c .enum-told .given .1))
 
 returns-2 : tie.Need-returns-2
 unfolding planOutside
 returns-2 c =
-    let p = c .before .before .before .before .before .before .before .args .plan in
-    sym (ap (λ h. shapeOutside h (p .first) (p .second)) (c .before .enum-told2 .given .1))
+    let after-enum-told2 = c .before in
+    let at-match-keys2 = after-enum-told2 .before in
+    let p = at-match-keys2 .before .before .before .before .before .args .plan in
+    sym (ap (λ h. shapeOutside h (p .first) (p .second)) (after-enum-told2 .enum-told2 .given .1))
 
 returns-3 : tie.Need-returns-3
 unfolding planOutside
 returns-3 c =
-    let p = c .before .before .before .before .before .before .before .args .plan in
-    c .one-is-long .ensures ∙ sym (ap (λ h. shapeOutside h (p .first) (p .second)) (c .before .enum-told3 .given .1))
+    let after-enum-told3 = c .before in
+    let at-match-keys3 = after-enum-told3 .before in
+    let p = at-match-keys3 .before .before .before .before .before .args .plan in
+    c .one-is-long .ensures ∙ sym (ap (λ h. shapeOutside h (p .first) (p .second)) (after-enum-told3 .enum-told3 .given .1))
 
 pub is-outside-spec : {M : Type 1} → statement M
 is-outside-spec =

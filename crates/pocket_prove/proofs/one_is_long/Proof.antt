@@ -17,8 +17,10 @@ is-short-requires-2 c κs = search needs
 
 returns-2 : tie.Need-returns-2
 returns-2 c =
-    let a = c .before .before .before .args in
-    right-says (a .left) (a .right) (sym (c .before .before .is-short .ensures) ∙ not-false _ (c .before .if1 .left)) (c .is-short2 .ensures)
+    let else1 = c .before in
+    let after-is-short = else1 .before in
+    let a = after-is-short .before .args in
+    right-says (a .left) (a .right) (sym (after-is-short .is-short .ensures) ∙ not-false _ (else1 .if1 .left)) (c .is-short2 .ensures)
 
 pub one-is-long-spec : {M : Type 1} → statement M
 one-is-long-spec =

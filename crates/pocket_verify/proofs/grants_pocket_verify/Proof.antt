@@ -6,14 +6,17 @@ use borrow.Author.Needs.{needs}
 use Rattle.pocket_verify.proofs.grants_pocket_verify.Statement.{statement}
 use Rattle.pocket_verify.proofs.grants_pocket_verify.Tie as tie
 
+-- `A-from-B` is the state A as the later state B has it.
+abbrev start-from-else1 : tie.Else1 → tie.Start
+start-from-else1 c = c .before .before .before .before
+
 returns : tie.Need-returns
 returns c =
     let a = c .before .before .before .before .args in
     pocket-refused (a .found .now) (root-off (a .root .now) (a .key .now) (a .proof .now) (c .if1 .taken))
 
 returns-2 : tie.Need-returns-2
-returns-2 c =
-    let a = c .before .before .before .before .before .args in
+returns-2 c = let a = start-from-else1 (c .before) .args in
     pocket-refused (a .found .now) (key-off (a .root .now) (a .key .now) (a .proof .now) (c .before .if1 .left) (c .if2 .taken))
 
 is-outside-requires : tie.Need-is-outside-requires
@@ -21,21 +24,22 @@ is-outside-requires c κs = search needs
 
 returns-3 : tie.Need-returns-3
 returns-3 c =
-    let o = c .before in
-    let k = o .before in
-    let a = k .before .before .before .before .before .args in
+    let after-is-outside = c .before in
+    let else2 = after-is-outside .before in
+    let else1 = else2 .before in
+    let a = start-from-else1 else1 .args in
     pocket-refused (a .found .now)
-    (is-outside (a .root .now) (a .key .now) (a .proof .now) (k .before .if1 .left) (k .if2 .left) (sym (o .is-outside .ensures) ∙ c .if3 .taken))
+    (is-outside (a .root .now) (a .key .now) (a .proof .now) (else1 .if1 .left) (else2 .if2 .left) (sym (after-is-outside .is-outside .ensures) ∙ c .if3 .taken))
 
 grants-verify-requires : tie.Need-grants-verify-requires
 grants-verify-requires c κs = search needs
 
 returns-4 : tie.Need-returns-4
 returns-4 c =
-    let i = c .before .before in
-    let o = i .before in
-    let a = o .before .before .before .before .before .before .args in
-    as-full (not-outside (a .root .now) (a .key .now) (a .proof .now) (sym (o .is-outside .ensures) ∙ i .if3 .left)) (c .grants-verify .ensures)
+    let else3 = c .before .before in
+    let after-is-outside = else3 .before in
+    let a = start-from-else1 (after-is-outside .before .before) .args in
+    as-full (not-outside (a .root .now) (a .key .now) (a .proof .now) (sym (after-is-outside .is-outside .ensures) ∙ else3 .if3 .left)) (c .grants-verify .ensures)
 
 pub grants-pocket-verify-spec : {M : Type 1} → statement M
 grants-pocket-verify-spec =

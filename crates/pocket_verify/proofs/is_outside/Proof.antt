@@ -9,13 +9,18 @@ use Rattle.pocket_verify.proofs.is_outside.Tie as tie
 is-presence-requires : tie.Need-is-presence-requires
 is-presence-requires c κs = search needs
 
+-- `A-from-B` is the state A as the later state B has it.
+abbrev start-from-is-presence : tie.After-is-presence → tie.Start
+start-from-is-presence c = c .before .before
+
 short-path-requires : tie.Need-short-path-requires
 short-path-requires c κs = sym (c .before .is-presence .ensures) ∙ c .if1 .taken
 
 returns : tie.Need-returns
 returns c =
-    let p = c .before .before in
-    ap not (c .short-path .ensures) ∙ presence-outside (p .before .before .args .p .now) (sym (p .is-presence .ensures) ∙ c .before .if1 .taken)
+    let then1 = c .before in
+    let after-is-presence = then1 .before in
+    ap not (c .short-path .ensures) ∙ presence-outside (start-from-is-presence after-is-presence .args .p .now) (sym (after-is-presence .is-presence .ensures) ∙ then1 .if1 .taken)
 
 is-absence-requires : tie.Need-is-absence-requires
 is-absence-requires c κs = search needs
@@ -25,16 +30,19 @@ short-neighbours-requires c κs = sym (c .before .is-absence .ensures) ∙ c .if
 
 returns-2 : tie.Need-returns-2
 returns-2 c =
-    let a = c .before .before in
-    let p = a .before .before in
+    let then2 = c .before in
+    let after-is-absence = then2 .before in
+    let else1 = after-is-absence .before in
+    let after-is-presence = else1 .before in
     ap not (c .short-neighbours .ensures)
-    ∙ absence-outside (p .before .before .args .p .now) (sym (p .is-presence .ensures) ∙ a .before .if1 .left) (sym (a .is-absence .ensures) ∙ c .before .if2 .taken)
+    ∙ absence-outside (start-from-is-presence after-is-presence .args .p .now) (sym (after-is-presence .is-presence .ensures) ∙ else1 .if1 .left) (sym (after-is-absence .is-absence .ensures) ∙ then2 .if2 .taken)
 
 returns-3 : tie.Need-returns-3
 returns-3 c =
-    let a = c .before in
-    let p = a .before .before in
-    off-form-inside (p .before .before .args .p .now) (sym (p .is-presence .ensures) ∙ a .before .if1 .left) (sym (a .is-absence .ensures) ∙ c .if2 .left)
+    let after-is-absence = c .before in
+    let else1 = after-is-absence .before in
+    let after-is-presence = else1 .before in
+    off-form-inside (start-from-is-presence after-is-presence .args .p .now) (sym (after-is-presence .is-presence .ensures) ∙ else1 .if1 .left) (sym (after-is-absence .is-absence .ensures) ∙ c .if2 .left)
 
 pub is-outside-spec : {M : Type 1} → statement M
 is-outside-spec =

@@ -15,14 +15,30 @@ use Rattle.pocket_verify.proofs.short_neighbours.Tie as tie
 head : (c : tie.Start) → 40 ≤ length (c .args .p .now)
 head c = absence-head (c .args .p .now) (c .pre)
 
+-- `A-from-B` is the state A as the later state B has it.
+abbrev get-u32-from-short-path2 : tie.After-short-path2 → tie.After-get-u32
+get-u32-from-short-path2 c = c .before .before
+
+abbrev else1-from-short-path-arg2 : tie.After-short-path-arg2 → tie.Else1
+else1-from-short-path-arg2 c = c .before .before
+
+abbrev else1-from-short-path2 : tie.After-short-path2 → tie.Else1
+else1-from-short-path2 c = else1-from-short-path-arg2 (c .before)
+
+abbrev start-from-then1 : tie.Then1 → tie.Start
+start-from-then1 c = c .before .before .before
+
+abbrev start-from-else1 : tie.Else1 → tie.Start
+start-from-else1 c = c .before .before .before
+
 get-u16-requires : tie.Need-get-u16-requires
 get-u16-requires c κs = let w = head (c .before) in omega arith
 
 sub-short-path : tie.Need-sub-short-path
-sub-short-path c = let w = head (c .before .before .before) in omega arith
+sub-short-path c = let w = head (start-from-then1 c) in omega arith
 
 part-short-path-start : tie.Need-part-short-path-start
-part-short-path-start c = let w = head (c .before .before .before) in omega arith
+part-short-path-start c = let w = head (start-from-then1 c) in omega arith
 
 part-short-path-end : tie.Need-part-short-path-end
 part-short-path-end c = search needs
@@ -30,17 +46,17 @@ part-short-path-end c = search needs
 short-path-requires : tie.Need-short-path-requires
 unfolding flags
 short-path-requires c κs =
-    let g = c .before .before in
-    let s = g .before .before in
-    ap isPresence (rest-part 40 (s .args .p .now)) ∙ one-there (s .args .p .now) (s .pre) (omega (arith, g .get-u16 .ensures, c .before .if1 .taken))
+    let then1 = c .before in
+    let start = start-from-then1 then1 in
+    ap isPresence (rest-part 40 (start .args .p .now)) ∙ one-there (start .args .p .now) (start .pre) (omega (arith, then1 .before .get-u16 .ensures, then1 .if1 .taken))
 
 returns : tie.Need-returns
 unfolding flags
 returns c =
-    let g = c .before .before .before in
-    let s = g .before .before in
-    let x = s .args .p .now in
-    c .short-path .ensures ∙ ap (λ y. shortPath (presenceIn y)) (rest-part 40 x) ∙ one-short x (s .pre) (omega (arith, g .get-u16 .ensures, c .before .before .if1 .taken))
+    let then1 = c .before .before in
+    let start = start-from-then1 then1 in
+    let x = start .args .p .now in
+    c .short-path .ensures ∙ ap (λ y. shortPath (presenceIn y)) (rest-part 40 x) ∙ one-short x (start .pre) (omega (arith, then1 .before .get-u16 .ensures, then1 .if1 .taken))
 
 -- past the test of the flags there are two neighbours
 two-flagged : (c : tie.Else1) → 2 < flags (c .before .before .before .args .p .now)
@@ -72,27 +88,27 @@ part-short-path-end-2 c = let m = room (c .before) in omega arith
 short-path-requires-2 : tie.Need-short-path-requires-2
 unfolding leftLength
 short-path-requires-2 c κs =
-    let o = c .before .before in
-    let s = o .before .before .before in
-    ap isPresence (left-part _ (s .args .p .now) (c .before .get-u32 .ensures)) ∙ left-there (s .args .p .now) (s .pre) (two-flagged o)
+    let else1 = else1-from-short-path-arg2 c in
+    let start = start-from-else1 else1 in
+    ap isPresence (left-part _ (start .args .p .now) (c .before .get-u32 .ensures)) ∙ left-there (start .args .p .now) (start .pre) (two-flagged else1)
 
 returns-2 : tie.Need-returns-2
 unfolding leftLength
 returns-2 c =
-    let u = c .before .before .before in
-    let o = u .before in
-    let s = o .before .before .before in
-    let x = s .args .p .now in
-    left-long x (s .pre) (two-flagged o)
-    (sym (c .before .short-path2 .ensures ∙ ap (λ y. shortPath (presenceIn y)) (left-part _ x (u .get-u32 .ensures))) ∙ not-true _ (c .if2 .taken))
+    let after-short-path2 = c .before in
+    let else1 = else1-from-short-path2 after-short-path2 in
+    let start = start-from-else1 else1 in
+    let x = start .args .p .now in
+    left-long x (start .pre) (two-flagged else1)
+    (sym (after-short-path2 .short-path2 .ensures ∙ ap (λ y. shortPath (presenceIn y)) (left-part _ x (get-u32-from-short-path2 after-short-path2 .get-u32 .ensures))) ∙ not-true _ (c .if2 .taken))
 
 sub-short-path-3 : tie.Need-sub-short-path-3
 unfolding leftLength
-sub-short-path-3 c = let m = room (c .before .before .before .before) in omega arith
+sub-short-path-3 c = let m = room (else1-from-short-path2 (c .before)) in omega arith
 
 part-short-path-start-3 : tie.Need-part-short-path-start-3
 unfolding leftLength
-part-short-path-start-3 c = let m = room (c .before .before .before .before) in omega arith
+part-short-path-start-3 c = let m = room (else1-from-short-path2 (c .before)) in omega arith
 
 part-short-path-end-3 : tie.Need-part-short-path-end-3
 part-short-path-end-3 c = search needs
@@ -100,22 +116,23 @@ part-short-path-end-3 c = search needs
 short-path-requires-3 : tie.Need-short-path-requires-3
 unfolding leftLength
 short-path-requires-3 c κs =
-    let u = c .before .before .before .before in
-    let o = u .before in
-    let s = o .before .before .before in
-    ap isPresence (right-part _ (s .args .p .now) (u .get-u32 .ensures)) ∙ right-there (s .args .p .now) (s .pre) (two-flagged o)
+    let after-short-path2 = c .before .before in
+    let else1 = else1-from-short-path2 after-short-path2 in
+    let start = start-from-else1 else1 in
+    ap isPresence (right-part _ (start .args .p .now) (get-u32-from-short-path2 after-short-path2 .get-u32 .ensures)) ∙ right-there (start .args .p .now) (start .pre) (two-flagged else1)
 
 returns-3 : tie.Need-returns-3
 unfolding leftLength
 returns-3 c =
-    let e = c .before .before in
-    let u = e .before .before .before in
-    let o = u .before in
-    let s = o .before .before .before in
-    let x = s .args .p .now in
-    c .short-path3 .ensures ∙ ap (λ y. shortPath (presenceIn y)) (right-part _ x (u .get-u32 .ensures))
-    ∙ right-decides x (s .pre) (two-flagged o)
-    (sym (e .before .short-path2 .ensures ∙ ap (λ y. shortPath (presenceIn y)) (left-part _ x (u .get-u32 .ensures))) ∙ not-false _ (e .if2 .left))
+    let else2 = c .before .before in
+    let after-short-path2 = else2 .before in
+    let after-get-u32 = get-u32-from-short-path2 after-short-path2 in
+    let else1 = after-get-u32 .before in
+    let start = start-from-else1 else1 in
+    let x = start .args .p .now in
+    c .short-path3 .ensures ∙ ap (λ y. shortPath (presenceIn y)) (right-part _ x (after-get-u32 .get-u32 .ensures))
+    ∙ right-decides x (start .pre) (two-flagged else1)
+    (sym (after-short-path2 .short-path2 .ensures ∙ ap (λ y. shortPath (presenceIn y)) (left-part _ x (after-get-u32 .get-u32 .ensures))) ∙ not-false _ (else2 .if2 .left))
 
 pub short-neighbours-spec : {M : Type 1} → statement M
 short-neighbours-spec =

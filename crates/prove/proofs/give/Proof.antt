@@ -10,8 +10,8 @@ enum-known-shape : tie.Need-enum-known-shape
 enum-known-shape c = search needs
 
 -- `A-from-B` is the state A as the later state B has it.
-abbrev start-from-else1 : tie.Else1 → tie.Start
-start-from-else1 c = c .before .before .before .before .before
+abbrev start-from-at-match-keys2 : tie.At-match-keys2 → tie.Start
+start-from-at-match-keys2 c = c .before .before .before .before
 
 returns : tie.Need-returns
 returns c =
@@ -21,7 +21,7 @@ returns c =
 
 returns-2 : tie.Need-returns-2
 returns-2 c =
-    let start = c .before .before .before .before .before in
+    let start = start-from-at-match-keys2 (c .before) in
     let p = not-refused (start .args .store .now) (start .args .key .now) (start .args .plan) (start .pre .0) (c .before .match .keys2) in
     no-room (start .args .room .now) (p .proof) (p .says) (p .long) (c .if1 .taken)
 
@@ -37,14 +37,15 @@ part-write-end c = search needs
 write-requires : tie.Need-write-requires
 write-requires c κs =
     let else1 = c .before in
-    let start = start-from-else1 else1 in
-    let p = not-refused (start .args .store .now) (start .args .key .now) (start .args .plan) (start .pre .0) (else1 .before .match .keys2) in
+    let at-match-keys2 = else1 .before in
+    let start = start-from-at-match-keys2 at-match-keys2 in
+    let p = not-refused (start .args .store .now) (start .args .key .now) (start .args .plan) (start .pre .0) (at-match-keys2 .match .keys2) in
     (start .pre .0, start .pre .1, part-long (start .args .room .now) (p .proof) (p .says) (p .long) (else1 .if1 .left))
 
 cast-t14 : tie.Need-cast-t14
 cast-t14 c =
     let at-match-keys2 = c .before .before .before .before .before in
-    let start = at-match-keys2 .before .before .before .before in
+    let start = start-from-at-match-keys2 at-match-keys2 in
     let p = not-refused (start .args .store .now) (start .args .key .now) (start .args .plan) (start .pre .0) (at-match-keys2 .match .keys2) in
     omega (arith, p .few)
 
@@ -55,8 +56,9 @@ returns-3 : tie.Need-returns-3
 returns-3 c =
     let after-write = c .before .before in
     let else1 = after-write .before .before in
-    let start = start-from-else1 else1 in
-    let p = not-refused (start .args .store .now) (start .args .key .now) (start .args .plan) (start .pre .0) (else1 .before .match .keys2) in
+    let at-match-keys2 = else1 .before in
+    let start = start-from-at-match-keys2 at-match-keys2 in
+    let p = not-refused (start .args .store .now) (start .args .key .now) (start .args .plan) (start .pre .0) (at-match-keys2 .match .keys2) in
     with-room (start .args .room .now) (p .proof) (p .says) (p .long) _ (else1 .if1 .left) (after-write .write .kept .0) (after-write .write .ensures)
 
 pub give-spec : {M : Type 1} → statement M

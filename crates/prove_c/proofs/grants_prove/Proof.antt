@@ -18,7 +18,8 @@ same-length c = search needs
 returns : tie.Need-returns
 returns c =
     let after-prove-by = c .before .before in
-    let a = after-prove-by .before .before .before .before .before .before .before .args in
+    let after-prove-by-arg2 = after-prove-by .before .before in
+    let a = after-prove-by-arg2 .before .before .before .before .before .args in
     proof-told (proof-as (prove-plain (a .store .now) (a .version) (a .key .now) (length (a .room .now))) (after-prove-by .prove-by .ensures))
 
 pub grants-prove-spec : {M : Type 1} → statement M

@@ -26,8 +26,9 @@ right-shape-requires-2 c κs = search needs
 
 returns : tie.Need-returns
 returns c =
-    let a = c .before .before .before .before .args in
-    ap Refused (c .refusal .ensures) ∙ sym (ap (λ v. absenceShape v (a .right)) (c .before .before .left .given .1))
+    let after-left = c .before .before in
+    let a = after-left .before .before .args in
+    ap Refused (c .refusal .ensures) ∙ sym (ap (λ v. absenceShape v (a .right)) (after-left .left .given .1))
 
 returns-2 : tie.Need-returns-2
 returns-2 c = let a = c .before .before .before .args in c .right-shape .ensures ∙ sym (ap (λ v. absenceShape v (a .right)) (c .before .enum-told .given .1))

@@ -16,32 +16,40 @@ neighbour-requires-2 c κs = search needs
 absence-shape-requires : tie.Need-absence-shape-requires
 absence-shape-requires c κs = search needs
 
+-- `A-from-B` is the state A as the later state B has it.
+abbrev neighbour-from-absence-shape : tie.After-absence-shape → tie.After-neighbour
+neighbour-from-absence-shape c = c .before .before
+
 neighbour-length-requires : tie.Need-neighbour-length-requires
-neighbour-length-requires c κs = let n = c .before .before .neighbour in neighbour-count _ (n .result) (n .ensures .within)
+neighbour-length-requires c κs = let n = neighbour-from-absence-shape c .neighbour in neighbour-count _ (n .result) (n .ensures .within)
 
 add-length : tie.Need-add-length
-add-length c = let n = c .before .before .before .neighbour in omega (arith, room-most _ (n .result) (n .ensures .within), c .neighbour-length .ensures)
+add-length c = let n = neighbour-from-absence-shape (c .before) .neighbour in omega (arith, room-most _ (n .result) (n .ensures .within), c .neighbour-length .ensures)
 
 neighbour-length-requires-2 : tie.Need-neighbour-length-requires-2
 neighbour-length-requires-2 c κs = let n = c .before .before .neighbour2 in neighbour-count _ (n .result) (n .ensures .within)
 
 add-length-2 : tie.Need-add-length-2
 add-length-2 c =
-    let l = c .before .before .before .before .neighbour in
-    let r = c .before .before .before .neighbour2 in
+    let after-neighbour-length = c .before in
+    let after-absence-shape = after-neighbour-length .before in
+    let l = neighbour-from-absence-shape after-absence-shape .neighbour in
+    let r = after-absence-shape .before .neighbour2 in
     omega (
       arith,
       room-most _ (l .result) (l .ensures .within),
       room-most _ (r .result) (r .ensures .within),
-      c .before .neighbour-length .ensures,
+      after-neighbour-length .neighbour-length .ensures,
       c .neighbour-length2 .ensures,
     )
 
 returns : tie.Need-returns
 returns c =
-    let l = c .before .before .before .before .neighbour in
-    let r = c .before .before .before .neighbour2 in
-    absence-planned _ _ _ (l .ensures) (r .ensures) (c .before .before .absence-shape .ensures) (c .before .neighbour-length .ensures) (c .neighbour-length2 .ensures) refl
+    let after-neighbour-length = c .before in
+    let after-absence-shape = after-neighbour-length .before in
+    let l = neighbour-from-absence-shape after-absence-shape .neighbour in
+    let r = after-absence-shape .before .neighbour2 in
+    absence-planned _ _ _ (l .ensures) (r .ensures) (after-absence-shape .absence-shape .ensures) (after-neighbour-length .neighbour-length .ensures) (c .neighbour-length2 .ensures) refl
 
 pub absent-spec : {M : Type 1} → statement M
 absent-spec =

@@ -25,24 +25,32 @@ at-leaf-requires c κs = search needs
 absent-requires : tie.Need-absent-requires
 absent-requires c κs = search needs
 
+-- `A-from-B` is the state A as the later state B has it.
+abbrev start-from-walk : tie.After-walk → tie.Start
+start-from-walk c = c .before .before .before .before .before
+
 returns : tie.Need-returns
 returns c =
-    let w = c .before .before .before .before .before .before in
-    let a = w .before .before .before .before .before .args in
-    ends-lost (a .store .now) (a .index .now) (a .version) (a .key .now) (w .walk .result) (w .walk .ensures) _ (c .before .before .before .seen .given .1)
-    (c .before .refusal .ensures) (c .at-end .ensures)
+    let after-refusal = c .before in
+    let after-seen = after-refusal .before .before in
+    let after-walk = after-seen .before .before .before in
+    let a = start-from-walk after-walk .args in
+    ends-lost (a .store .now) (a .index .now) (a .version) (a .key .now) (after-walk .walk .result) (after-walk .walk .ensures) _ (after-seen .seen .given .1)
+    (after-refusal .refusal .ensures) (c .at-end .ensures)
 
 returns-2 : tie.Need-returns-2
 returns-2 c =
-    let w = c .before .before .before .before .before in
-    let a = w .before .before .before .before .before .args in
-    ends-at-leaf (a .store .now) (a .index .now) (a .version) (a .key .now) (w .walk .result) (w .walk .ensures) _ (c .before .before .seen2 .given .1) (c .at-leaf .ensures)
+    let after-seen2 = c .before .before in
+    let after-walk = after-seen2 .before .before .before in
+    let a = start-from-walk after-walk .args in
+    ends-at-leaf (a .store .now) (a .index .now) (a .version) (a .key .now) (after-walk .walk .result) (after-walk .walk .ensures) _ (after-seen2 .seen2 .given .1) (c .at-leaf .ensures)
 
 returns-3 : tie.Need-returns-3
 returns-3 c =
-    let w = c .before .before .before in
-    let a = w .before .before .before .before .before .args in
-    ends-at-gap (a .store .now) (a .index .now) (a .version) (a .key .now) (w .walk .result) (w .walk .ensures) (c .before .match .keys3) (c .absent .ensures)
+    let at-match-keys3 = c .before in
+    let after-walk = at-match-keys3 .before .before in
+    let a = start-from-walk after-walk .args in
+    ends-at-gap (a .store .now) (a .index .now) (a .version) (a .key .now) (after-walk .walk .result) (after-walk .walk .ensures) (at-match-keys3 .match .keys3) (c .absent .ensures)
 
 pub plan-of-spec : {M : Type 1} → statement M
 plan-of-spec =

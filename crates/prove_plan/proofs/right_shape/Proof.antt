@@ -20,8 +20,9 @@ enum-told-2 c = search needs
 
 returns : tie.Need-returns
 returns c =
-    let a = c .before .before .before .before .args in
-    ap Refused (c .refusal .ensures) ∙ sym (ap (λ v. rightShape v (a .alone)) (c .before .before .right .given .1))
+    let after-right = c .before .before in
+    let a = after-right .before .before .args in
+    ap Refused (c .refusal .ensures) ∙ sym (ap (λ v. rightShape v (a .alone)) (after-right .right .given .1))
 
 returns-2 : tie.Need-returns-2
 returns-2 c = search needs

@@ -17,23 +17,26 @@ abbrev μ-loop : tie.MeasureT-loop
 μ-loop store index kids side here₀ here = 256 - here .place .count
 
 -- `A-from-B` is the state A as the later state B has it.
-abbrev at-loop-from-further : tie.After-further Inv-loop μ-loop → tie.At-loop Inv-loop μ-loop
-at-loop-from-further c = c .before .before .before .before .before
-
 abbrev start-from-at-loop : tie.At-loop Inv-loop μ-loop → tie.Start Inv-loop μ-loop
 start-from-at-loop c = c .before .before .before .before
 
 abbrev start-from-seen : tie.After-seen Inv-loop μ-loop → tie.Start Inv-loop μ-loop
 start-from-seen c = start-from-at-loop (c .before .before)
 
+abbrev at-loop-from-known-told : tie.After-known-told Inv-loop μ-loop → tie.At-loop Inv-loop μ-loop
+at-loop-from-known-told c = c .before .before .before
+
+abbrev start-from-shared-slice-known3 : tie.After-shared-slice-known3 Inv-loop μ-loop → tie.Start Inv-loop μ-loop
+start-from-shared-slice-known3 c = c .before .before .before
+
 loop-holds : tie.Need-loop-holds Inv-loop μ-loop
-loop-holds c = descent-start _ _ _ _ (c .before .before .before .pre .0)
+loop-holds c = descent-start _ _ _ _ (start-from-shared-slice-known3 c .pre .0)
 
 enum-known-seen : tie.Need-enum-known-seen Inv-loop μ-loop
 enum-known-seen c = search needs
 
 towards-requires : tie.Need-towards-requires Inv-loop μ-loop
-towards-requires c κs = let a = at-inner (c .before .before .before .loop .inv .trail) (c .before .seen .given .1) in (a .size, a .inside)
+towards-requires c κs = let a = at-inner (at-loop-from-known-told c .loop .inv .trail) (c .before .seen .given .1) in (a .size, a .inside)
 
 further-requires : tie.Need-further-requires Inv-loop μ-loop
 further-requires c κs =
@@ -41,10 +44,15 @@ further-requires c κs =
     (at-inner (after-seen .before .before .loop .inv .trail) (after-seen .seen .given .1), start-from-seen after-seen .pre .1)
 
 loop-less : tie.Need-loop-less Inv-loop μ-loop
-loop-less c = let a = at-inner (at-loop-from-further c .loop .inv .trail) (c .before .before .before .seen .given .1) in omega (arith, a .short, c .further .ensures .place .count)
+loop-less c =
+    let after-known-told = c .before .before in
+    let a = at-inner (at-loop-from-known-told after-known-told .loop .inv .trail) (after-known-told .before .seen .given .1) in omega (arith, a .short, c .further .ensures .place .count)
 
 loop-again : tie.Need-loop-again Inv-loop μ-loop
-loop-again c = descent-next (at-loop-from-further c .loop .inv) _ _ (c .before .before .before .seen .given .1) (c .before .towards .ensures) (c .further .ensures)
+loop-again c =
+    let after-towards = c .before in
+    let after-known-told = after-towards .before in
+    descent-next (at-loop-from-known-told after-known-told .loop .inv) _ _ (after-known-told .before .seen .given .1) (after-towards .towards .ensures) (c .further .ensures)
 
 enum-known-seen-2 : tie.Need-enum-known-seen-2 Inv-loop μ-loop
 enum-known-seen-2 c = search needs
@@ -53,7 +61,9 @@ answer-requires : tie.Need-answer-requires Inv-loop μ-loop
 answer-requires c κs = search needs
 
 returns : tie.Need-returns Inv-loop μ-loop
-returns c = descent-leaf (c .before .before .before .before .loop .inv) _ (c .before .before .seen2 .given .1) (c .answer .ensures)
+returns c =
+    let after-seen2 = c .before .before in
+    descent-leaf (after-seen2 .before .before .loop .inv) _ (after-seen2 .seen2 .given .1) (c .answer .ensures)
 
 enum-told : tie.Need-enum-told Inv-loop μ-loop
 enum-told c = search needs
@@ -71,7 +81,9 @@ answer-requires-3 : tie.Need-answer-requires-3 Inv-loop μ-loop
 answer-requires-3 c κs = search needs
 
 returns-3 : tie.Need-returns-3 Inv-loop μ-loop
-returns-3 c = descent-lost (c .before .before .before .before .loop .inv) (Lost _) _ (c .before .before .seen3 .given .1) refl (c .answer3 .ensures)
+returns-3 c =
+    let after-seen3 = c .before .before in
+    descent-lost (after-seen3 .before .before .loop .inv) (Lost _) _ (after-seen3 .seen3 .given .1) refl (c .answer3 .ensures)
 
 pub descend-spec : {M : Type 1} → statement M
 descend-spec =

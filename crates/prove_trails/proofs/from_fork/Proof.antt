@@ -13,9 +13,6 @@ answer-requires c κs = search needs
 abbrev start-from-else1 : tie.Else1 → tie.Start
 start-from-else1 c = c .before .before .before .before
 
-abbrev start-from-descend : tie.After-descend → tie.Start
-start-from-descend c = start-from-else1 (c .before .before .before .before)
-
 returns : tie.Need-returns
 returns c = let a = c .before .before .before .before .before in fork-nobody (a .args .store .now) (a .args .index .now) (a .args .side) (a .args .trail) (a .args .fork) (a .pre .0) (not-true _ (c .before .if1 .taken)) (c .answer .ensures)
 
@@ -42,8 +39,10 @@ descend-requires c κs = search needs
 
 returns-2 : tie.Need-returns-2
 returns-2 c =
-    let start = start-from-descend c in
-    fork-found (start .pre .0) (start .pre .1) (not-false _ (c .before .before .before .before .if1 .left)) (start .args .side) _ (c .before .further .ensures) (c .descend .ensures)
+    let after-further = c .before in
+    let else1 = after-further .before .before .before in
+    let start = start-from-else1 else1 in
+    fork-found (start .pre .0) (start .pre .1) (not-false _ (else1 .if1 .left)) (start .args .side) _ (after-further .further .ensures) (c .descend .ensures)
 
 pub from-fork-spec : {M : Type 1} → statement M
 from-fork-spec =

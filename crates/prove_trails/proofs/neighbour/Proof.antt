@@ -11,17 +11,14 @@ enum-known-seen : tie.Need-enum-known-seen
 enum-known-seen c = search needs
 
 -- `A-from-B` is the state A as the later state B has it.
-abbrev start-from-fork-towards : tie.After-fork-towards → tie.Start
-start-from-fork-towards c = c .before .before .before .before .before .before
+abbrev start-from-shared-slice-known : tie.After-shared-slice-known → tie.Start
+start-from-shared-slice-known c = c .before
 
-abbrev start-from-from-fork : tie.After-from-fork → tie.Start
-start-from-from-fork c = start-from-fork-towards (c .before .before)
+abbrev start-from-fork-towards : tie.After-fork-towards → tie.Start
+start-from-fork-towards c = start-from-shared-slice-known (c .before .before .before .before .before)
 
 abbrev start-from-seen : tie.After-seen → tie.Start
 start-from-seen c = start-from-fork-towards (c .before .before)
-
-abbrev start-from-slot-of : tie.After-slot-of → tie.Start
-start-from-slot-of c = start-from-seen (c .before .before)
 
 from-fork-requires : tie.Need-from-fork-requires
 from-fork-requires c κs =
@@ -29,8 +26,11 @@ from-fork-requires c κs =
     let f = fork-within _ (start .args .walked) (start .args .side) (start .pre .0) (c .before .fork-towards .ensures) in (f .0, f .1, start .pre .1)
 
 returns : tie.Need-returns
-returns c = let a = start-from-from-fork c .args in
-    end-elsewhere (a .store .now) (a .index .now) (a .key .now) (a .walked) (a .side) (c .before .match .keys2) (c .before .before .fork-towards .ensures) (c .from-fork .ensures)
+returns c =
+    let at-match-keys2 = c .before in
+    let after-fork-towards = at-match-keys2 .before in
+    let a = start-from-fork-towards after-fork-towards .args in
+    end-elsewhere (a .store .now) (a .index .now) (a .key .now) (a .walked) (a .side) (at-match-keys2 .match .keys2) (after-fork-towards .fork-towards .ensures) (c .from-fork .ensures)
 
 slot-of-requires : tie.Need-slot-of-requires
 slot-of-requires c κs =
@@ -52,15 +52,16 @@ returns-2 c =
     let after-beyond = then1 .before in
     let after-key-of = after-beyond .before in
     let after-slot-of = after-key-of .before in
-    let start = start-from-slot-of after-slot-of in
+    let after-seen = after-slot-of .before .before in
+    let start = start-from-seen after-seen in
     let a = start .args in
-    end-beyond (a .store .now) (a .index .now) (a .key .now) (a .walked) (a .side) _ (after-slot-of .before .before .seen .given .1) (after-slot-of .slot-of .ensures .0) (after-key-of .key-of .ensures .0) (after-beyond .beyond .ensures) (then1 .if1 .taken) (start .pre .0 .trail) (c .answer .ensures)
+    end-beyond (a .store .now) (a .index .now) (a .key .now) (a .walked) (a .side) _ (after-seen .seen .given .1) (after-slot-of .slot-of .ensures .0) (after-key-of .key-of .ensures .0) (after-beyond .beyond .ensures) (then1 .if1 .taken) (start .pre .0 .trail) (c .answer .ensures)
 
 from-fork-requires-2 : tie.Need-from-fork-requires-2
 from-fork-requires-2 c κs =
-    let after-fork-towards = c .before .before .before .before .before .before .before in
-    let start = start-from-fork-towards after-fork-towards in
-    let f = fork-within _ (start .args .walked) (start .args .side) (start .pre .0) (after-fork-towards .fork-towards .ensures) in (f .0, f .1, start .pre .1)
+    let after-seen = c .before .before .before .before .before in
+    let start = start-from-seen after-seen in
+    let f = fork-within _ (start .args .walked) (start .args .side) (start .pre .0) (after-seen .before .before .fork-towards .ensures) in (f .0, f .1, start .pre .1)
 
 returns-3 : tie.Need-returns-3
 returns-3 c =

@@ -39,11 +39,11 @@ start-from-top c = c .before .before .before .before .before
 abbrev start-from-start : tie.After-start Inv-loop μ-loop → tie.Start Inv-loop μ-loop
 start-from-start c = start-from-top (c .before)
 
-abbrev start-from-at-loop : tie.At-loop Inv-loop μ-loop → tie.Start Inv-loop μ-loop
-start-from-at-loop c = c .before .before .before .before .before .before .before
-
 abbrev start-from-seen : tie.After-seen Inv-loop μ-loop → tie.Start Inv-loop μ-loop
-start-from-seen c = start-from-at-loop (c .before .before)
+start-from-seen c = start-from-top (c .before .before .before .before)
+
+abbrev at-loop-from-seen : tie.After-seen Inv-loop μ-loop → tie.At-loop Inv-loop μ-loop
+at-loop-from-seen c = c .before .before
 
 loop-holds : tie.Need-loop-holds Inv-loop μ-loop
 loop-holds c =
@@ -59,22 +59,22 @@ returns c = walk-ended _ _ _ (c .before .loop .inv) (c .match .keys2)
 key-bit-requires : tie.Need-key-bit-requires Inv-loop μ-loop
 key-bit-requires c κs =
     let after-seen = c .before .before in
-    let a = at-inner (after-seen .before .before .loop .inv .trail) (after-seen .seen .given .1) in omega (arith, a .short, start-from-seen after-seen .pre .1)
+    let a = at-inner (at-loop-from-seen after-seen .loop .inv .trail) (after-seen .seen .given .1) in omega (arith, a .short, start-from-seen after-seen .pre .1)
 
 deepest-requires : tie.Need-deepest-requires Inv-loop μ-loop
 deepest-requires c κs =
     let after-seen = c .before .before .before in
-    let a = at-inner (after-seen .before .before .loop .inv .trail) (after-seen .seen .given .1) in (a .size, a .inside)
+    let a = at-inner (at-loop-from-seen after-seen .loop .inv .trail) (after-seen .seen .given .1) in (a .size, a .inside)
 
 deepest-requires-2 : tie.Need-deepest-requires-2 Inv-loop μ-loop
 deepest-requires-2 c κs =
     let after-seen = c .before .before .before .before in
-    let a = at-inner (after-seen .before .before .loop .inv .trail) (after-seen .seen .given .1) in (a .size, a .inside)
+    let a = at-inner (at-loop-from-seen after-seen .loop .inv .trail) (after-seen .seen .given .1) in (a .size, a .inside)
 
 further-requires : tie.Need-further-requires Inv-loop μ-loop
 further-requires c κs =
     let after-seen = c .before .before .before .before .before in
-    (at-inner (after-seen .before .before .loop .inv .trail) (after-seen .seen .given .1), start-from-seen after-seen .pre .2)
+    (at-inner (at-loop-from-seen after-seen .loop .inv .trail) (after-seen .seen .given .1), start-from-seen after-seen .pre .2)
 
 loop-less : tie.Need-loop-less Inv-loop μ-loop
 loop-less c = let a = at-inner (at-loop-from-further c .loop .inv .trail) (seen-from-further c .seen .given .1) in omega (arith, a .short, c .further .ensures .place .count)
@@ -85,7 +85,7 @@ loop-again c =
     let after-deepest = after-deepest2 .before in
     let after-key-bit = after-deepest .before in
     let after-seen = after-key-bit .before .before .before in
-    walking-next _ _ _ _ (after-seen .before .before .loop .inv) (after-seen .seen .given .1) (after-key-bit .key-bit .ensures) (after-deepest .deepest .ensures) (after-deepest2 .deepest2 .ensures) (c .further .ensures)
+    walking-next _ _ _ _ (at-loop-from-seen after-seen .loop .inv) (after-seen .seen .given .1) (after-key-bit .key-bit .ensures) (after-deepest .deepest .ensures) (after-deepest2 .deepest2 .ensures) (c .further .ensures)
 
 pub walk-spec : {M : Type 1} → statement M
 walk-spec =

@@ -4,6 +4,10 @@ use borrow.Author.Needs.{needs}
 use Rattle.read.proofs.get.Statement.{statement}
 use Rattle.read.proofs.get.Tie as tie
 
+-- `A-from-B` is the state A as the later state B has it.
+abbrev start-from-open : tie.After-open → tie.Start
+start-from-open c = c .before .before .before .before .before
+
 returns : tie.Need-returns
 returns c = let a = c .before .before .before .before .args in key-wrong (a .store .now) (a .index .now) (a .version) (a .key .now) (c .if1 .taken)
 
@@ -15,25 +19,27 @@ enum-known-opened c = search needs
 
 returns-2 : tie.Need-returns-2
 returns-2 c =
-    let a = c .before .before .before .before .before .before .before .before .args in
-    let o = c .before .before .before in
-    key-refused (a .store .now) (a .version) (o .«open» .ensures) (a .index .now) (a .key .now) (o .before .if1 .left) (c .before .opened .given .1)
+    let after-opened = c .before in
+    let after-open = after-opened .before .before in
+    let a = start-from-open after-open .args in
+    key-refused (a .store .now) (a .version) (after-open .«open» .ensures) (a .index .now) (a .key .now) (after-open .before .if1 .left) (after-opened .opened .given .1)
 
 enum-told : tie.Need-enum-told
 enum-told c = search needs
 
 walk-read-requires : tie.Need-walk-read-requires
 walk-read-requires c κs =
-    let a = c .before .before .before .before .before .before .before .args in
-    let o = c .before .before in
-    (size-kept (a .store .now) (a .version) (o .«open» .ensures) (c .enum-told .given .1), o .before .if1 .left)
+    let after-open = c .before .before in
+    let a = start-from-open after-open .args in
+    (size-kept (a .store .now) (a .version) (after-open .«open» .ensures) (c .enum-told .given .1), after-open .before .if1 .left)
 
 returns-3 : tie.Need-returns-3
 returns-3 c =
-    let a = c .before .before .before .before .before .before .before .before .args in
-    let o = c .before .before .before in
-    key-read (a .store .now) (a .version) (o .«open» .ensures) (a .index .now) (a .key .now) (o .before .if1 .left) (c .walk-read .result)
-    (c .before .enum-told .given .1) (c .walk-read .ensures)
+    let after-enum-told = c .before in
+    let after-open = after-enum-told .before .before in
+    let a = start-from-open after-open .args in
+    key-read (a .store .now) (a .version) (after-open .«open» .ensures) (a .index .now) (a .key .now) (after-open .before .if1 .left) (c .walk-read .result)
+    (after-enum-told .enum-told .given .1) (c .walk-read .ensures)
 
 cast-t9 : tie.Need-cast-t9
 cast-t9 c = search needs

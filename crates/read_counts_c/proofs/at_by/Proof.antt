@@ -16,16 +16,21 @@ enum-known-read-2 c = search needs
 put-grant-requires : tie.Need-put-grant-requires
 put-grant-requires c κs = search needs
 
+-- `A-from-B` is the state A as the later state B has it.
+abbrev start-from-grants-at : tie.After-grants-at → tie.Start
+start-from-grants-at c = c .before .before .before
+
 returns : tie.Need-returns
 returns c =
-    let d = c .before .before .before in
-    at-refused (d .grants-at .ensures) (d .before .before .before .args .grant .now) (c .before .read .given .1)
+    let after-read = c .before in
+    let after-grants-at = after-read .before .before in
+    at-refused (after-grants-at .grants-at .ensures) (start-from-grants-at after-grants-at .args .grant .now) (after-read .read .given .1)
 
 returns-2 : tie.Need-returns-2
 returns-2 c =
-    let r = c .before .before .before in
-    let d = r .before .before in
-    at-written (d .grants-at .ensures) (d .before .before .before .args .grant .now) (r .read2 .given .1) (c .put-grant .ensures)
+    let after-read2 = c .before .before .before in
+    let after-grants-at = after-read2 .before .before in
+    at-written (after-grants-at .grants-at .ensures) (start-from-grants-at after-grants-at .args .grant .now) (after-read2 .read2 .given .1) (c .put-grant .ensures)
 
 pub at-by-spec : {M : Type 1} → statement M
 at-by-spec =

@@ -13,9 +13,12 @@ as-many-requires c κs = search needs
 cast-result : tie.Need-cast-result
 cast-result c = search needs
 
+-- `A-from-B` is the state A as the later state B has it.
+abbrev start-from-as-many : tie.After-as-many → tie.Start
+start-from-as-many c = c .before .before .before
+
 returns : tie.Need-returns
-returns c =
-    let a = c .before .before .before .before .args in
+returns c = let a = start-from-as-many (c .before) .args in
     grant-told-by (grant-refusal 1 (a .grant .now)
     (position-not-as-many (a .store .now) (a .index .now) (a .version) (a .position) (sym (c .before .as-many .ensures) ∙ not-true _ (c .if1 .taken))))
 
@@ -24,8 +27,10 @@ at-by-requires c κs = search needs
 
 returns-2 : tie.Need-returns-2
 returns-2 c =
-    let a = c .before .before .before .before .before .before .args in
-    grant-told-by (grant-as (position-as-many (a .store .now) (a .index .now) (a .version) (a .position) (sym (c .before .before .before .as-many .ensures) ∙ not-false _ (c .before .before .if1 .left)))
+    let else1 = c .before .before in
+    let after-as-many = else1 .before in
+    let a = start-from-as-many after-as-many .args in
+    grant-told-by (grant-as (position-as-many (a .store .now) (a .index .now) (a .version) (a .position) (sym (after-as-many .as-many .ensures) ∙ not-false _ (else1 .if1 .left)))
     (c .at-by .ensures))
 
 pub at-indexed-spec : {M : Type 1} → statement M

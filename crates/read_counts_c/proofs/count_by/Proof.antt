@@ -16,16 +16,21 @@ enum-known-read-2 c = search needs
 put-count-requires : tie.Need-put-count-requires
 put-count-requires c κs = search needs
 
+-- `A-from-B` is the state A as the later state B has it.
+abbrev start-from-grants-count : tie.After-grants-count → tie.Start
+start-from-grants-count c = c .before .before .before
+
 returns : tie.Need-returns
 returns c =
-    let d = c .before .before .before in
-    count-refused (d .grants-count .ensures) (d .before .before .before .args .count .now) (c .before .read .given .1)
+    let after-read = c .before in
+    let after-grants-count = after-read .before .before in
+    count-refused (after-grants-count .grants-count .ensures) (start-from-grants-count after-grants-count .args .count .now) (after-read .read .given .1)
 
 returns-2 : tie.Need-returns-2
 returns-2 c =
-    let r = c .before .before .before in
-    let d = r .before .before in
-    count-written (d .grants-count .ensures) (d .before .before .before .args .count .now) (r .read2 .given .1) (c .put-count .ensures)
+    let after-read2 = c .before .before .before in
+    let after-grants-count = after-read2 .before .before in
+    count-written (after-grants-count .grants-count .ensures) (start-from-grants-count after-grants-count .args .count .now) (after-read2 .read2 .given .1) (c .put-count .ensures)
 
 pub count-by-spec : {M : Type 1} → statement M
 count-by-spec =

@@ -21,8 +21,10 @@ same-length c = search needs
 
 returns : tie.Need-returns
 returns c =
-    let a = c .before .before .before .before .before .before .before .before .before in
-    count-put (a .args .n) (a .args .count .now) _ _ (a .pre) (c .before .before .before .before .before .before .put-u32 .ensures) (c .before .before .put-u322 .ensures)
+    let after-put-u322 = c .before .before in
+    let after-put-u32 = after-put-u322 .before .before .before .before in
+    let start = after-put-u32 .before .before .before in
+    count-put (start .args .n) (start .args .count .now) _ _ (start .pre) (after-put-u32 .put-u32 .ensures) (after-put-u322 .put-u322 .ensures)
 
 pub put-count-spec : {M : Type 1} → statement M
 put-count-spec =

@@ -34,8 +34,10 @@ same-length c = search needs
 
 returns : tie.Need-returns
 returns c =
-    let a = c .before .before .before .before .before .before .before .before .before in
-    grant-put (a .args .key) (a .args .value) (a .args .grant .now) _ _ _ _ (a .pre) (c .before .before .before .before .before .before .put-hash .ensures) refl (c .before .before .put-hash2 .ensures) refl
+    let after-put-hash2 = c .before .before in
+    let after-put-hash = after-put-hash2 .before .before .before .before in
+    let start = after-put-hash .before .before .before in
+    grant-put (start .args .key) (start .args .value) (start .args .grant .now) _ _ _ _ (start .pre) (after-put-hash .put-hash .ensures) refl (after-put-hash2 .put-hash2 .ensures) refl
 
 pub put-grant-spec : {M : Type 1} → statement M
 put-grant-spec =

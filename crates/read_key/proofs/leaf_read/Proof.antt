@@ -6,10 +6,17 @@ use borrow.Author.Needs.{needs}
 use Rattle.read_key.proofs.leaf_read.Statement.{statement}
 use Rattle.read_key.proofs.leaf_read.Tie as tie
 
+-- `A-from-B` is the state A as the later state B has it.
+abbrev start-from-shared-slice-known2 : tie.After-shared-slice-known2 → tie.Start
+start-from-shared-slice-known2 c = c .before .before
+
+abbrev start-from-key-of : tie.After-key-of → tie.Start
+start-from-key-of c = start-from-shared-slice-known2 (c .before .before)
+
 slot-of-requires : tie.Need-slot-of-requires
 slot-of-requires c κs =
-    let d = c .before .before in
-    slot-fits _ (d .args .store .now) (d .pre .0) (d .args .i) (d .pre .1)
+    let start = start-from-shared-slice-known2 c in
+    slot-fits _ (start .args .store .now) (start .pre .0) (start .args .i) (start .pre .1)
 
 key-of-requires : tie.Need-key-of-requires
 key-of-requires c κs = search needs
@@ -25,16 +32,20 @@ hash-at-requires c κs = omega (arith, c .value-of .ensures .1)
 
 returns : tie.Need-returns
 returns c =
-    let d = c .before .before .before .before in
-    let a = d .before .before .before .before .args in
-    leaf-present (a .i) (a .store .now) (a .key .now) (d .before .slot-of .ensures .0) (d .key-of .ensures .0) (c .hash-at .result)
-    (c .before .before .before .same .ensures) (c .before .before .if1 .taken) (c .before .value-of .ensures .0) (c .hash-at .ensures .1)
+    let after-value-of = c .before in
+    let then1 = after-value-of .before in
+    let after-same = then1 .before in
+    let after-key-of = after-same .before in
+    let a = start-from-key-of after-key-of .args in
+    leaf-present (a .i) (a .store .now) (a .key .now) (after-key-of .before .slot-of .ensures .0) (after-key-of .key-of .ensures .0) (c .hash-at .result)
+    (after-same .same .ensures) (then1 .if1 .taken) (after-value-of .value-of .ensures .0) (c .hash-at .ensures .1)
 
 returns-2 : tie.Need-returns-2
 returns-2 c =
-    let d = c .before .before in
-    let a = d .before .before .before .before .args in
-    leaf-absent (a .i) (a .store .now) (a .key .now) (d .before .slot-of .ensures .0) (d .key-of .ensures .0) (c .before .same .ensures)
+    let after-same = c .before in
+    let after-key-of = after-same .before in
+    let a = start-from-key-of after-key-of .args in
+    leaf-absent (a .i) (a .store .now) (a .key .now) (after-key-of .before .slot-of .ensures .0) (after-key-of .key-of .ensures .0) (after-same .same .ensures)
     (c .if1 .left)
 
 pub leaf-read-spec : {M : Type 1} → statement M

@@ -29,6 +29,12 @@ top-requires c κs = search needs
 abbrev at-loop-from-child-place : tie.After-child-place Inv-loop μ-loop → tie.At-loop Inv-loop μ-loop
 at-loop-from-child-place c = c .before .before .before .before
 
+abbrev turn-at-from-kid : tie.After-kid Inv-loop μ-loop → tie.After-turn-at Inv-loop μ-loop
+turn-at-from-kid c = c .before .before
+
+abbrev at-loop-from-else1 : tie.Else1 Inv-loop μ-loop → tie.At-loop Inv-loop μ-loop
+at-loop-from-else1 c = c .before .before
+
 -- src/lib.rt:139:5
 loop-holds : tie.Need-loop-holds Inv-loop μ-loop
 loop-holds c = set-out (c .before .before .before .pre) (c .top .ensures)
@@ -49,14 +55,14 @@ returns c =
 
 -- src/lib.rt:143:13
 turn-at-requires : tie.Need-turn-at-requires Inv-loop μ-loop
-turn-at-requires c κs = at-slot (c .before .before .loop .inv)
+turn-at-requires c κs = at-slot (at-loop-from-else1 c .loop .inv)
 
 -- src/lib.rt:144:9
 child-place-requires : tie.Need-child-place-requires Inv-loop μ-loop
 child-place-requires c κs =
-    let here = c .before .before in
-    let w = here .before .loop .inv in
-    (w .holds .slotted .proper, inner-short w (here .leaf-here .ensures) (c .before .if1 .left))
+    let else1 = c .before in
+    let w = at-loop-from-else1 else1 .loop .inv in
+    (w .holds .slotted .proper, inner-short w (else1 .before .leaf-here .ensures) (else1 .if1 .left))
 
 -- src/lib.rt:145:13
 kid-requires : tie.Need-kid-requires Inv-loop μ-loop
@@ -72,11 +78,9 @@ returns-2 : tie.Need-returns-2 Inv-loop μ-loop
 returns-2 c =
     let after-next = c .before in
     let after-kid = after-next .before .before in
-    let after-child-place = after-kid .before in
-    let after-turn-at = after-child-place .before in
+    let after-turn-at = turn-at-from-kid after-kid in
     let else1 = after-turn-at .before in
-    let after-leaf-here = else1 .before in
-    ends-refused (after-leaf-here .before .loop .inv) (after-leaf-here .leaf-here .ensures) (else1 .if1 .left) (after-turn-at .turn-at .result) (after-turn-at .turn-at .ensures) (after-child-place .child-place .ensures) _ (after-kid .kid .ensures) (after-next .next .given .1)
+    ends-refused (at-loop-from-else1 else1 .loop .inv) (else1 .before .leaf-here .ensures) (else1 .if1 .left) (after-turn-at .turn-at .result) (after-turn-at .turn-at .ensures) (after-kid .before .child-place .ensures) _ (after-kid .kid .ensures) (after-next .next .given .1)
 
 -- src/lib.rt:148:22
 enum-known-next-2 : tie.Need-enum-known-next-2 Inv-loop μ-loop
@@ -85,21 +89,18 @@ enum-known-next-2 c = search needs
 -- src/lib.rt:139:5
 loop-less : tie.Need-loop-less Inv-loop μ-loop
 loop-less c =
-    let kid = c .before .before .before in
-    let turn = kid .before .before in
-    let here = turn .before .before in
-    omega (arith, inner-short (here .before .loop .inv) (here .leaf-here .ensures) (turn .before .if1 .left), kid .before .child-place .ensures .count)
+    let after-child-place = c .before .before .before .before in
+    let else1 = after-child-place .before .before in
+    omega (arith, inner-short (at-loop-from-else1 else1 .loop .inv) (else1 .before .leaf-here .ensures) (else1 .if1 .left), after-child-place .child-place .ensures .count)
 
 -- src/lib.rt:139:5
 loop-again : tie.Need-loop-again Inv-loop μ-loop
 loop-again c =
     let after-next2 = c .before in
     let after-kid = after-next2 .before .before in
-    let after-child-place = after-kid .before in
-    let after-turn-at = after-child-place .before in
+    let after-turn-at = turn-at-from-kid after-kid in
     let else1 = after-turn-at .before in
-    let after-leaf-here = else1 .before in
-    goes-on (after-leaf-here .before .loop .inv) (after-leaf-here .leaf-here .ensures) (else1 .if1 .left) (after-turn-at .turn-at .result) (after-turn-at .turn-at .ensures) (after-child-place .child-place .ensures) _ (after-kid .kid .ensures) (after-next2 .next2 .given .1)
+    goes-on (at-loop-from-else1 else1 .loop .inv) (else1 .before .leaf-here .ensures) (else1 .if1 .left) (after-turn-at .turn-at .result) (after-turn-at .turn-at .ensures) (after-kid .before .child-place .ensures) _ (after-kid .kid .ensures) (after-next2 .next2 .given .1)
 
 pub descend-spec : {M : Type 1} → statement M
 descend-spec =

@@ -17,27 +17,28 @@ cast-t7 c = search needs
 abbrev start-from-open : tie.After-open → tie.Start
 start-from-open c = c .before .before .before
 
-abbrev start-from-root-position : tie.After-root-position → tie.Start
-start-from-root-position c = start-from-open (c .before .before .before)
-
 returns : tie.Need-returns
 returns c =
-    let o = c .before .before .before in
-    let a = o .before .before .before .args in
-    position-refused (a .store .now) (a .version) (a .position) (o .«open» .ensures) (a .index .now) (c .before .opened .given .1)
+    let after-opened = c .before in
+    let after-open = after-opened .before .before in
+    let a = start-from-open after-open .args in
+    position-refused (a .store .now) (a .version) (a .position) (after-open .«open» .ensures) (a .index .now) (after-opened .opened .given .1)
 
 enum-told : tie.Need-enum-told
 enum-told c = search needs
 
 root-position-requires : tie.Need-root-position-requires
 root-position-requires c κs =
-    let o = c .before .before in
-    let a = o .before .before .before .args in
-    size-kept (a .store .now) (a .version) (a .position) (o .«open» .ensures) (c .enum-told .given .1)
+    let after-open = c .before .before in
+    let a = start-from-open after-open .args in
+    size-kept (a .store .now) (a .version) (a .position) (after-open .«open» .ensures) (c .enum-told .given .1)
 
 returns-2 : tie.Need-returns-2
-returns-2 c = let a = start-from-root-position c .args in
-    position-is-read (a .store .now) (a .version) (a .position) (c .before .before .before .«open» .ensures) (a .index .now) (c .root-position .result) (c .before .enum-told .given .1) (c .root-position .ensures)
+returns-2 c =
+    let after-enum-told = c .before in
+    let after-open = after-enum-told .before .before in
+    let a = start-from-open after-open .args in
+    position-is-read (a .store .now) (a .version) (a .position) (after-open .«open» .ensures) (a .index .now) (c .root-position .result) (after-enum-told .enum-told .given .1) (c .root-position .ensures)
 
 pub grants-at-spec : {M : Type 1} → statement M
 grants-at-spec =

@@ -18,18 +18,20 @@ child-version-requires : tie.Need-child-version-requires
 child-version-requires c κs = search needs
 
 -- `A-from-B` is the state A as the later state B has it.
-abbrev start-from-else1 : tie.Else1 → tie.Start
-start-from-else1 c = c .before .before .before .before
+abbrev child-version-from-look-by : tie.After-look-by → tie.After-child-version
+child-version-from-look-by c = c .before .before
+
+abbrev start-from-child-version : tie.After-child-version → tie.Start
+start-from-child-version c = c .before .before .before
 
 -- src/lib.rt:114:9
 returns : tie.Need-returns
 returns c =
-    let version = c .before in
-    let start = version .before .before .before in
+    let start = start-from-child-version (c .before) in
     let s = start .args .store .now in
     let p = start .args .place in
     let k = kidIn (start .args .i) s (start .args .right) in
-    step-missing s (start .args .index .now) p k (sym (version .child-version .ensures) ∙ c .if1 .taken)
+    step-missing s (start .args .index .now) p k (sym (c .before .child-version .ensures) ∙ c .if1 .taken)
 
 -- src/lib.rt:116:9
 look-by-requires : tie.Need-look-by-requires
@@ -56,12 +58,11 @@ cast-slot : tie.Need-cast-slot
 cast-slot c =
     let after-sight2 = c .before in
     let after-look-by = after-sight2 .before .before in
-    let after-child-version = after-look-by .before .before in
-    let start = after-child-version .before .before .before in
+    let start = start-from-child-version (after-look-by .before .before) in
     let s = start .args .store .now in
     let p = start .args .place in
     let k = kidIn (start .args .i) s (start .args .right) in
-    omega (arith, spoilt-small s (nodeBy (start .args .index .now) (storeOf s) (after-child-version .child-version .result) (placeOf p)) (after-look-by .look-by .ensures) (after-sight2 .sight2 .given .1) (start .pre .size))
+    omega (arith, spoilt-small s (nodeBy (start .args .index .now) (storeOf s) (child-version-from-look-by after-look-by .child-version .result) (placeOf p)) (after-look-by .look-by .ensures) (after-sight2 .sight2 .given .1) (start .pre .size))
 
 -- src/lib.rt:125:17
 refusal-requires-2 : tie.Need-refusal-requires-2
@@ -72,39 +73,39 @@ returns-2 : tie.Need-returns-2
 returns-2 c =
     let after-sight = c .before in
     let after-look-by = after-sight .before .before in
-    let else1 = after-look-by .before in
-    let start = start-from-else1 else1 in
+    let after-child-version = child-version-from-look-by after-look-by in
+    let start = start-from-child-version after-child-version in
     let s = start .args .store .now in
     let p = start .args .place in
     let k = kidIn (start .args .i) s (start .args .right) in
-    let b = all-of Byte s 0 (λ i _. omega (arith, else1 .before .before .before .shared-slice-known .given i)) in
-    step-at s (start .args .index .now) p k (λ z. else1 .if1 .left (else1 .before .child-version .ensures ∙ z)) (start .pre .size) b (start .pre .proper) (else1 .before .child-version .ensures) (after-look-by .look-by .ensures) _ (after-sight .sight .given .1)
+    let b = all-of Byte s 0 (λ i _. omega (arith, after-child-version .before .before .shared-slice-known .given i)) in
+    step-at s (start .args .index .now) p k (λ z. after-look-by .before .if1 .left (after-child-version .child-version .ensures ∙ z)) (start .pre .size) b (start .pre .proper) (after-child-version .child-version .ensures) (after-look-by .look-by .ensures) _ (after-sight .sight .given .1)
 
 -- src/lib.rt:108:1
 returns-3 : tie.Need-returns-3
 returns-3 c =
     let after-enum-told = c .before in
     let after-look-by = after-enum-told .before .before in
-    let else1 = after-look-by .before in
-    let start = start-from-else1 else1 in
+    let after-child-version = child-version-from-look-by after-look-by in
+    let start = start-from-child-version after-child-version in
     let s = start .args .store .now in
     let p = start .args .place in
     let k = kidIn (start .args .i) s (start .args .right) in
-    step-lost s (start .args .index .now) p k (λ z. else1 .if1 .left (else1 .before .child-version .ensures ∙ z))
-    (ap (λ v. nodeBy (start .args .index .now) (storeOf s) v (placeOf p)) (sym (else1 .before .child-version .ensures)) ∙ none-sighted s (nodeBy (start .args .index .now) (storeOf s) (else1 .before .child-version .result) (placeOf p)) (after-look-by .look-by .ensures) (after-enum-told .enum-told .given .1)) (c .refusal .ensures)
+    step-lost s (start .args .index .now) p k (λ z. after-look-by .before .if1 .left (after-child-version .child-version .ensures ∙ z))
+    (ap (λ v. nodeBy (start .args .index .now) (storeOf s) v (placeOf p)) (sym (after-child-version .child-version .ensures)) ∙ none-sighted s (nodeBy (start .args .index .now) (storeOf s) (after-child-version .child-version .result) (placeOf p)) (after-look-by .look-by .ensures) (after-enum-told .enum-told .given .1)) (c .refusal .ensures)
 
 -- src/lib.rt:108:1
 returns-4 : tie.Need-returns-4
 returns-4 c =
     let after-sight2 = c .before .before in
     let after-look-by = after-sight2 .before .before in
-    let else1 = after-look-by .before in
-    let start = start-from-else1 else1 in
+    let after-child-version = child-version-from-look-by after-look-by in
+    let start = start-from-child-version after-child-version in
     let s = start .args .store .now in
     let p = start .args .place in
     let k = kidIn (start .args .i) s (start .args .right) in
-    step-spoilt s (start .args .index .now) p k (λ z. else1 .if1 .left (else1 .before .child-version .ensures ∙ z)) _
-    (ap (λ v. nodeBy (start .args .index .now) (storeOf s) v (placeOf p)) (sym (else1 .before .child-version .ensures)) ∙ spoilt-sighted s (nodeBy (start .args .index .now) (storeOf s) (else1 .before .child-version .result) (placeOf p)) (after-look-by .look-by .ensures) (after-sight2 .sight2 .given .1)) (c .refusal2 .ensures)
+    step-spoilt s (start .args .index .now) p k (λ z. after-look-by .before .if1 .left (after-child-version .child-version .ensures ∙ z)) _
+    (ap (λ v. nodeBy (start .args .index .now) (storeOf s) v (placeOf p)) (sym (after-child-version .child-version .ensures)) ∙ spoilt-sighted s (nodeBy (start .args .index .now) (storeOf s) (after-child-version .child-version .result) (placeOf p)) (after-look-by .look-by .ensures) (after-sight2 .sight2 .given .1)) (c .refusal2 .ensures)
 
 pub kid-spec : {M : Type 1} → statement M
 kid-spec =

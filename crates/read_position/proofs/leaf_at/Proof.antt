@@ -21,8 +21,8 @@ use Rattle.slots.proofs.value_of.Reads as value-of-reads
 use Rattle.store.proofs.slot_of.Reads as slot-of-reads
 
 -- `A-from-B` is the state A as the later state B has it.
-abbrev start-from-begins : tie.After-begins → tie.Start
-start-from-begins c = c .before .before .before .before
+abbrev start-from-slot-of : tie.After-slot-of → tie.Start
+start-from-slot-of c = c .before .before
 
 -- src/lib.rt:77:9
 slot-of-requires : tie.Need-slot-of-requires
@@ -42,16 +42,20 @@ begins-requires c κs = search needs
 returns : tie.Need-returns
 returns c =
     let after-begins = c .before in
-    let a = start-from-begins after-begins .args in
-    leaf-stray (placeOf (a .place)) (slotIn counted (a .i) (a .store .now)) (a .n) (after-begins .begins .ensures ∙ ap (begins (placeOf (a .place))) (after-begins .before .key-of .ensures .0 ∙ ap keyIn (after-begins .before .before .slot-of .ensures .0))) (not-true _ (c .if1 .taken))
+    let after-key-of = after-begins .before in
+    let after-slot-of = after-key-of .before in
+    let a = start-from-slot-of after-slot-of .args in
+    leaf-stray (placeOf (a .place)) (slotIn counted (a .i) (a .store .now)) (a .n) (after-begins .begins .ensures ∙ ap (begins (placeOf (a .place))) (after-key-of .key-of .ensures .0 ∙ ap keyIn (after-slot-of .slot-of .ensures .0))) (not-true _ (c .if1 .taken))
 
 -- src/lib.rt:82:9
 returns-2 : tie.Need-returns-2
 returns-2 c =
     let else1 = c .before in
     let after-begins = else1 .before in
-    let a = start-from-begins after-begins .args in
-    leaf-over (placeOf (a .place)) (slotIn counted (a .i) (a .store .now)) (a .n) (after-begins .begins .ensures ∙ ap (begins (placeOf (a .place))) (after-begins .before .key-of .ensures .0 ∙ ap keyIn (after-begins .before .before .slot-of .ensures .0))) (not-false _ (else1 .if1 .left)) (c .if2 .taken)
+    let after-key-of = after-begins .before in
+    let after-slot-of = after-key-of .before in
+    let a = start-from-slot-of after-slot-of .args in
+    leaf-over (placeOf (a .place)) (slotIn counted (a .i) (a .store .now)) (a .n) (after-begins .begins .ensures ∙ ap (begins (placeOf (a .place))) (after-key-of .key-of .ensures .0 ∙ ap keyIn (after-slot-of .slot-of .ensures .0))) (not-false _ (else1 .if1 .left)) (c .if2 .taken)
 
 -- src/lib.rt:84:23
 key-of-requires-2 : tie.Need-key-of-requires-2
@@ -80,7 +84,7 @@ returns-3 c =
     let after-begins = else1 .before in
     let after-key-of = after-begins .before in
     let after-slot-of = after-key-of .before in
-    let a = after-slot-of .before .before .args in
+    let a = start-from-slot-of after-slot-of .args in
     let x = slotIn counted (a .i) (a .store .now) in
     leaf-there (placeOf (a .place)) x (a .n) (after-begins .begins .ensures ∙ ap (begins (placeOf (a .place))) (after-key-of .key-of .ensures .0 ∙ ap keyIn (after-slot-of .slot-of .ensures .0))) (not-false _ (else1 .if1 .left)) (else2 .if2 .left)
     (after-hash-at .hash-at .result) (c .hash-at2 .result)

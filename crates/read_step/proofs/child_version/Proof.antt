@@ -10,7 +10,9 @@ use Rattle.read_step.proofs.child_version.Statement.{statement}
 use Rattle.read_step.proofs.child_version.Tie as tie
 
 child-version-at-requires : tie.Need-child-version-at-requires
-child-version-at-requires c κs = let a = c .before .args in slot-fits _ (a .store .now) (c .before .pre .0) (a .i) (c .before .pre .1)
+child-version-at-requires c κs =
+    let start = c .before in
+    let a = start .args in slot-fits _ (a .store .now) (start .pre .0) (a .i) (start .pre .1)
 
 returns : tie.Need-returns
 unfolding kidIn

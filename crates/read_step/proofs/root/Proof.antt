@@ -20,14 +20,11 @@ enum-known-sight : tie.Need-enum-known-sight
 enum-known-sight c = search needs
 
 -- `A-from-B` is the state A as the later state B has it.
-abbrev start-from-shared-slice-known : tie.After-shared-slice-known → tie.Start
-start-from-shared-slice-known c = c .before
+abbrev start-from-top : tie.After-top → tie.Start
+start-from-top c = c .before .before .before
 
-abbrev start-from-sight2 : tie.After-sight2 → tie.Start
-start-from-sight2 c = start-from-shared-slice-known (c .before .before .before .before .before)
-
-abbrev start-from-enum-told : tie.After-enum-told → tie.Start
-start-from-enum-told c = start-from-shared-slice-known (c .before .before .before .before .before)
+abbrev start-from-look-root-by : tie.After-look-root-by → tie.Start
+start-from-look-root-by c = start-from-top (c .before)
 
 seen-in-requires : tie.Need-seen-in-requires
 seen-in-requires c κs =
@@ -51,12 +48,13 @@ enum-known-sight-2 c = search needs
 cast-slot : tie.Need-cast-slot
 cast-slot c =
     let after-sight2 = c .before in
-    let start = start-from-sight2 after-sight2 in
+    let after-look-root-by = after-sight2 .before .before in
+    let start = start-from-look-root-by after-look-root-by in
     let s = start .args .store .now in
     let table = start .args .index .now in
     omega (
       arith,
-      spoilt-small s (rootBy table (storeOf s) (start .args .version)) (after-sight2 .before .before .look-root-by .ensures) (after-sight2 .sight2 .given .1)
+      spoilt-small s (rootBy table (storeOf s) (start .args .version)) (after-look-root-by .look-root-by .ensures) (after-sight2 .sight2 .given .1)
           (start .pre),
     )
 
@@ -76,20 +74,22 @@ returns c =
 
 returns-2 : tie.Need-returns-2
 returns-2 c =
-    let start = start-from-enum-told c in
+    let after-look-root-by = c .before .before in
+    let start = start-from-look-root-by after-look-root-by in
     let s = start .args .store .now in
     let table = start .args .index .now in
     let v = start .args .version in
-    root-nothing s (rootBy table (storeOf s) v) (c .before .before .look-root-by .ensures) (c .enum-told .given .1) table v refl
+    root-nothing s (rootBy table (storeOf s) v) (after-look-root-by .look-root-by .ensures) (c .enum-told .given .1) table v refl
 
 returns-3 : tie.Need-returns-3
 returns-3 c =
     let after-sight2 = c .before in
-    let start = start-from-sight2 after-sight2 in
+    let after-look-root-by = after-sight2 .before .before in
+    let start = start-from-look-root-by after-look-root-by in
     let s = start .args .store .now in
     let table = start .args .index .now in
     let v = start .args .version in
-    root-spoilt s (rootBy table (storeOf s) v) (after-sight2 .before .before .look-root-by .ensures) (after-sight2 .sight2 .given .1) table v refl
+    root-spoilt s (rootBy table (storeOf s) v) (after-look-root-by .look-root-by .ensures) (after-sight2 .sight2 .given .1) table v refl
 
 pub root-spec : {M : Type 1} → statement M
 root-spec =

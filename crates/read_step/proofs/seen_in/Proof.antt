@@ -7,8 +7,8 @@ use Rattle.read_step.proofs.seen_in.Statement.{statement}
 use Rattle.read_step.proofs.seen_in.Tie as tie
 
 -- `A-from-B` is the state A as the later state B has it.
-abbrev start-from-else1 : tie.Else1 → tie.Start
-start-from-else1 c = c .before .before .before .before
+abbrev start-from-is-leaf : tie.After-is-leaf → tie.Start
+start-from-is-leaf c = c .before .before .before
 
 slot-of-requires : tie.Need-slot-of-requires
 slot-of-requires c κs =
@@ -21,23 +21,22 @@ is-leaf-requires c κs = search needs
 
 returns : tie.Need-returns
 returns c =
-    let d = c .before .before in
-    inner-seen (d .before .before .pre) (d .slot-of .ensures .0) (c .before .is-leaf .ensures) (not-true _ (c .if1 .taken))
+    let after-is-leaf = c .before in
+    inner-seen (start-from-is-leaf after-is-leaf .pre) (after-is-leaf .before .slot-of .ensures .0) (after-is-leaf .is-leaf .ensures) (not-true _ (c .if1 .taken))
 
 key-of-requires : tie.Need-key-of-requires
 key-of-requires c κs = search needs
 
 begins-requires : tie.Need-begins-requires
-begins-requires c κs =
-    let d = c .before .before .before in
-    (c .key-of .ensures .1, d .before .before .pre .slotted .proper)
+begins-requires c κs = (c .key-of .ensures .1, start-from-is-leaf (c .before .before) .pre .slotted .proper)
 
 returns-2 : tie.Need-returns-2
 returns-2 c =
     let after-begins = c .before in
     let after-key-of = after-begins .before in
     let else1 = after-key-of .before in
-    leaf-lost (start-from-else1 else1 .pre) (else1 .before .before .slot-of .ensures .0) (else1 .before .is-leaf .ensures) (not-false _ (else1 .if1 .left))
+    let after-is-leaf = else1 .before in
+    leaf-lost (start-from-is-leaf after-is-leaf .pre) (after-is-leaf .before .slot-of .ensures .0) (after-is-leaf .is-leaf .ensures) (not-false _ (else1 .if1 .left))
     (after-key-of .key-of .ensures .0) (after-begins .begins .ensures) (not-true _ (c .if2 .taken))
 
 returns-3 : tie.Need-returns-3
@@ -45,7 +44,8 @@ returns-3 c =
     let after-begins = c .before in
     let after-key-of = after-begins .before in
     let else1 = after-key-of .before in
-    leaf-seen (start-from-else1 else1 .pre) (else1 .before .before .slot-of .ensures .0) (else1 .before .is-leaf .ensures) (not-false _ (else1 .if1 .left))
+    let after-is-leaf = else1 .before in
+    leaf-seen (start-from-is-leaf after-is-leaf .pre) (after-is-leaf .before .slot-of .ensures .0) (after-is-leaf .is-leaf .ensures) (not-false _ (else1 .if1 .left))
     (after-key-of .key-of .ensures .0) (after-begins .begins .ensures) (not-false _ (c .if2 .left))
 
 pub seen-in-spec : {M : Type 1} → statement M

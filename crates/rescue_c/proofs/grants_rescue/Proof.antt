@@ -34,7 +34,8 @@ same-length-2 c =
 
 returns-2 : tie.Need-returns-2
 returns-2 c =
-    export-kept _ _ ((c .before .before .before .before .before .before .before) .rescue .ensures) ((c .before .before .before) .rescued2 .given .1) (c .put-report .ensures)
+    let after-rescued2 = c .before .before .before in
+    export-kept _ _ (after-rescued2 .before .before .before .before .rescue .ensures) (after-rescued2 .rescued2 .given .1) (c .put-report .ensures)
 
 pub grants-rescue-spec : {M : Type 1} → statement M
 grants-rescue-spec =

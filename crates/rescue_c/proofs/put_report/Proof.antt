@@ -26,8 +26,12 @@ same-length c =
 
 returns : tie.Need-returns
 returns c =
-    let d = (c .before .before .before .before .before .before .before .before .before .before .before .before .before .before .before .before .before) in
-    report-put (d .args .first) (d .args .counts) (d .args .answer .now) _ _ _ _ (d .pre) ((c .before .before .before .before .before .before .before .before .before .before .before .before .before .before) .put-u32 .ensures) ((c .before .before .before .before .before .before .before .before .before .before) .put-u322 .ensures) ((c .before .before .before .before .before .before) .put-u323 .ensures) ((c .before .before) .put-u324 .ensures)
+    let after-put-u324 = c .before .before in
+    let after-put-u323 = after-put-u324 .before .before .before .before in
+    let after-put-u322 = after-put-u323 .before .before .before .before in
+    let after-put-u32 = after-put-u322 .before .before .before .before in
+    let start = after-put-u32 .before .before .before in
+    report-put (start .args .first) (start .args .counts) (start .args .answer .now) _ _ _ _ (start .pre) (after-put-u32 .put-u32 .ensures) (after-put-u322 .put-u322 .ensures) (after-put-u323 .put-u323 .ensures) (after-put-u324 .put-u324 .ensures)
 
 pub put-report-spec : {M : Type 1} → statement M
 put-report-spec =

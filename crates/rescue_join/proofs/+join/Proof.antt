@@ -56,6 +56,37 @@ join-calls t = (
   later-reads.Learnt,
 )
 
+-- `A-from-B` is the state A as the later state B has it.
+abbrev join-kid4-from-join : (t : ℕ) → join-lts.After-join (join-calls t) (join-at t) join.Post → join-lts.After-kid4 (join-calls t) (join-at t) join.Post
+join-kid4-from-join t c = c .before .before
+
+abbrev join-lowest-from-else3 : (t : ℕ) → join-lts.Else3 (join-calls t) (join-at t) join.Post → join-lts.After-lowest (join-calls t) (join-at t) join.Post
+join-lowest-from-else3 t c = c .before .before
+
+abbrev join-lowest-from-lowest2 : (t : ℕ) → join-lts.After-lowest2 (join-calls t) (join-at t) join.Post → join-lts.After-lowest (join-calls t) (join-at t) join.Post
+join-lowest-from-lowest2 t c = join-lowest-from-else3 t (c .before .before .before)
+
+abbrev join-lowest2-from-kid2 : (t : ℕ) → join-lts.After-kid2 (join-calls t) (join-at t) join.Post → join-lts.After-lowest2 (join-calls t) (join-at t) join.Post
+join-lowest2-from-kid2 t c = c .before .before
+
+abbrev join-else1-from-else2 : (t : ℕ) → join-lts.Else2 (join-calls t) (join-at t) join.Post → join-lts.Else1 (join-calls t) (join-at t) join.Post
+join-else1-from-else2 t c = c .before .before
+
+abbrev join-start-from-of-next : (t : ℕ) → join-lts.After-of-next (join-calls t) (join-at t) join.Post → join-lts.Start (join-calls t) (join-at t) join.Post
+join-start-from-of-next t c = c .before .before .before
+
+abbrev join-start-from-else2 : (t : ℕ) → join-lts.Else2 (join-calls t) (join-at t) join.Post → join-lts.Start (join-calls t) (join-at t) join.Post
+join-start-from-else2 t c = join-start-from-of-next t (c .before)
+
+abbrev join-start-from-lowest : (t : ℕ) → join-lts.After-lowest (join-calls t) (join-at t) join.Post → join-lts.Start (join-calls t) (join-at t) join.Post
+join-start-from-lowest t c = join-start-from-else2 t (c .before)
+
+abbrev join-start-from-else4 : (t : ℕ) → join-lts.Else4 (join-calls t) (join-at t) join.Post → join-lts.Start (join-calls t) (join-at t) join.Post
+join-start-from-else4 t c = join-start-from-lowest t (c .before .before .before .before)
+
+abbrev join-start-from-lowest2 : (t : ℕ) → join-lts.After-lowest2 (join-calls t) (join-at t) join.Post → join-lts.Start (join-calls t) (join-at t) join.Post
+join-start-from-lowest2 t c = join-start-from-else4 t (c .before)
+
 join-returns : (t : ℕ) → join-lts.Need-returns (join-calls t) (join-at t) join.Post
 join-returns t c =
     let d = (c .before .before) in
@@ -67,62 +98,72 @@ join-of-next-requires t c κs =
 
 join-returns-2 : (t : ℕ) → join-lts.Need-returns-2 (join-calls t) (join-at t) join.Post
 join-returns-2 t c =
-    let d = (c .before .before .before .before) in
-    joins-apart (d .args .source .now) (d .args .next) (d .args .place) (d .args .a) (d .args .b) ((c .before .before) .if1 .left) ((c .before) .of-next .ensures) (not-true _ (c .if2 .taken))
+    let after-of-next = c .before in
+    let start = join-start-from-of-next t after-of-next in
+    joins-apart (start .args .source .now) (start .args .next) (start .args .place) (start .args .a) (start .args .b) (after-of-next .before .if1 .left) (after-of-next .of-next .ensures) (not-true _ (c .if2 .taken))
 
 join-lowest-requires : (t : ℕ) → join-lts.Need-lowest-requires (join-calls t) (join-at t) join.Post
-join-lowest-requires t c κs =
-    (c .before .before .before .before) .pre .1
+join-lowest-requires t c κs = join-start-from-else2 t c .pre .1
 
 join-record-right-requires : (t : ℕ) → join-lts.Need-record-right-requires (join-calls t) (join-at t) join.Post
 join-record-right-requires t c κs =
-    let d = (c .before .before .before .before .before) in
-    (record { size = d .pre .1 .0; proper = d .pre .1 .1; lowest = c .lowest .ensures }, d .pre .1 .2)
+    let start = join-start-from-lowest t c in
+    (record { size = start .pre .1 .0; proper = start .pre .1 .1; lowest = c .lowest .ensures }, start .pre .1 .2)
 
 join-returns-3 : (t : ℕ) → join-lts.Need-returns-3 (join-calls t) (join-at t) join.Post
 join-returns-3 t c =
-    let d = (c .before .before .before .before .before .before .before) in
-    joins-wrong (d .args .source .now) (d .args .next) (d .args .place) (d .args .a) (d .args .b) ((c .before .before .before .before .before) .if1 .left) ((c .before .before .before .before) .of-next .ensures) (not-false _ ((c .before .before .before) .if2 .left))
-    ((c .before) .record-right .ensures) (not-true _ (c .if3 .taken))
+    let after-record-right = c .before in
+    let else2 = after-record-right .before .before in
+    let start = join-start-from-else2 t else2 in
+    joins-wrong (start .args .source .now) (start .args .next) (start .args .place) (start .args .a) (start .args .b) (join-else1-from-else2 t else2 .if1 .left) (else2 .before .of-next .ensures) (not-false _ (else2 .if2 .left))
+    (after-record-right .record-right .ensures) (not-true _ (c .if3 .taken))
 
 join-returns-4 : (t : ℕ) → join-lts.Need-returns-4 (join-calls t) (join-at t) join.Post
 join-returns-4 t c =
-    let d = (c .before .before .before .before .before .before .before .before .before) in
-    joins-end (d .args .source .now) (d .args .next) (d .args .place) (d .args .a) (d .args .b) ((c .before .before .before .before .before .before .before) .if1 .left) ((c .before .before .before .before .before .before) .of-next .ensures) (not-false _ ((c .before .before .before .before .before) .if2 .left))
-    ((c .before .before .before) .record-right .ensures) (not-false _ ((c .before .before) .if3 .left)) (c .if4 .taken)
+    let else3 = c .before .before in
+    let after-record-right = else3 .before in
+    let else2 = after-record-right .before .before in
+    let start = join-start-from-else2 t else2 in
+    joins-end (start .args .source .now) (start .args .next) (start .args .place) (start .args .a) (start .args .b) (join-else1-from-else2 t else2 .if1 .left) (else2 .before .of-next .ensures) (not-false _ (else2 .if2 .left))
+    (after-record-right .record-right .ensures) (not-false _ (else3 .if3 .left)) (c .if4 .taken)
 
 join-lowest-requires-2 : (t : ℕ) → join-lts.Need-lowest-requires-2 (join-calls t) (join-at t) join.Post
-join-lowest-requires-2 t c κs =
-    (c .before .before .before .before .before .before .before .before .before) .pre .1
+join-lowest-requires-2 t c κs = join-start-from-else4 t c .pre .1
 
 join-kid-requires : (t : ℕ) → join-lts.Need-kid-requires (join-calls t) (join-at t) join.Post
 join-kid-requires t c κs =
-    let d = (c .before .before .before .before .before .before .before .before .before .before) in
-    inside-of (d .args .source .now) (d .pre .1 .0) (d .args .a) (placeOf (d .args .place)) ((c .before .before .before .before .before) .lowest .result) ((c .before .before .before .before .before) .lowest .ensures)
+    let after-lowest = join-lowest-from-lowest2 t c in
+    let start = join-start-from-lowest t after-lowest in
+    inside-of (start .args .source .now) (start .pre .1 .0) (start .args .a) (placeOf (start .args .place)) (after-lowest .lowest .result) (after-lowest .lowest .ensures)
 
 join-kid-requires-2 : (t : ℕ) → join-lts.Need-kid-requires-2 (join-calls t) (join-at t) join.Post
 join-kid-requires-2 t c κs =
-    let d = (c .before .before .before .before .before .before .before .before .before .before .before) in
-    inside-of (d .args .source .now) (d .pre .1 .0) (d .args .a) (placeOf (d .args .place)) ((c .before .before .before .before .before .before) .lowest .result) ((c .before .before .before .before .before .before) .lowest .ensures)
+    let after-lowest = join-lowest-from-lowest2 t (c .before) in
+    let start = join-start-from-lowest t after-lowest in
+    inside-of (start .args .source .now) (start .pre .1 .0) (start .args .a) (placeOf (start .args .place)) (after-lowest .lowest .result) (after-lowest .lowest .ensures)
 
 join-kid-requires-3 : (t : ℕ) → join-lts.Need-kid-requires-3 (join-calls t) (join-at t) join.Post
 join-kid-requires-3 t c κs =
-    let d = (c .before .before .before .before .before .before .before .before .before .before .before .before) in
-    inside-of (d .args .source .now) (d .pre .1 .0) (d .args .b) (placeOf (d .args .place)) ((c .before .before) .lowest2 .result) ((c .before .before) .lowest2 .ensures)
+    let after-lowest2 = join-lowest2-from-kid2 t c in
+    let start = join-start-from-lowest2 t after-lowest2 in
+    inside-of (start .args .source .now) (start .pre .1 .0) (start .args .b) (placeOf (start .args .place)) (after-lowest2 .lowest2 .result) (after-lowest2 .lowest2 .ensures)
 
 join-kid-requires-4 : (t : ℕ) → join-lts.Need-kid-requires-4 (join-calls t) (join-at t) join.Post
 join-kid-requires-4 t c κs =
-    let d = (c .before .before .before .before .before .before .before .before .before .before .before .before .before) in
-    inside-of (d .args .source .now) (d .pre .1 .0) (d .args .b) (placeOf (d .args .place)) ((c .before .before .before) .lowest2 .result) ((c .before .before .before) .lowest2 .ensures)
+    let after-lowest2 = join-lowest2-from-kid2 t (c .before) in
+    let start = join-start-from-lowest2 t after-lowest2 in
+    inside-of (start .args .source .now) (start .pre .1 .0) (start .args .b) (placeOf (start .args .place)) (after-lowest2 .lowest2 .result) (after-lowest2 .lowest2 .ensures)
 
 join-left-requires : (t : ℕ) → join-lts.Need-left-requires (join-calls t) (join-at t) join.Post
 join-left-requires t c κs =
-    ((c .before .before .before .before .before .before .before .before .before .before .before .before .before .before) .pre .1 .1, (c .before .before .before .before .before) .if4 .left)
+    let else4 = c .before .before .before .before .before in
+    (join-start-from-else4 t else4 .pre .1 .1, else4 .if4 .left)
 
 join-join-requires : (t : ℕ) → join-lts.Need-join-requires (join-calls t) (join-at t) join.Post
 join-join-requires t c κs =
-    let d = (c .before .before .before .before .before .before .before .before .before .before .before .before .before .before .before) in
-    (omega (arith, d .pre .0, c .left .ensures .count, (c .before .before .before .before .before .before) .if4 .left), (d .pre .1 .0, c .left .ensures .proper, d .pre .1 .2))
+    let after-lowest2 = c .before .before .before .before .before in
+    let start = join-start-from-lowest2 t after-lowest2 in
+    (omega (arith, start .pre .0, c .left .ensures .count, after-lowest2 .before .if4 .left), (start .pre .1 .0, c .left .ensures .proper, start .pre .1 .2))
 
 join-enum-known-on-left : (t : ℕ) → join-lts.Need-enum-known-on-left (join-calls t) (join-at t) join.Post
 join-enum-known-on-left t c =
@@ -134,22 +175,34 @@ join-enum-told t c =
 
 join-returns-5 : (t : ℕ) → join-lts.Need-returns-5 (join-calls t) (join-at t) join.Post
 join-returns-5 t c =
-    let d = (c .before .before .before .before .before .before .before .before .before .before .before .before .before .before .before .before .before .before) in
-    let p = placeOf (d .args .place) in
-    let s = d .args .source .now in
-    left-broken s (d .args .next) (d .args .place) (d .args .a) (d .args .b) ((c .before .before .before .before .before .before .before .before .before .before .before .before .before .before .before .before) .if1 .left) ((c .before .before .before .before .before .before .before .before .before .before .before .before .before .before .before) .of-next .ensures) (not-false _ ((c .before .before .before .before .before .before .before .before .before .before .before .before .before .before) .if2 .left))
-    ((c .before .before .before .before .before .before .before .before .before .before .before .before) .record-right .ensures) (not-false _ ((c .before .before .before .before .before .before .before .before .before .before .before) .if3 .left)) ((c .before .before .before .before .before .before .before .before .before) .if4 .left) ((c .before .before .before) .left .ensures)
-    ((c .before .before .before .before .before .before .before) .kid .ensures (d .args .a) p ((c .before .before .before .before .before .before .before .before .before .before .before .before .before) .lowest .ensures)) ((c .before .before .before .before .before) .kid3 .ensures (d .args .b) p ((c .before .before .before .before .before .before .before .before) .lowest2 .ensures))
-    (subst (JoinSays s (d .args .next) ((c .before .before .before) .left .result) ((c .before .before .before .before .before .before .before) .kid .result) ((c .before .before .before .before .before) .kid3 .result)) (c .enum-told .given .1) ((c .before .before) .join .ensures))
+    let after-join = c .before .before in
+    let after-left = after-join .before in
+    let after-kid3 = after-left .before .before in
+    let after-kid = after-kid3 .before .before in
+    let after-lowest2 = after-kid .before in
+    let else4 = after-lowest2 .before in
+    let else3 = else4 .before .before in
+    let else2 = else3 .before .before .before in
+    let start = join-start-from-else2 t else2 in
+    let p = placeOf (start .args .place) in
+    let s = start .args .source .now in
+    left-broken s (start .args .next) (start .args .place) (start .args .a) (start .args .b) (join-else1-from-else2 t else2 .if1 .left) (else2 .before .of-next .ensures) (not-false _ (else2 .if2 .left))
+    (else3 .before .record-right .ensures) (not-false _ (else3 .if3 .left)) (else4 .if4 .left) (after-left .left .ensures)
+    (after-kid .kid .ensures (start .args .a) p (join-lowest-from-else3 t else3 .lowest .ensures)) (after-kid3 .kid3 .ensures (start .args .b) p (after-lowest2 .lowest2 .ensures))
+    (subst (JoinSays s (start .args .next) (after-left .left .result) (after-kid .kid .result) (after-kid3 .kid3 .result)) (c .enum-told .given .1) (after-join .join .ensures))
 
 join-right-requires : (t : ℕ) → join-lts.Need-right-requires (join-calls t) (join-at t) join.Post
 join-right-requires t c κs =
-    ((c .before .before .before .before .before .before .before .before .before .before .before .before .before .before .before .before .before .before .before) .pre .1 .1, (c .before .before .before .before .before .before .before .before .before .before) .if4 .left)
+    let after-kid4 = c .before .before .before .before .before in
+    let else4 = after-kid4 .before .before .before .before .before in
+    (join-start-from-else4 t else4 .pre .1 .1, else4 .if4 .left)
 
 join-join-requires-2 : (t : ℕ) → join-lts.Need-join-requires-2 (join-calls t) (join-at t) join.Post
 join-join-requires-2 t c κs =
-    let d = (c .before .before .before .before .before .before .before .before .before .before .before .before .before .before .before .before .before .before .before .before) in
-    (omega (arith, d .pre .0, c .right .ensures .count, (c .before .before .before .before .before .before .before .before .before .before .before) .if4 .left), (d .pre .1 .0, c .right .ensures .proper, d .pre .1 .2))
+    let after-left = c .before .before .before .before .before in
+    let after-lowest2 = after-left .before .before .before .before .before in
+    let start = join-start-from-lowest2 t after-lowest2 in
+    (omega (arith, start .pre .0, c .right .ensures .count, after-lowest2 .before .if4 .left), (start .pre .1 .0, c .right .ensures .proper, start .pre .1 .2))
 
 join-enum-known-on-right : (t : ℕ) → join-lts.Need-enum-known-on-right (join-calls t) (join-at t) join.Post
 join-enum-known-on-right t c =
@@ -161,13 +214,20 @@ join-enum-told-2 t c =
 
 join-returns-6 : (t : ℕ) → join-lts.Need-returns-6 (join-calls t) (join-at t) join.Post
 join-returns-6 t c =
-    let d = (c .before .before .before .before .before .before .before .before .before .before .before .before .before .before .before .before .before .before .before .before .before .before .before) in
-    let p = placeOf (d .args .place) in
-    let s = d .args .source .now in
-    right-broken s (d .args .next) (d .args .place) (d .args .a) (d .args .b) ((c .before .before .before .before .before .before .before .before .before .before .before .before .before .before .before .before .before .before .before .before .before) .if1 .left) ((c .before .before .before .before .before .before .before .before .before .before .before .before .before .before .before .before .before .before .before .before) .of-next .ensures) (not-false _ ((c .before .before .before .before .before .before .before .before .before .before .before .before .before .before .before .before .before .before .before) .if2 .left))
-    ((c .before .before .before .before .before .before .before .before .before .before .before .before .before .before .before .before .before) .record-right .ensures) (not-false _ ((c .before .before .before .before .before .before .before .before .before .before .before .before .before .before .before .before) .if3 .left)) ((c .before .before .before .before .before .before .before .before .before .before .before .before .before .before) .if4 .left) ((c .before .before .before) .right .ensures)
-    ((c .before .before .before .before .before .before .before .before .before .before .before) .kid2 .ensures (d .args .a) p ((c .before .before .before .before .before .before .before .before .before .before .before .before .before .before .before .before .before .before) .lowest .ensures)) ((c .before .before .before .before .before .before .before .before .before) .kid4 .ensures (d .args .b) p ((c .before .before .before .before .before .before .before .before .before .before .before .before .before) .lowest2 .ensures))
-    (subst (JoinSays s (d .args .next) ((c .before .before .before) .right .result) ((c .before .before .before .before .before .before .before .before .before .before .before) .kid2 .result) ((c .before .before .before .before .before .before .before .before .before) .kid4 .result)) (c .enum-told2 .given .1) ((c .before .before) .join2 .ensures))
+    let after-join2 = c .before .before in
+    let after-right = after-join2 .before in
+    let after-kid4 = join-kid4-from-join t (after-right .before .before .before .before) in
+    let after-kid2 = after-kid4 .before .before in
+    let else4 = after-kid2 .before .before .before in
+    let else3 = else4 .before .before in
+    let else2 = else3 .before .before .before in
+    let start = join-start-from-else2 t else2 in
+    let p = placeOf (start .args .place) in
+    let s = start .args .source .now in
+    right-broken s (start .args .next) (start .args .place) (start .args .a) (start .args .b) (join-else1-from-else2 t else2 .if1 .left) (else2 .before .of-next .ensures) (not-false _ (else2 .if2 .left))
+    (else3 .before .record-right .ensures) (not-false _ (else3 .if3 .left)) (else4 .if4 .left) (after-right .right .ensures)
+    (after-kid2 .kid2 .ensures (start .args .a) p (join-lowest-from-else3 t else3 .lowest .ensures)) (after-kid4 .kid4 .ensures (start .args .b) p (join-lowest2-from-kid2 t after-kid2 .lowest2 .ensures))
+    (subst (JoinSays s (start .args .next) (after-right .right .result) (after-kid2 .kid2 .result) (after-kid4 .kid4 .result)) (c .enum-told2 .given .1) (after-join2 .join2 .ensures))
 
 join-newer-requires : (t : ℕ) → join-lts.Need-newer-requires (join-calls t) (join-at t) join.Post
 join-newer-requires t c κs =
@@ -191,16 +251,33 @@ join-later-requires-3 t c κs =
 
 join-returns-7 : (t : ℕ) → join-lts.Need-returns-7 (join-calls t) (join-at t) join.Post
 join-returns-7 t c =
-    let d = (c .before .before .before .before .before .before .before .before .before .before .before .before .before .before .before .before .before .before .before .before .before .before .before .before .before .before .before .before .before) in
-    let p = placeOf (d .args .place) in
-    let s = d .args .source .now in
-    both-fit s (d .args .next) (d .args .place) (d .args .a) (d .args .b) ((c .before .before .before .before .before .before .before .before .before .before .before .before .before .before .before .before .before .before .before .before .before .before .before .before .before .before .before) .if1 .left) ((c .before .before .before .before .before .before .before .before .before .before .before .before .before .before .before .before .before .before .before .before .before .before .before .before .before .before) .of-next .ensures) (not-false _ ((c .before .before .before .before .before .before .before .before .before .before .before .before .before .before .before .before .before .before .before .before .before .before .before .before .before) .if2 .left))
-    ((c .before .before .before .before .before .before .before .before .before .before .before .before .before .before .before .before .before .before .before .before .before .before .before) .record-right .ensures) (not-false _ ((c .before .before .before .before .before .before .before .before .before .before .before .before .before .before .before .before .before .before .before .before .before .before) .if3 .left)) ((c .before .before .before .before .before .before .before .before .before .before .before .before .before .before .before .before .before .before .before .before) .if4 .left) ((c .before .before .before .before .before .before .before .before .before) .right .ensures)
-    ((c .before .before .before .before .before .before .before .before .before .before .before .before .before .before .before .before .before) .kid2 .ensures (d .args .a) p ((c .before .before .before .before .before .before .before .before .before .before .before .before .before .before .before .before .before .before .before .before .before .before .before .before) .lowest .ensures)) ((c .before .before .before .before .before .before .before .before .before .before .before .before .before .before .before) .kid4 .ensures (d .args .b) p ((c .before .before .before .before .before .before .before .before .before .before .before .before .before .before .before .before .before .before .before) .lowest2 .ensures))
-    ((c .before .before .before .before .before .before .before .before .before .before .before .before .before .before) .left .ensures) ((c .before .before .before .before .before .before .before .before .before .before .before .before .before .before .before .before .before .before) .kid .ensures (d .args .a) p ((c .before .before .before .before .before .before .before .before .before .before .before .before .before .before .before .before .before .before .before .before .before .before .before .before) .lowest .ensures)) ((c .before .before .before .before .before .before .before .before .before .before .before .before .before .before .before .before) .kid3 .ensures (d .args .b) p ((c .before .before .before .before .before .before .before .before .before .before .before .before .before .before .before .before .before .before .before) .lowest2 .ensures))
-    (subst (JoinSays s (d .args .next) ((c .before .before .before .before .before .before .before .before .before .before .before .before .before .before) .left .result) ((c .before .before .before .before .before .before .before .before .before .before .before .before .before .before .before .before .before .before) .kid .result) ((c .before .before .before .before .before .before .before .before .before .before .before .before .before .before .before .before) .kid3 .result)) ((c .before .before .before .before .before .before .before .before .before .before .before) .on-left .given .1) ((c .before .before .before .before .before .before .before .before .before .before .before .before .before) .join .ensures))
-    (subst (JoinSays s (d .args .next) ((c .before .before .before .before .before .before .before .before .before) .right .result) ((c .before .before .before .before .before .before .before .before .before .before .before .before .before .before .before .before .before) .kid2 .result) ((c .before .before .before .before .before .before .before .before .before .before .before .before .before .before .before) .kid4 .result)) ((c .before .before .before .before .before .before) .on-right .given .1) ((c .before .before .before .before .before .before .before .before) .join2 .ensures))
-    ((c .before .before .before .before) .newer .ensures) ((c .before .before .before) .newer2 .ensures) ((c .before .before) .later .ensures) ((c .before) .later2 .ensures) (c .later3 .ensures)
+    let after-later2 = c .before in
+    let after-later = after-later2 .before in
+    let after-newer2 = after-later .before in
+    let after-newer = after-newer2 .before in
+    let after-on-right = after-newer .before .before in
+    let after-join2 = after-on-right .before .before in
+    let after-right = after-join2 .before in
+    let after-on-left = after-right .before .before in
+    let after-join = after-on-left .before .before in
+    let after-kid4 = join-kid4-from-join t after-join in
+    let after-kid3 = after-kid4 .before in
+    let after-kid2 = after-kid3 .before in
+    let after-lowest2 = join-lowest2-from-kid2 t after-kid2 in
+    let else4 = after-lowest2 .before in
+    let else3 = else4 .before .before in
+    let after-lowest = join-lowest-from-else3 t else3 in
+    let else2 = after-lowest .before in
+    let start = join-start-from-else2 t else2 in
+    let p = placeOf (start .args .place) in
+    let s = start .args .source .now in
+    both-fit s (start .args .next) (start .args .place) (start .args .a) (start .args .b) (join-else1-from-else2 t else2 .if1 .left) (else2 .before .of-next .ensures) (not-false _ (else2 .if2 .left))
+    (else3 .before .record-right .ensures) (not-false _ (else3 .if3 .left)) (else4 .if4 .left) (after-right .right .ensures)
+    (after-kid2 .kid2 .ensures (start .args .a) p (after-lowest .lowest .ensures)) (after-kid4 .kid4 .ensures (start .args .b) p (after-lowest2 .lowest2 .ensures))
+    (after-join .before .left .ensures) (after-kid2 .before .kid .ensures (start .args .a) p (after-lowest .lowest .ensures)) (after-kid3 .kid3 .ensures (start .args .b) p (after-lowest2 .lowest2 .ensures))
+    (subst (JoinSays s (start .args .next) (after-join .before .left .result) (after-kid2 .before .kid .result) (after-kid3 .kid3 .result)) (after-on-left .on-left .given .1) (after-join .join .ensures))
+    (subst (JoinSays s (start .args .next) (after-right .right .result) (after-kid2 .kid2 .result) (after-kid4 .kid4 .result)) (after-on-right .on-right .given .1) (after-join2 .join2 .ensures))
+    (after-newer .newer .ensures) (after-newer2 .newer2 .ensures) (after-later .later .ensures) (after-later2 .later2 .ensures) (c .later3 .ensures)
 
 pub +join-spec : {M : Type 1} → statement M
 +join-spec = close μ-join λ t. join-lts.spec (join-calls t) (join-at t)

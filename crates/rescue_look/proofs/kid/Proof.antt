@@ -16,6 +16,10 @@ enum-known-found c = search needs
 enum-told : tie.Need-enum-told
 enum-told c = search needs
 
+-- `A-from-B` is the state A as the later state B has it.
+abbrev start-from-found : tie.After-found → tie.Start
+start-from-found c = c .before .before .before
+
 returns : tie.Need-returns
 returns c =
     let a = c .before .before .before .args in
@@ -23,40 +27,40 @@ returns c =
 
 slot-of-requires : tie.Need-slot-of-requires
 slot-of-requires c κs =
-    let d = c .before .before .before .before in
-    slot-within (subst (Inside (d .args .source .now)) (c .before .found .given .1) (d .pre))
+    let start = start-from-found (c .before) in
+    slot-within (subst (Inside (start .args .source .now)) (c .before .found .given .1) (start .pre))
 
 is-leaf-requires : tie.Need-is-leaf-requires
 is-leaf-requires c κs = search needs
 
 returns-2 : tie.Need-returns-2
 returns-2 c =
-    let c2 = c .before .before in
-    let c4 = c2 .before .before in
-    let c6 = c4 .before .before in
-    let d = c6 .before in
-    let s = d .args .source .now in
-    let e = c4 .found .given .1 in
-    kid-leaf s (d .args .right) (all-of Byte s 0 (λ i _. omega (arith, c6 .shared-slice-known .given i))) (subst (Inside s) e (d .pre)) e
-    (c2 .slot-of .ensures .0) (c .before .is-leaf .ensures) (c .if1 .taken)
+    let after-is-leaf = c .before in
+    let after-slot-of = after-is-leaf .before in
+    let after-found = after-slot-of .before .before in
+    let start = start-from-found after-found in
+    let s = start .args .source .now in
+    let e = after-found .found .given .1 in
+    kid-leaf s (start .args .right) (all-of Byte s 0 (λ i _. omega (arith, after-found .before .before .shared-slice-known .given i))) (subst (Inside s) e (start .pre)) e
+    (after-slot-of .slot-of .ensures .0) (after-is-leaf .is-leaf .ensures) (c .if1 .taken)
 
 child-version-at-requires : tie.Need-child-version-at-requires
 child-version-at-requires c κs =
-    let c4 = c .before .before .before .before in
-    let d = c4 .before .before .before in
-    slot-within (subst (Inside (d .args .source .now)) (c4 .found .given .1) (d .pre))
+    let after-found = c .before .before .before .before in
+    let start = start-from-found after-found in
+    slot-within (subst (Inside (start .args .source .now)) (after-found .found .given .1) (start .pre))
 
 returns-3 : tie.Need-returns-3
 returns-3 c =
-    let c1 = c .before in
-    let c3 = c1 .before .before in
-    let c5 = c3 .before .before in
-    let c7 = c5 .before .before in
-    let d = c7 .before in
-    let s = d .args .source .now in
-    let e = c5 .found .given .1 in
-    kid-inner s (d .args .right) (all-of Byte s 0 (λ i _. omega (arith, c7 .shared-slice-known .given i))) (subst (Inside s) e (d .pre)) e
-    (c3 .slot-of .ensures .0) (c1 .before .is-leaf .ensures) (c1 .if1 .left) (c .child-version-at .ensures)
+    let else1 = c .before in
+    let after-is-leaf = else1 .before in
+    let after-slot-of = after-is-leaf .before in
+    let after-found = after-slot-of .before .before in
+    let start = start-from-found after-found in
+    let s = start .args .source .now in
+    let e = after-found .found .given .1 in
+    kid-inner s (start .args .right) (all-of Byte s 0 (λ i _. omega (arith, after-found .before .before .shared-slice-known .given i))) (subst (Inside s) e (start .pre)) e
+    (after-slot-of .slot-of .ensures .0) (after-is-leaf .is-leaf .ensures) (else1 .if1 .left) (c .child-version-at .ensures)
 
 pub kid-spec : {M : Type 1} → statement M
 kid-spec =

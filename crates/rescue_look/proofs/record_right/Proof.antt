@@ -15,6 +15,13 @@ enum-known-found c = search needs
 enum-told : tie.Need-enum-told
 enum-told c = search needs
 
+-- `A-from-B` is the state A as the later state B has it.
+abbrev shared-slice-known-from-found : tie.After-found → tie.After-shared-slice-known
+shared-slice-known-from-found c = c .before .before
+
+abbrev start-from-found : tie.After-found → tie.Start
+start-from-found c = c .before .before .before
+
 returns : tie.Need-returns
 returns c =
     let d = c .before .before .before in
@@ -22,10 +29,10 @@ returns c =
 
 slot-of-requires : tie.Need-slot-of-requires
 slot-of-requires c κs =
-    let c3 = c .before .before .before in
-    let d = c3 .before in
-    let s = d .args .source .now in
-    slot-within (sought-has s (d .args .version) (d .args .place) (d .pre .0) (all-of Byte s 0 (λ i _. omega (arith, c3 .shared-slice-known .given i))) (c .before .found .given .1))
+    let after-found = c .before in
+    let start = start-from-found after-found in
+    let s = start .args .source .now in
+    slot-within (sought-has s (start .args .version) (start .args .place) (start .pre .0) (all-of Byte s 0 (λ i _. omega (arith, shared-slice-known-from-found after-found .shared-slice-known .given i))) (after-found .found .given .1))
 
 is-leaf-requires : tie.Need-is-leaf-requires
 is-leaf-requires c κs = c .slot-of .ensures .2
@@ -34,85 +41,88 @@ key-of-requires : tie.Need-key-of-requires
 key-of-requires c κs = c .before .before .slot-of .ensures .2
 
 begins-requires : tie.Need-begins-requires
-begins-requires c κs = (c .key-of .ensures .1, c .before .before .before .before .before .before .before .before .pre .0 .proper)
+begins-requires c κs = (c .key-of .ensures .1, start-from-found (c .before .before .before .before .before) .pre .0 .proper)
 
 returns-2 : tie.Need-returns-2
 returns-2 c =
-    let c3 = c .before .before .before in
-    let c6 = c3 .before .before .before in
-    let c8 = c6 .before .before in
-    let d = c8 .before in
-    let s = d .args .source .now in
-    right-leaf s (d .args .version) (d .args .place) (d .pre .0) (all-of Byte s 0 (λ i _. omega (arith, c8 .shared-slice-known .given i))) (c6 .found .given .1)
-    (c3 .before .slot-of .ensures .0) (c3 .is-leaf .ensures) (c .before .before .if1 .taken) (c .before .key-of .ensures .0) (c .begins .ensures)
+    let after-key-of = c .before in
+    let then1 = after-key-of .before in
+    let after-is-leaf = then1 .before in
+    let after-slot-of = after-is-leaf .before in
+    let after-found = after-slot-of .before .before in
+    let start = start-from-found after-found in
+    let s = start .args .source .now in
+    right-leaf s (start .args .version) (start .args .place) (start .pre .0) (all-of Byte s 0 (λ i _. omega (arith, shared-slice-known-from-found after-found .shared-slice-known .given i))) (after-found .found .given .1)
+    (after-slot-of .slot-of .ensures .0) (after-is-leaf .is-leaf .ensures) (then1 .if1 .taken) (after-key-of .key-of .ensures .0) (c .begins .ensures)
 
 left-requires : tie.Need-left-requires
 left-requires c κs =
-    let c1 = c .before in
-    let c4 = c1 .before .before .before in
-    let c6 = c4 .before .before in
-    let d = c6 .before in
-    let s = d .args .source .now in (
-      d .pre .0 .proper,
-      inner-short s (d .args .version) (d .args .place) (d .pre .0) (all-of Byte s 0 (λ i _. omega (arith, c6 .shared-slice-known .given i))) (c4 .found .given .1)
-          (c1 .before .slot-of .ensures .0) (c1 .is-leaf .ensures) (c .if1 .left),
+    let after-is-leaf = c .before in
+    let after-slot-of = after-is-leaf .before in
+    let after-found = after-slot-of .before .before in
+    let start = start-from-found after-found in
+    let s = start .args .source .now in (
+      start .pre .0 .proper,
+      inner-short s (start .args .version) (start .args .place) (start .pre .0) (all-of Byte s 0 (λ i _. omega (arith, shared-slice-known-from-found after-found .shared-slice-known .given i))) (after-found .found .given .1)
+          (after-slot-of .slot-of .ensures .0) (after-is-leaf .is-leaf .ensures) (c .if1 .left),
     )
 
 linked-requires : tie.Need-linked-requires
 linked-requires c κs =
-    let c5 = c .before .before .before .before .before in
-    let c7 = c5 .before .before in
-    let d = c7 .before in
-    let s = d .args .source .now in
-    (sought-has s (d .args .version) (d .args .place) (d .pre .0) (all-of Byte s 0 (λ i _. omega (arith, c7 .shared-slice-known .given i))) (c5 .found .given .1), c .left .ensures .proper, d .pre .1)
+    let after-found = c .before .before .before .before .before in
+    let start = start-from-found after-found in
+    let s = start .args .source .now in
+    (sought-has s (start .args .version) (start .args .place) (start .pre .0) (all-of Byte s 0 (λ i _. omega (arith, shared-slice-known-from-found after-found .shared-slice-known .given i))) (after-found .found .given .1), c .left .ensures .proper, start .pre .1)
 
 returns-3 : tie.Need-returns-3
 returns-3 c =
-    let c2 = c .before .before in
-    let c3 = c2 .before in
-    let c4 = c3 .before in
-    let c7 = c4 .before .before .before in
-    let c9 = c7 .before .before in
-    let d = c9 .before in
-    let s = d .args .source .now in
-    left-off s (d .args .version) (d .args .place) (d .pre .0) (all-of Byte s 0 (λ i _. omega (arith, c9 .shared-slice-known .given i))) (c7 .found .given .1)
-    (c4 .before .slot-of .ensures .0) (c4 .is-leaf .ensures) (c3 .if1 .left) (c2 .left .ensures) (c .before .linked .ensures) (not-true _ (c .if2 .taken))
+    let after-linked = c .before in
+    let after-left = after-linked .before in
+    let else1 = after-left .before in
+    let after-is-leaf = else1 .before in
+    let after-slot-of = after-is-leaf .before in
+    let after-found = after-slot-of .before .before in
+    let start = start-from-found after-found in
+    let s = start .args .source .now in
+    left-off s (start .args .version) (start .args .place) (start .pre .0) (all-of Byte s 0 (λ i _. omega (arith, shared-slice-known-from-found after-found .shared-slice-known .given i))) (after-found .found .given .1)
+    (after-slot-of .slot-of .ensures .0) (after-is-leaf .is-leaf .ensures) (else1 .if1 .left) (after-left .left .ensures) (after-linked .linked .ensures) (not-true _ (c .if2 .taken))
 
 right-requires : tie.Need-right-requires
 right-requires c κs =
-    let c3 = c .before .before .before in
-    let c4 = c3 .before in
-    let c7 = c4 .before .before .before in
-    let c9 = c7 .before .before in
-    let d = c9 .before in
-    let s = d .args .source .now in (
-      d .pre .0 .proper,
-      inner-short s (d .args .version) (d .args .place) (d .pre .0) (all-of Byte s 0 (λ i _. omega (arith, c9 .shared-slice-known .given i))) (c7 .found .given .1)
-          (c4 .before .slot-of .ensures .0) (c4 .is-leaf .ensures) (c3 .if1 .left),
+    let else1 = c .before .before .before in
+    let after-is-leaf = else1 .before in
+    let after-slot-of = after-is-leaf .before in
+    let after-found = after-slot-of .before .before in
+    let start = start-from-found after-found in
+    let s = start .args .source .now in (
+      start .pre .0 .proper,
+      inner-short s (start .args .version) (start .args .place) (start .pre .0) (all-of Byte s 0 (λ i _. omega (arith, shared-slice-known-from-found after-found .shared-slice-known .given i))) (after-found .found .given .1)
+          (after-slot-of .slot-of .ensures .0) (after-is-leaf .is-leaf .ensures) (else1 .if1 .left),
     )
 
 linked-requires-2 : tie.Need-linked-requires-2
 linked-requires-2 c κs =
-    let c8 = c .before .before .before .before .before .before .before .before in
-    let c10 = c8 .before .before in
-    let d = c10 .before in
-    let s = d .args .source .now in
-    (sought-has s (d .args .version) (d .args .place) (d .pre .0) (all-of Byte s 0 (λ i _. omega (arith, c10 .shared-slice-known .given i))) (c8 .found .given .1), c .right .ensures .proper, d .pre .1)
+    let after-is-leaf = c .before .before .before .before .before in
+    let after-found = after-is-leaf .before .before .before in
+    let start = start-from-found after-found in
+    let s = start .args .source .now in
+    (sought-has s (start .args .version) (start .args .place) (start .pre .0) (all-of Byte s 0 (λ i _. omega (arith, shared-slice-known-from-found after-found .shared-slice-known .given i))) (after-found .found .given .1), c .right .ensures .proper, start .pre .1)
 
 returns-4 : tie.Need-returns-4
 returns-4 c =
-    let c2 = c .before .before in
-    let c3 = c2 .before in
-    let c4 = c3 .before in
-    let c5 = c4 .before in
-    let c6 = c5 .before in
-    let c9 = c6 .before .before .before in
-    let c11 = c9 .before .before in
-    let d = c11 .before in
-    let s = d .args .source .now in
-    right-on s (d .args .version) (d .args .place) (d .pre .0) (all-of Byte s 0 (λ i _. omega (arith, c11 .shared-slice-known .given i))) (c9 .found .given .1)
-    (c6 .before .slot-of .ensures .0) (c6 .is-leaf .ensures) (c5 .if1 .left) (c4 .left .ensures) (c3 .linked .ensures) (not-false _ (c2 .if2 .left))
-    (c .before .right .ensures) (c .linked2 .ensures)
+    let after-right = c .before in
+    let else2 = after-right .before in
+    let after-linked = else2 .before in
+    let after-left = after-linked .before in
+    let else1 = after-left .before in
+    let after-is-leaf = else1 .before in
+    let after-slot-of = after-is-leaf .before in
+    let after-found = after-slot-of .before .before in
+    let start = start-from-found after-found in
+    let s = start .args .source .now in
+    right-on s (start .args .version) (start .args .place) (start .pre .0) (all-of Byte s 0 (λ i _. omega (arith, shared-slice-known-from-found after-found .shared-slice-known .given i))) (after-found .found .given .1)
+    (after-slot-of .slot-of .ensures .0) (after-is-leaf .is-leaf .ensures) (else1 .if1 .left) (after-left .left .ensures) (after-linked .linked .ensures) (not-false _ (else2 .if2 .left))
+    (after-right .right .ensures) (c .linked2 .ensures)
 
 pub record-right-spec : {M : Type 1} → statement M
 record-right-spec =

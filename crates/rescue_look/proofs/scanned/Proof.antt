@@ -16,6 +16,16 @@ Inv-slots source version place n i₀ i = Passed source version (placeOf place) 
 abbrev μ-slots : tie.MeasureT-slots
 μ-slots source version place n i₀ i = n - i
 
+-- `A-from-B` is the state A as the later state B has it.
+abbrev start-from-else1 : tie.Else1 Inv-slots μ-slots → tie.Start Inv-slots μ-slots
+start-from-else1 c = c .before .before
+
+abbrev start-from-at-slots : tie.At-slots Inv-slots μ-slots → tie.Start Inv-slots μ-slots
+start-from-at-slots c = start-from-else1 (c .before .before)
+
+abbrev start-from-else2 : tie.Else2 Inv-slots μ-slots → tie.Start Inv-slots μ-slots
+start-from-else2 c = start-from-at-slots (c .before)
+
 returns : tie.Need-returns Inv-slots μ-slots
 returns c =
     let d = c .before .before in
@@ -23,12 +33,12 @@ returns c =
     no-version s (d .pre .0) (all-of Byte s 0 (λ i _. omega (arith, c .before .shared-slice-known .given i))) (d .args .version) (placeOf (d .args .place)) (c .if1 .taken)
 
 slot-count-requires : tie.Need-slot-count-requires Inv-slots μ-slots
-slot-count-requires c κs = c .before .before .pre .0
+slot-count-requires c κs = start-from-else1 c .pre .0
 
 slots-holds : tie.Need-slots-holds Inv-slots μ-slots
 slots-holds c =
-    let d = c .before .before .before in
-    passed-start (d .args .source .now) (d .args .version) (placeOf (d .args .place)) (d .pre .0) (c .slot-count .ensures)
+    let start = start-from-else1 (c .before) in
+    passed-start (start .args .source .now) (start .args .version) (placeOf (start .args .place)) (start .pre .0) (c .slot-count .ensures)
 
 version-at-requires : tie.Need-version-at-requires Inv-slots μ-slots
 version-at-requires c κs = slot-within (scan-slot (c .before .slots .inv) (c .if2 .left))
@@ -43,18 +53,17 @@ slots-less c = omega (arith, c .before .before .if2 .left)
 
 slots-again : tie.Need-slots-again Inv-slots μ-slots
 slots-again c =
-    let c2 = c .before .before in
-    let c3 = c2 .before in
-    let c6 = c3 .before .before .before in
-    let c7 = c6 .before in
-    passed-version (c7 .args .version) (c7 .args .place) (c3 .slots .inv) (all-of Byte (c7 .args .source .now) 0 (λ i _. omega (arith, c6 .shared-slice-known .given i))) (c7 .pre .1) (c2 .if2 .left)
-    (c .before .version-at .ensures) (c .if3 .taken)
+    let after-version-at = c .before in
+    let else2 = after-version-at .before in
+    let at-slots = else2 .before in
+    let start = start-from-at-slots at-slots in
+    passed-version (start .args .version) (start .args .place) (at-slots .slots .inv) (all-of Byte (start .args .source .now) 0 (λ i _. omega (arith, at-slots .before .before .before .shared-slice-known .given i))) (start .pre .1) (else2 .if2 .left)
+    (after-version-at .version-at .ensures) (c .if3 .taken)
 
 stands-at-requires : tie.Need-stands-at-requires Inv-slots μ-slots
 stands-at-requires c κs =
-    let c2 = c .before .before in
-    let c3 = c2 .before in
-    (scan-slot (c3 .slots .inv) (c2 .if2 .left), c3 .before .before .before .before .pre .1)
+    let else2 = c .before .before in
+    (scan-slot (else2 .before .slots .inv) (else2 .if2 .left), start-from-else2 else2 .pre .1)
 
 add-i-2 : tie.Need-add-i-2 Inv-slots μ-slots
 add-i-2 c =
@@ -66,24 +75,25 @@ slots-less-2 c = omega (arith, c .before .before .before .before .if2 .left)
 
 slots-again-2 : tie.Need-slots-again-2 Inv-slots μ-slots
 slots-again-2 c =
-    let c2 = c .before .before in
-    let c3 = c2 .before in
-    let c5 = c3 .before .before in
-    let a = c5 .before .before .before .before .args in
-    passed-next (a .version) (a .place) (c5 .slots .inv) (c3 .before .if2 .left) (c3 .version-at .ensures) (c2 .if3 .left) (c .before .stands-at .ensures) (c .if4 .left)
+    let after-stands-at = c .before in
+    let else3 = after-stands-at .before in
+    let after-version-at = else3 .before in
+    let else2 = after-version-at .before in
+    let a = start-from-else2 else2 .args in
+    passed-next (a .version) (a .place) (else2 .before .slots .inv) (else2 .if2 .left) (after-version-at .version-at .ensures) (else3 .if3 .left) (after-stands-at .stands-at .ensures) (c .if4 .left)
 
 returns-2 : tie.Need-returns-2 Inv-slots μ-slots
-returns-2 c =
-    let a = c .before .before .before .before .before .args in
+returns-2 c = let a = start-from-at-slots (c .before) .args in
     passed-end (a .source .now) (a .version) (placeOf (a .place)) (c .before .slots .inv) (c .if2 .taken)
 
 returns-3 : tie.Need-returns-3 Inv-slots μ-slots
 returns-3 c =
-    let c2 = c .before .before in
-    let c3 = c2 .before in
-    let c5 = c3 .before .before in
-    let a = c5 .before .before .before .before .args in
-    passed-found (a .version) (a .place) (c5 .slots .inv) (c3 .before .if2 .left) (c3 .version-at .ensures) (c2 .if3 .left) (c .before .stands-at .ensures) (c .if4 .taken)
+    let after-stands-at = c .before in
+    let else3 = after-stands-at .before in
+    let after-version-at = else3 .before in
+    let else2 = after-version-at .before in
+    let a = start-from-else2 else2 .args in
+    passed-found (a .version) (a .place) (else2 .before .slots .inv) (else2 .if2 .left) (after-version-at .version-at .ensures) (else3 .if3 .left) (after-stands-at .stands-at .ensures) (c .if4 .taken)
 
 pub scanned-spec : {M : Type 1} → statement M
 scanned-spec =

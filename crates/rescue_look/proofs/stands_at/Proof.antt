@@ -10,6 +10,10 @@ use borrow.Author.Needs.{needs}
 use Rattle.rescue_look.proofs.stands_at.Statement.{statement}
 use Rattle.rescue_look.proofs.stands_at.Tie as tie
 
+-- `A-from-B` is the state A as the later state B has it.
+abbrev start-from-count-at : tie.After-count-at → tie.Start
+start-from-count-at c = c .before .before
+
 count-at-requires : tie.Need-count-at-requires
 count-at-requires c κs = slot-within (c .before .pre .0)
 
@@ -25,7 +29,7 @@ returns c =
     (λ e. c .if1 .taken (c2 .count-at .ensures ∙ e))
 
 slot-of-requires : tie.Need-slot-of-requires
-slot-of-requires c κs = slot-within (c .before .before .before .before .before .pre .0)
+slot-of-requires c κs = slot-within (start-from-count-at (c .before .before .before) .pre .0)
 
 bits-of-requires : tie.Need-bits-of-requires
 bits-of-requires c κs = search needs
@@ -38,37 +42,39 @@ same-requires c κs = search needs
 
 returns-2 : tie.Need-returns-2
 returns-2 c =
-    let c3 = c .before .before .before in
-    let c4 = c3 .before in
-    let c9 = c4 .before .before .before .before .before in
-    let c10 = c9 .before in
-    stands-bits (c10 .pre .0) (all-of Byte (c10 .args .source .now) 0 (λ i _. omega (arith, c9 .shared-slice-known .given i))) (c10 .args .place) (c10 .pre .1)
-    (c4 .slot-of .ensures .0) (c3 .bits-of .ensures .0) (sym (c .before .same .ensures) ∙ not-true _ (c .if2 .taken))
+    let after-same = c .before in
+    let after-bits-of = after-same .before .before in
+    let after-slot-of = after-bits-of .before in
+    let after-count-at = after-slot-of .before .before .before .before in
+    let start = start-from-count-at after-count-at in
+    stands-bits (start .pre .0) (all-of Byte (start .args .source .now) 0 (λ i _. omega (arith, after-count-at .before .shared-slice-known .given i))) (start .args .place) (start .pre .1)
+    (after-slot-of .slot-of .ensures .0) (after-bits-of .bits-of .ensures .0) (sym (after-same .same .ensures) ∙ not-true _ (c .if2 .taken))
 
 holds-record-requires : tie.Need-holds-record-requires
 holds-record-requires c κs = search needs
 
 returns-3 : tie.Need-returns-3
 returns-3 c =
-    let c6 = c .before .before .before .before .before .before in
-    let c11 = c6 .before .before .before .before .before in
-    let c12 = c11 .before in
-    stands-not (c12 .pre .0) (all-of Byte (c12 .args .source .now) 0 (λ i _. omega (arith, c11 .shared-slice-known .given i))) (c12 .args .place) (c12 .pre .1)
-    (c6 .slot-of .ensures .0) (sym (c .before .holds-record .ensures) ∙ not-true _ (c .if3 .taken))
+    let after-holds-record = c .before in
+    let after-slot-of = after-holds-record .before .before .before .before .before in
+    let after-count-at = after-slot-of .before .before .before .before in
+    let start = start-from-count-at after-count-at in
+    stands-not (start .pre .0) (all-of Byte (start .args .source .now) 0 (λ i _. omega (arith, after-count-at .before .shared-slice-known .given i))) (start .args .place) (start .pre .1)
+    (after-slot-of .slot-of .ensures .0) (sym (after-holds-record .holds-record .ensures) ∙ not-true _ (c .if3 .taken))
 
 returns-4 : tie.Need-returns-4
 returns-4 c =
-    let c2 = c .before .before in
-    let c3 = c2 .before in
-    let c5 = c3 .before .before in
-    let c6 = c5 .before in
-    let c8 = c6 .before .before in
-    let c10 = c8 .before .before in
-    let c11 = c10 .before in
-    let c12 = c11 .before in
-    stands (c12 .pre .0) (all-of Byte (c12 .args .source .now) 0 (λ i _. omega (arith, c11 .shared-slice-known .given i))) (c12 .args .place) (c12 .pre .1)
-    (c6 .slot-of .ensures .0) (c5 .bits-of .ensures .0) (sym (c10 .count-at .ensures) ∙ c8 .if1 .left)
-    (sym (c3 .same .ensures) ∙ not-false _ (c2 .if2 .left)) (sym (c .before .holds-record .ensures) ∙ not-false _ (c .if3 .left))
+    let after-holds-record = c .before in
+    let else2 = after-holds-record .before in
+    let after-same = else2 .before in
+    let after-bits-of = after-same .before .before in
+    let after-slot-of = after-bits-of .before in
+    let else1 = after-slot-of .before .before in
+    let after-count-at = else1 .before .before in
+    let start = start-from-count-at after-count-at in
+    stands (start .pre .0) (all-of Byte (start .args .source .now) 0 (λ i _. omega (arith, after-count-at .before .shared-slice-known .given i))) (start .args .place) (start .pre .1)
+    (after-slot-of .slot-of .ensures .0) (after-bits-of .bits-of .ensures .0) (sym (after-count-at .count-at .ensures) ∙ else1 .if1 .left)
+    (sym (after-same .same .ensures) ∙ not-false _ (else2 .if2 .left)) (sym (after-holds-record .holds-record .ensures) ∙ not-false _ (c .if3 .left))
 
 pub stands-at-spec : {M : Type 1} → statement M
 stands-at-spec =

@@ -7,6 +7,10 @@ use borrow.Author.Needs.{needs}
 use Rattle.rescue_look.proofs.weighs.Statement.{statement}
 use Rattle.rescue_look.proofs.weighs.Tie as tie
 
+-- `A-from-B` is the state A as the later state B has it.
+abbrev start-from-child-count-at : tie.After-child-count-at → tie.Start
+start-from-child-count-at c = c .before .before
+
 child-count-at-requires : tie.Need-child-count-at-requires
 child-count-at-requires c κs = slot-within (c .before .pre .0)
 
@@ -18,25 +22,25 @@ enum-told c = search needs
 
 returns : tie.Need-returns
 returns c =
-    let c2 = c .before .before in
-    let d = c2 .before .before in
-    weighs-nothing (d .args .source .now) (d .args .i) (d .args .right) (c2 .child-count-at .ensures) (c .enum-told .given .1)
+    let after-child-count-at = c .before .before in
+    let start = start-from-child-count-at after-child-count-at in
+    weighs-nothing (start .args .source .now) (start .args .i) (start .args .right) (after-child-count-at .child-count-at .ensures) (c .enum-told .given .1)
 
 cast-result : tie.Need-cast-result
 cast-result c = search needs
 
 weight-at-requires : tie.Need-weight-at-requires
 weight-at-requires c κs =
-    let c1 = c .before in
-    let d = c1 .before .before .before .before in
-    subst (Inside (d .args .source .now)) (c1 .found .given .1) (d .pre .1)
+    let after-found = c .before in
+    let start = start-from-child-count-at (after-found .before .before) in
+    subst (Inside (start .args .source .now)) (after-found .found .given .1) (start .pre .1)
 
 returns-2 : tie.Need-returns-2
 returns-2 c =
-    let c1 = c .before .before in
-    let c3 = c1 .before .before in
-    let d = c3 .before .before in
-    weighs-found (d .args .source .now) (d .args .i) (d .args .right) (c3 .child-count-at .ensures) (c1 .found .given .1) (c .weight-at .ensures .0)
+    let after-found = c .before .before in
+    let after-child-count-at = after-found .before .before in
+    let start = start-from-child-count-at after-child-count-at in
+    weighs-found (start .args .source .now) (start .args .i) (start .args .right) (after-child-count-at .child-count-at .ensures) (after-found .found .given .1) (c .weight-at .ensures .0)
 
 pub weighs-spec : {M : Type 1} → statement M
 weighs-spec =

@@ -27,34 +27,44 @@ newer-root-requires : tie.Need-newer-root-requires Inv-slots μ-slots
 newer-root-requires c κs = best-has (c .before .slots .inv) (c .if1 .left)
 
 add-i : tie.Need-add-i Inv-slots μ-slots
-add-i c = omega (arith, c .before .before .before .slots .inv .scan .small, c .before .before .if1 .left)
+add-i c =
+    let else1 = c .before .before in
+    omega (arith, else1 .before .slots .inv .scan .small, else1 .if1 .left)
 
 slots-less : tie.Need-slots-less Inv-slots μ-slots
 slots-less c = omega (arith, c .before .before .if1 .left)
 
 slots-again : tie.Need-slots-again Inv-slots μ-slots
 slots-again c =
-    let c2 = c .before .before in
-    let c5 = c2 .before .before .before in
-    best-past (c2 .before .slots .inv) (c2 .if1 .left) (all-of Byte (c5 .before .args .source .now) 0 (λ i _. omega (arith, c5 .shared-slice-known .given i)))
-    (c .before .newer-root .ensures) (not-true _ (c .if2 .taken))
+    let after-newer-root = c .before in
+    let else1 = after-newer-root .before in
+    let at-slots = else1 .before in
+    let after-shared-slice-known = at-slots .before .before in
+    best-past (at-slots .slots .inv) (else1 .if1 .left) (all-of Byte (after-shared-slice-known .before .args .source .now) 0 (λ i _. omega (arith, after-shared-slice-known .shared-slice-known .given i)))
+    (after-newer-root .newer-root .ensures) (not-true _ (c .if2 .taken))
 
 version-at-requires : tie.Need-version-at-requires Inv-slots μ-slots
-version-at-requires c κs = slot-within (best-has (c .before .before .before .slots .inv) (c .before .before .if1 .left))
+version-at-requires c κs =
+    let else1 = c .before .before in
+    slot-within (best-has (else1 .before .slots .inv) (else1 .if1 .left))
 
 add-i-2 : tie.Need-add-i-2 Inv-slots μ-slots
-add-i-2 c = omega (arith, c .before .before .before .before .slots .inv .scan .small, c .before .before .before .if1 .left)
+add-i-2 c =
+    let else1 = c .before .before .before in
+    omega (arith, else1 .before .slots .inv .scan .small, else1 .if1 .left)
 
 slots-less-2 : tie.Need-slots-less-2 Inv-slots μ-slots
 slots-less-2 c = omega (arith, c .before .before .before .if1 .left)
 
 slots-again-2 : tie.Need-slots-again-2 Inv-slots μ-slots
 slots-again-2 c =
-    let c2 = c .before .before in
-    let c3 = c2 .before in
-    let c6 = c3 .before .before .before in
-    best-next (c3 .before .slots .inv) (c3 .if1 .left) (all-of Byte (c6 .before .args .source .now) 0 (λ i _. omega (arith, c6 .shared-slice-known .given i)))
-    (c2 .newer-root .ensures) (not-false _ (c .before .if2 .left)) (c .version-at .ensures)
+    let else2 = c .before in
+    let after-newer-root = else2 .before in
+    let else1 = after-newer-root .before in
+    let at-slots = else1 .before in
+    let after-shared-slice-known = at-slots .before .before in
+    best-next (at-slots .slots .inv) (else1 .if1 .left) (all-of Byte (after-shared-slice-known .before .args .source .now) 0 (λ i _. omega (arith, after-shared-slice-known .shared-slice-known .given i)))
+    (after-newer-root .newer-root .ensures) (not-false _ (else2 .if2 .left)) (c .version-at .ensures)
 
 returns : tie.Need-returns Inv-slots μ-slots
 returns c = best-end (c .before .slots .inv) (c .if1 .taken)

@@ -8,6 +8,10 @@ use borrow.Author.Needs.{needs}
 use Rattle.rescue_root.proofs.root_version.Statement.{statement}
 use Rattle.rescue_root.proofs.root_version.Tie as tie
 
+-- `A-from-B` is the state A as the later state B has it.
+abbrev start-from-newest-by : tie.After-newest-by → tie.Start
+start-from-newest-by c = c .before .before
+
 newest-by-requires : tie.Need-newest-by-requires
 newest-by-requires c κs = c .before .pre
 
@@ -19,59 +23,60 @@ enum-told c = search needs
 
 returns : tie.Need-returns
 returns c =
-    let e = c .before .before .before in
-    let d = e .before in
-    let s = d .args .source .now in
-    root-none s (d .args .version) (d .pre .0) (all-of Byte s 0 (λ i _. omega (arith, e .shared-slice-known .given i))) (c .before .before .newest-by .ensures) (c .enum-told .given .1)
+    let after-newest-by = c .before .before in
+    let start = start-from-newest-by after-newest-by in
+    let s = start .args .source .now in
+    root-none s (start .args .version) (start .pre .0) (all-of Byte s 0 (λ i _. omega (arith, after-newest-by .before .shared-slice-known .given i))) (after-newest-by .newest-by .ensures) (c .enum-told .given .1)
 
 retired-at-requires : tie.Need-retired-at-requires
 retired-at-requires c κs =
-    let c3 = c .before .before .before in
-    let e = c3 .before in
-    let d = e .before in
-    let s = d .args .source .now in
-    slot-within (root-has s (d .args .version) (d .pre .0) (all-of Byte s 0 (λ i _. omega (arith, e .shared-slice-known .given i))) (c3 .newest-by .ensures) (c .before .newest .given .1))
+    let after-newest = c .before in
+    let after-newest-by = after-newest .before .before in
+    let start = start-from-newest-by after-newest-by in
+    let s = start .args .source .now in
+    slot-within (root-has s (start .args .version) (start .pre .0) (all-of Byte s 0 (λ i _. omega (arith, after-newest-by .before .shared-slice-known .given i))) (after-newest-by .newest-by .ensures) (after-newest .newest .given .1))
 
 version-at-requires : tie.Need-version-at-requires
 version-at-requires c κs =
-    let c4 = c .before .before .before .before in
-    let e = c4 .before in
-    let d = e .before in
-    let s = d .args .source .now in
-    slot-within (root-has s (d .args .version) (d .pre .0) (all-of Byte s 0 (λ i _. omega (arith, e .shared-slice-known .given i))) (c4 .newest-by .ensures) (c .before .before .newest .given .1))
+    let after-newest = c .before .before in
+    let after-newest-by = after-newest .before .before in
+    let start = start-from-newest-by after-newest-by in
+    let s = start .args .source .now in
+    slot-within (root-has s (start .args .version) (start .pre .0) (all-of Byte s 0 (λ i _. omega (arith, after-newest-by .before .shared-slice-known .given i))) (after-newest-by .newest-by .ensures) (after-newest .newest .given .1))
 
 returns-2 : tie.Need-returns-2
 returns-2 c =
-    let c2 = c .before .before in
-    let c4 = c2 .before .before in
-    let c6 = c4 .before .before in
-    let e = c6 .before in
-    let d = e .before in
-    let s = d .args .source .now in
-    root-unretired s (d .args .version) (d .pre .0) (all-of Byte s 0 (λ i _. omega (arith, e .shared-slice-known .given i))) (c6 .newest-by .ensures) (c4 .newest .given .1)
-    (c .before .version-at .ensures) (c2 .retired-at .ensures) (c .if1 .taken)
+    let after-version-at = c .before in
+    let after-retired-at = after-version-at .before in
+    let after-newest = after-retired-at .before .before in
+    let after-newest-by = after-newest .before .before in
+    let start = start-from-newest-by after-newest-by in
+    let s = start .args .source .now in
+    root-unretired s (start .args .version) (start .pre .0) (all-of Byte s 0 (λ i _. omega (arith, after-newest-by .before .shared-slice-known .given i))) (after-newest-by .newest-by .ensures) (after-newest .newest .given .1)
+    (after-version-at .version-at .ensures) (after-retired-at .retired-at .ensures) (c .if1 .taken)
 
 returns-3 : tie.Need-returns-3
 returns-3 c =
-    let c3 = c .before .before .before in
-    let c5 = c3 .before .before in
-    let c7 = c5 .before .before in
-    let e = c7 .before in
-    let d = e .before in
-    let s = d .args .source .now in
-    root-retired s (d .args .version) (d .pre .0) (all-of Byte s 0 (λ i _. omega (arith, e .shared-slice-known .given i))) (c7 .newest-by .ensures) (c5 .newest .given .1)
-    (c .before .before .version-at .ensures) (c3 .retired-at .ensures) (c .before .if1 .left) (c .if2 .taken)
+    let else1 = c .before in
+    let after-version-at = else1 .before in
+    let after-retired-at = after-version-at .before in
+    let after-newest = after-retired-at .before .before in
+    let after-newest-by = after-newest .before .before in
+    let start = start-from-newest-by after-newest-by in
+    let s = start .args .source .now in
+    root-retired s (start .args .version) (start .pre .0) (all-of Byte s 0 (λ i _. omega (arith, after-newest-by .before .shared-slice-known .given i))) (after-newest-by .newest-by .ensures) (after-newest .newest .given .1)
+    (after-version-at .version-at .ensures) (after-retired-at .retired-at .ensures) (else1 .if1 .left) (c .if2 .taken)
 
 returns-4 : tie.Need-returns-4
 returns-4 c =
-    let c3 = c .before .before .before in
-    let c5 = c3 .before .before in
-    let c7 = c5 .before .before in
-    let e = c7 .before in
-    let d = e .before in
-    let s = d .args .source .now in
-    root-later s (d .args .version) (d .pre .0) (all-of Byte s 0 (λ i _. omega (arith, e .shared-slice-known .given i))) (c7 .newest-by .ensures) (c5 .newest .given .1)
-    (c .before .before .version-at .ensures) (c3 .retired-at .ensures) (c .if2 .left)
+    let after-version-at = c .before .before in
+    let after-retired-at = after-version-at .before in
+    let after-newest = after-retired-at .before .before in
+    let after-newest-by = after-newest .before .before in
+    let start = start-from-newest-by after-newest-by in
+    let s = start .args .source .now in
+    root-later s (start .args .version) (start .pre .0) (all-of Byte s 0 (λ i _. omega (arith, after-newest-by .before .shared-slice-known .given i))) (after-newest-by .newest-by .ensures) (after-newest .newest .given .1)
+    (after-version-at .version-at .ensures) (after-retired-at .retired-at .ensures) (c .if2 .left)
 
 pub root-version-spec : {M : Type 1} → statement M
 root-version-spec =

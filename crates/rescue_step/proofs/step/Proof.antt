@@ -5,14 +5,24 @@ use borrow.Author.Needs.{needs}
 use Rattle.rescue_step.proofs.step.Statement.{statement}
 use Rattle.rescue_step.proofs.step.Tie as tie
 
+-- `A-from-B` is the state A as the later state B has it.
+abbrev join-from-joined : tie.After-joined → tie.After-join
+join-from-joined c = c .before .before
+
+abbrev start-from-root-version : tie.After-root-version → tie.Start
+start-from-root-version c = c .before .before
+
+abbrev start-from-else1 : tie.Else1 → tie.Start
+start-from-else1 c = start-from-root-version (c .before)
+
 root-version-requires : tie.Need-root-version-requires
 root-version-requires c κs =
     (c .before) .pre
 
 returns : tie.Need-returns
 returns c =
-    let d = (c .before .before .before) in
-    step-rootless (d .args .source .now) (d .args .v) (d .args .next) (d .args .b) (d .args .low) ((c .before) .root-version .ensures) (c .if1 .taken)
+    let start = start-from-root-version (c .before) in
+    step-rootless (start .args .source .now) (start .args .v) (start .args .next) (start .args .b) (start .args .low) (c .before .root-version .ensures) (c .if1 .taken)
 
 top-requires : tie.Need-top-requires
 top-requires c κs =
@@ -20,7 +30,8 @@ top-requires c κs =
 
 join-requires : tie.Need-join-requires
 join-requires c κs =
-    ((c .before .before .before .before) .pre .0, c .top .ensures .proper, (c .before .before .before .before) .pre .1)
+    let start = start-from-else1 (c .before) in
+    (start .pre .0, c .top .ensures .proper, start .pre .1)
 
 enum-known-joined : tie.Need-enum-known-joined
 enum-known-joined c =
@@ -32,8 +43,11 @@ enum-told c =
 
 returns-2 : tie.Need-returns-2
 returns-2 c =
-    let d = (c .before .before .before .before .before .before .before) in
-    step-apart (d .args .source .now) (d .args .v) (d .args .next) (d .args .b) (d .args .low) ((c .before .before .before .before .before) .root-version .ensures) ((c .before .before .before .before) .if1 .left) ((c .before .before .before) .top .ensures) ((c .before .before) .join .result) ((c .before .before) .join .ensures)
+    let after-join = c .before .before in
+    let after-top = after-join .before in
+    let else1 = after-top .before in
+    let start = start-from-else1 else1 in
+    step-apart (start .args .source .now) (start .args .v) (start .args .next) (start .args .b) (start .args .low) (else1 .before .root-version .ensures) (else1 .if1 .left) (after-top .top .ensures) (after-join .join .result) (after-join .join .ensures)
     (c .enum-told .given .1)
 
 later-requires : tie.Need-later-requires
@@ -42,15 +56,25 @@ later-requires c κs =
 
 returns-3 : tie.Need-returns-3
 returns-3 c =
-    let d = (c .before .before .before .before .before .before .before .before .before .before) in
-    step-above (d .args .source .now) (d .args .v) (d .args .next) (d .args .b) (d .args .low) ((c .before .before .before .before .before .before .before .before) .root-version .ensures) ((c .before .before .before .before .before .before .before) .if1 .left) ((c .before .before .before .before .before .before) .top .ensures) ((c .before .before .before .before .before) .join .result) ((c .before .before .before .before .before) .join .ensures)
-    ((c .before .before .before) .joined .given .1) ((c .before) .later .ensures) (c .if2 .taken)
+    let after-later = c .before in
+    let after-joined = after-later .before .before in
+    let after-join = join-from-joined after-joined in
+    let after-top = after-join .before in
+    let else1 = after-top .before in
+    let start = start-from-else1 else1 in
+    step-above (start .args .source .now) (start .args .v) (start .args .next) (start .args .b) (start .args .low) (else1 .before .root-version .ensures) (else1 .if1 .left) (after-top .top .ensures) (after-join .join .result) (after-join .join .ensures)
+    (after-joined .joined .given .1) (after-later .later .ensures) (c .if2 .taken)
 
 returns-4 : tie.Need-returns-4
 returns-4 c =
-    let d = (c .before .before .before .before .before .before .before .before .before .before) in
-    step-joins (d .args .source .now) (d .args .v) (d .args .next) (d .args .b) (d .args .low) ((c .before .before .before .before .before .before .before .before) .root-version .ensures) ((c .before .before .before .before .before .before .before) .if1 .left) ((c .before .before .before .before .before .before) .top .ensures) ((c .before .before .before .before .before) .join .result) ((c .before .before .before .before .before) .join .ensures)
-    ((c .before .before .before) .joined .given .1) ((c .before) .later .ensures) (c .if2 .left)
+    let after-later = c .before in
+    let after-joined = after-later .before .before in
+    let after-join = join-from-joined after-joined in
+    let after-top = after-join .before in
+    let else1 = after-top .before in
+    let start = start-from-else1 else1 in
+    step-joins (start .args .source .now) (start .args .v) (start .args .next) (start .args .b) (start .args .low) (else1 .before .root-version .ensures) (else1 .if1 .left) (after-top .top .ensures) (after-join .join .result) (after-join .join .ensures)
+    (after-joined .joined .given .1) (after-later .later .ensures) (c .if2 .left)
 
 pub step-spec : {M : Type 1} → statement M
 step-spec =

@@ -17,14 +17,19 @@ abbrev μ-loop : tie.MeasureT-loop
 μ-loop store version place n i₀ i = n - i
 
 -- `A-from-B` is the state A as the later state B has it.
+abbrev start-from-slot-count : tie.After-slot-count Inv-loop μ-loop → tie.Start Inv-loop μ-loop
+start-from-slot-count c = c .before .before
+
 abbrev start-from-in-loop : tie.In-loop Inv-loop μ-loop → tie.Start Inv-loop μ-loop
-start-from-in-loop c = c .before .before .before .before
+start-from-in-loop c = start-from-slot-count (c .before .before)
 
 slot-count-requires : tie.Need-slot-count-requires Inv-loop μ-loop
 slot-count-requires c κs = c .before .pre .0
 
 loop-holds : tie.Need-loop-holds Inv-loop μ-loop
-loop-holds c = let a = c .before .before in spoilt-start (agrees (a .args .version) (placeOf (a .args .place))) (a .args .store .now) (a .pre .0) (c .slot-count .ensures)
+loop-holds c =
+    let start = start-from-slot-count c in
+    spoilt-start (agrees (start .args .version) (placeOf (start .args .place))) (start .args .store .now) (start .pre .0) (c .slot-count .ensures)
 
 node-spoilt-requires : tie.Need-node-spoilt-requires Inv-loop μ-loop
 node-spoilt-requires c κs = (scan-slot (c .before .loop .inv) (c .loop-test .taken), start-from-in-loop c .pre .1)
@@ -50,7 +55,9 @@ loop-again c =
     spoilt-next (agrees (start .args .version) (placeOf (start .args .place))) (in-loop .before .loop .inv) (in-loop .loop-test .taken) (sym (after-node-spoilt .node-spoilt .ensures) ∙ c .if1 .left)
 
 returns-2 : tie.Need-returns-2 Inv-loop μ-loop
-returns-2 c = let a = c .before .before .before .before in spoilt-nowhere (agrees (a .args .version) (placeOf (a .args .place))) (c .before .loop .inv) (c .loop-test .left)
+returns-2 c =
+    let start = start-from-slot-count (c .before .before) in
+    spoilt-nowhere (agrees (start .args .version) (placeOf (start .args .place))) (c .before .loop .inv) (c .loop-test .left)
 
 pub find-spoilt-spec : {M : Type 1} → statement M
 find-spoilt-spec =

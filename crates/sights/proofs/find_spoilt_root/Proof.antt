@@ -16,14 +16,19 @@ abbrev μ-loop : tie.MeasureT-loop
 μ-loop store version n j₀ j = n - j
 
 -- `A-from-B` is the state A as the later state B has it.
-abbrev start-from-in-loop : tie.In-loop Inv-loop μ-loop → tie.Start Inv-loop μ-loop
-start-from-in-loop c = c .before .before .before .before
+abbrev start-from-slot-count : tie.After-slot-count Inv-loop μ-loop → tie.Start Inv-loop μ-loop
+start-from-slot-count c = c .before .before
+
+abbrev start-from-at-loop : tie.At-loop Inv-loop μ-loop → tie.Start Inv-loop μ-loop
+start-from-at-loop c = start-from-slot-count (c .before)
 
 slot-count-requires : tie.Need-slot-count-requires Inv-loop μ-loop
 slot-count-requires c κs = c .before .pre
 
 loop-holds : tie.Need-loop-holds Inv-loop μ-loop
-loop-holds c = let a = c .before .before in spoilt-start (agreesRoot (a .args .version)) (a .args .store .now) (a .pre) (c .slot-count .ensures)
+loop-holds c =
+    let start = start-from-slot-count c in
+    spoilt-start (agreesRoot (start .args .version)) (start .args .store .now) (start .pre) (c .slot-count .ensures)
 
 root-spoilt-requires : tie.Need-root-spoilt-requires Inv-loop μ-loop
 root-spoilt-requires c κs = scan-slot (c .before .loop .inv) (c .loop-test .taken)
@@ -32,7 +37,8 @@ returns : tie.Need-returns Inv-loop μ-loop
 returns c =
     let after-root-spoilt = c .before in
     let in-loop = after-root-spoilt .before in
-    spoilt-found (agreesRoot (start-from-in-loop in-loop .args .version)) (in-loop .before .loop .inv) (in-loop .loop-test .taken) (sym (after-root-spoilt .root-spoilt .ensures) ∙ c .if1 .taken)
+    let at-loop = in-loop .before in
+    spoilt-found (agreesRoot (start-from-at-loop at-loop .args .version)) (at-loop .loop .inv) (in-loop .loop-test .taken) (sym (after-root-spoilt .root-spoilt .ensures) ∙ c .if1 .taken)
 
 add-j : tie.Need-add-j Inv-loop μ-loop
 add-j c = omega (arith, c .before .before .before .loop .inv .small)
@@ -44,10 +50,11 @@ loop-again : tie.Need-loop-again Inv-loop μ-loop
 loop-again c =
     let after-root-spoilt = c .before in
     let in-loop = after-root-spoilt .before in
-    spoilt-next (agreesRoot (start-from-in-loop in-loop .args .version)) (in-loop .before .loop .inv) (in-loop .loop-test .taken) (sym (after-root-spoilt .root-spoilt .ensures) ∙ c .if1 .left)
+    let at-loop = in-loop .before in
+    spoilt-next (agreesRoot (start-from-at-loop at-loop .args .version)) (at-loop .loop .inv) (in-loop .loop-test .taken) (sym (after-root-spoilt .root-spoilt .ensures) ∙ c .if1 .left)
 
 returns-2 : tie.Need-returns-2 Inv-loop μ-loop
-returns-2 c = let a = c .before .before .before .before in spoilt-nowhere (agreesRoot (a .args .version)) (c .before .loop .inv) (c .loop-test .left)
+returns-2 c = spoilt-nowhere (agreesRoot (start-from-at-loop (c .before) .args .version)) (c .before .loop .inv) (c .loop-test .left)
 
 pub find-spoilt-root-spec : {M : Type 1} → statement M
 find-spoilt-root-spec =

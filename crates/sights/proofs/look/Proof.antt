@@ -15,15 +15,15 @@ enum-known-found : tie.Need-enum-known-found
 enum-known-found c = search needs
 
 -- `A-from-B` is the state A as the later state B has it.
-abbrev start-from-enum-told : tie.After-enum-told → tie.Start
-start-from-enum-told c = c .before .before .before .before
+abbrev start-from-find : tie.After-find → tie.Start
+start-from-find c = c .before .before
 
 returns : tie.Need-returns
 unfolding nodeSight
 returns c =
     let after-found = c .before in
     let after-find = after-found .before .before in
-    let start = after-find .before .before in
+    let start = start-from-find after-find in
     let st = storeOf (start .args .store .now) in
     matched (st .slots) (find (start .args .version) (placeOf (start .args .place)) (st .slots)) (agrees (start .args .version) (placeOf (start .args .place))) (after-find .find .ensures) (after-found .found .given .1)
 
@@ -42,9 +42,10 @@ returns-2 c =
     let after-spoilt = c .before in
     let after-find-spoilt = after-spoilt .before .before in
     let after-enum-told = after-find-spoilt .before in
-    let start = start-from-enum-told after-enum-told in
+    let after-find = after-enum-told .before .before in
+    let start = start-from-find after-find in
     let st = storeOf (start .args .store .now) in
-    spoilt-sighted (st .slots) (find (start .args .version) (placeOf (start .args .place)) (st .slots)) (agrees (start .args .version) (placeOf (start .args .place))) (after-enum-told .before .before .find .ensures) (after-enum-told .enum-told .given .1) (after-find-spoilt .find-spoilt .ensures) (after-spoilt .spoilt .given .1)
+    spoilt-sighted (st .slots) (find (start .args .version) (placeOf (start .args .place)) (st .slots)) (agrees (start .args .version) (placeOf (start .args .place))) (after-find .find .ensures) (after-enum-told .enum-told .given .1) (after-find-spoilt .find-spoilt .ensures) (after-spoilt .spoilt .given .1)
 
 enum-told-2 : tie.Need-enum-told-2
 enum-told-2 c = search needs
@@ -54,9 +55,10 @@ unfolding nodeSight
 returns-3 c =
     let after-find-spoilt = c .before .before in
     let after-enum-told = after-find-spoilt .before in
-    let start = start-from-enum-told after-enum-told in
+    let after-find = after-enum-told .before .before in
+    let start = start-from-find after-find in
     let st = storeOf (start .args .store .now) in
-    nothing-sighted (st .slots) (find (start .args .version) (placeOf (start .args .place)) (st .slots)) (agrees (start .args .version) (placeOf (start .args .place))) (after-enum-told .before .before .find .ensures) (after-enum-told .enum-told .given .1) (after-find-spoilt .find-spoilt .ensures) (c .enum-told2 .given .1)
+    nothing-sighted (st .slots) (find (start .args .version) (placeOf (start .args .place)) (st .slots)) (agrees (start .args .version) (placeOf (start .args .place))) (after-find .find .ensures) (after-enum-told .enum-told .given .1) (after-find-spoilt .find-spoilt .ensures) (c .enum-told2 .given .1)
 
 pub look-spec : {M : Type 1} → statement M
 look-spec =

@@ -15,15 +15,15 @@ enum-known-found : tie.Need-enum-known-found
 enum-known-found c = search needs
 
 -- `A-from-B` is the state A as the later state B has it.
-abbrev start-from-enum-told : tie.After-enum-told → tie.Start
-start-from-enum-told c = c .before .before .before .before
+abbrev start-from-find-root : tie.After-find-root → tie.Start
+start-from-find-root c = c .before .before
 
 returns : tie.Need-returns
 unfolding rootSight
 returns c =
     let after-found = c .before in
     let after-find-root = after-found .before .before in
-    let start = after-find-root .before .before in
+    let start = start-from-find-root after-find-root in
     let st = storeOf (start .args .store .now) in
     matched (st .slots) (rootOf st (start .args .version)) (agreesRoot (start .args .version)) (after-find-root .find-root .ensures) (after-found .found .given .1)
 
@@ -42,9 +42,10 @@ returns-2 c =
     let after-spoilt = c .before in
     let after-find-spoilt-root = after-spoilt .before .before in
     let after-enum-told = after-find-spoilt-root .before in
-    let start = start-from-enum-told after-enum-told in
+    let after-find-root = after-enum-told .before .before in
+    let start = start-from-find-root after-find-root in
     let st = storeOf (start .args .store .now) in
-    spoilt-sighted (st .slots) (rootOf st (start .args .version)) (agreesRoot (start .args .version)) (after-enum-told .before .before .find-root .ensures) (after-enum-told .enum-told .given .1) (after-find-spoilt-root .find-spoilt-root .ensures) (after-spoilt .spoilt .given .1)
+    spoilt-sighted (st .slots) (rootOf st (start .args .version)) (agreesRoot (start .args .version)) (after-find-root .find-root .ensures) (after-enum-told .enum-told .given .1) (after-find-spoilt-root .find-spoilt-root .ensures) (after-spoilt .spoilt .given .1)
 
 enum-told-2 : tie.Need-enum-told-2
 enum-told-2 c = search needs
@@ -54,9 +55,10 @@ unfolding rootSight
 returns-3 c =
     let after-find-spoilt-root = c .before .before in
     let after-enum-told = after-find-spoilt-root .before in
-    let start = start-from-enum-told after-enum-told in
+    let after-find-root = after-enum-told .before .before in
+    let start = start-from-find-root after-find-root in
     let st = storeOf (start .args .store .now) in
-    nothing-sighted (st .slots) (rootOf st (start .args .version)) (agreesRoot (start .args .version)) (after-enum-told .before .before .find-root .ensures) (after-enum-told .enum-told .given .1) (after-find-spoilt-root .find-spoilt-root .ensures) (c .enum-told2 .given .1)
+    nothing-sighted (st .slots) (rootOf st (start .args .version)) (agreesRoot (start .args .version)) (after-find-root .find-root .ensures) (after-enum-told .enum-told .given .1) (after-find-spoilt-root .find-spoilt-root .ensures) (c .enum-told2 .given .1)
 
 pub look-root-spec : {M : Type 1} → statement M
 look-root-spec =

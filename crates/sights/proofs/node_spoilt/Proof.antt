@@ -16,28 +16,35 @@ use Rattle.sights.proofs.node_spoilt.Tie as tie
 abbrev start-from-count-at : tie.After-count-at → tie.Start
 start-from-count-at c = c .before .before .before .before .before
 
+abbrev start-from-version-at : tie.After-version-at → tie.Start
+start-from-version-at c = c .before .before
+
+abbrev start-from-else1 : tie.Else1 → tie.Start
+start-from-else1 c = start-from-version-at (c .before)
+
 version-at-requires : tie.Need-version-at-requires
 version-at-requires c κs = slot-within (c .before .pre .0)
 
 returns : tie.Need-returns
 returns c =
-    let start = c .before .before .before in
+    let start = start-from-version-at (c .before) in
     apart (start .pre .0) (agrees (start .args .version) (placeOf (start .args .place)))
     (other-version (start .args .version) (start .args .place) (start .pre .1) _ (λ e. c .if1 .taken (c .before .version-at .ensures ∙ e)))
 
 count-at-requires : tie.Need-count-at-requires
-count-at-requires c κs = slot-within (c .before .before .before .before .pre .0)
+count-at-requires c κs = slot-within (start-from-else1 (c .before) .pre .0)
 
 cast-if2 : tie.Need-cast-if2
 cast-if2 c = search needs
 
 returns-2 : tie.Need-returns-2
 returns-2 c =
-    let version = c .before .before .before in
-    let start = version .before .before .before in
+    let after-count-at = c .before in
+    let else1 = after-count-at .before .before in
+    let start = start-from-else1 else1 in
     apart (start .pre .0) (agrees (start .args .version) (placeOf (start .args .place)))
-    (other-count (start .args .version) (start .args .place) (start .pre .1) _ (sym (version .before .version-at .ensures) ∙ version .if1 .left)
-    (λ e. c .if2 .taken (c .before .count-at .ensures ∙ e)))
+    (other-count (start .args .version) (start .args .place) (start .pre .1) _ (sym (else1 .before .version-at .ensures) ∙ else1 .if1 .left)
+    (λ e. c .if2 .taken (after-count-at .count-at .ensures ∙ e)))
 
 slot-of-requires : tie.Need-slot-of-requires
 slot-of-requires c κs = slot-within (start-from-count-at (c .before) .pre .0)
@@ -58,9 +65,10 @@ returns-3 c =
     let after-slot-of = after-bits-of .before in
     let else2 = after-slot-of .before in
     let after-count-at = else2 .before in
-    let start = start-from-count-at after-count-at in
+    let else1 = after-count-at .before .before in
+    let start = start-from-else1 else1 in
     apart (start .pre .0) (agrees (start .args .version) (placeOf (start .args .place)))
-    (by-bits (start .args .version) (start .args .place) (start .pre .1) _ (sym (after-count-at .before .before .before .version-at .ensures) ∙ after-count-at .before .before .if1 .left)
+    (by-bits (start .args .version) (start .args .place) (start .pre .1) _ (sym (else1 .before .version-at .ensures) ∙ else1 .if1 .left)
     (sym (after-count-at .count-at .ensures) ∙ else2 .if2 .left)
     (after-same .same .ensures ∙ ap (λ y. sameBytes y (start .args .place .bits)) (after-bits-of .bits-of .ensures .0 ∙ ap bitsIn (after-slot-of .slot-of .ensures .0)))
     ∙ not-true _ (c .if3 .taken))
@@ -76,11 +84,12 @@ returns-4 c =
     let after-slot-of = after-bits-of .before in
     let else2 = after-slot-of .before in
     let after-count-at = else2 .before in
-    let start = start-from-count-at after-count-at in
+    let else1 = after-count-at .before .before in
+    let start = start-from-else1 else1 in
     c .is-spoilt .ensures
     ∙ ap (λ y. isSpoilt (slotOf y)) (after-slot-of .slot-of .ensures .0)
     ∙ agreed (start .pre .0) (agrees (start .args .version) (placeOf (start .args .place)))
-    (by-bits (start .args .version) (start .args .place) (start .pre .1) _ (sym (after-count-at .before .before .before .version-at .ensures) ∙ after-count-at .before .before .if1 .left)
+    (by-bits (start .args .version) (start .args .place) (start .pre .1) _ (sym (else1 .before .version-at .ensures) ∙ else1 .if1 .left)
     (sym (after-count-at .count-at .ensures) ∙ else2 .if2 .left)
     (after-same .same .ensures ∙ ap (λ y. sameBytes y (start .args .place .bits)) (after-bits-of .bits-of .ensures .0 ∙ ap bitsIn (after-slot-of .slot-of .ensures .0)))
     ∙ not-false _ (else3 .if3 .left))

@@ -20,16 +20,22 @@ start-from-version-at c = c .before .before .before .before
 abbrev start-from-covers : tie.After-covers → tie.Start
 start-from-covers c = start-from-version-at (c .before .before)
 
+abbrev start-from-count-at : tie.After-count-at → tie.Start
+start-from-count-at c = c .before .before
+
+abbrev start-from-else1 : tie.Else1 → tie.Start
+start-from-else1 c = start-from-count-at (c .before)
+
 count-at-requires : tie.Need-count-at-requires
 count-at-requires c κs = slot-within (c .before .pre)
 
 returns : tie.Need-returns
 returns c =
-    let start = c .before .before .before in
+    let start = start-from-count-at (c .before) in
     apart (start .pre) (agreesRoot (start .args .version)) (below-root (start .args .version) _ (λ e. c .if1 .taken (c .before .count-at .ensures ∙ e)))
 
 version-at-requires : tie.Need-version-at-requires
-version-at-requires c κs = slot-within (c .before .before .before .pre)
+version-at-requires c κs = slot-within (start-from-else1 c .pre)
 
 retired-at-requires : tie.Need-retired-at-requires
 retired-at-requires c κs = slot-within (start-from-version-at c .pre)
@@ -42,9 +48,10 @@ returns-2 c =
     let after-covers = c .before in
     let after-retired-at = after-covers .before in
     let after-version-at = after-retired-at .before in
-    let start = start-from-version-at after-version-at in
+    let else1 = after-version-at .before in
+    let start = start-from-else1 else1 in
     apart (start .pre) (agreesRoot (start .args .version))
-    (elsewhen (start .args .version) _ (sym (after-version-at .before .before .count-at .ensures) ∙ after-version-at .before .if1 .left)
+    (elsewhen (start .args .version) _ (sym (else1 .before .count-at .ensures) ∙ else1 .if1 .left)
     (sym (after-covers .covers .ensures ∙ ap₂ (λ a b. covers a b (start .args .version)) (after-version-at .version-at .ensures) (after-retired-at .retired-at .ensures))
     ∙ not-true _ (c .if2 .taken)))
 
@@ -66,9 +73,10 @@ returns-3 c =
     let after-covers = else2 .before in
     let after-retired-at = after-covers .before in
     let after-version-at = after-retired-at .before in
-    let start = start-from-version-at after-version-at in
+    let else1 = after-version-at .before in
+    let start = start-from-else1 else1 in
     apart (start .pre) (agreesRoot (start .args .version))
-    (by-zeros (start .args .version) _ (sym (after-version-at .before .before .count-at .ensures) ∙ after-version-at .before .if1 .left)
+    (by-zeros (start .args .version) _ (sym (else1 .before .count-at .ensures) ∙ else1 .if1 .left)
     (sym (after-covers .covers .ensures ∙ ap₂ (λ a b. covers a b (start .args .version)) (after-version-at .version-at .ensures) (after-retired-at .retired-at .ensures))
     ∙ not-false _ (else2 .if2 .left))
     (after-all-zero .all-zero .ensures ∙ ap allZero (after-bits-of .bits-of .ensures .0 ∙ ap bitsIn (after-slot-of .slot-of .ensures .0)))
@@ -87,11 +95,12 @@ returns-4 c =
     let after-covers = else2 .before in
     let after-retired-at = after-covers .before in
     let after-version-at = after-retired-at .before in
-    let start = start-from-version-at after-version-at in
+    let else1 = after-version-at .before in
+    let start = start-from-else1 else1 in
     c .is-spoilt .ensures
     ∙ ap (λ y. isSpoilt (slotOf y)) (after-slot-of .slot-of .ensures .0)
     ∙ agreed (start .pre) (agreesRoot (start .args .version))
-    (by-zeros (start .args .version) _ (sym (after-version-at .before .before .count-at .ensures) ∙ after-version-at .before .if1 .left)
+    (by-zeros (start .args .version) _ (sym (else1 .before .count-at .ensures) ∙ else1 .if1 .left)
     (sym (after-covers .covers .ensures ∙ ap₂ (λ a b. covers a b (start .args .version)) (after-version-at .version-at .ensures) (after-retired-at .retired-at .ensures))
     ∙ not-false _ (else2 .if2 .left))
     (after-all-zero .all-zero .ensures ∙ ap allZero (after-bits-of .bits-of .ensures .0 ∙ ap bitsIn (after-slot-of .slot-of .ensures .0)))

@@ -17,6 +17,10 @@ use Rattle.slots.proofs.head_right.Tie as tie
 get-u32-requires : tie.Need-get-u32-requires
 get-u32-requires c κs = search needs
 
+-- `A-from-B` is the state A as the later state B has it.
+abbrev start-from-get-u16 : tie.After-get-u16 → tie.Start
+start-from-get-u16 c = c .before .before .before .before
+
 returns : tie.Need-returns
 returns c = sym (test-failed _ (ne-eqb _ _ (λ e. c .if1 .taken (c .before .get-u32 .ensures ∙ e))))
 
@@ -46,7 +50,7 @@ after2 c = after1 (c .before .before) ∙ test-passed _ (eq-eqb _ _ (sym (c .bef
 
 returns-3 : tie.Need-returns-3
 unfolding countIn
-returns-3 c = sym (after2 (c .before .before) ∙ test-failed _ (lt-leb (field 6 2 (bytes1 (c .before .before .before .before))) (c .before .before .before .before .before .before .before .args .limit) (omega arith)))
+returns-3 c = sym (after2 (c .before .before) ∙ test-failed _ (lt-leb (field 6 2 (bytes1 (c .before .before .before .before))) (start-from-get-u16 (c .before .before .before) .args .limit) (omega arith)))
 
 sub-unused-zero : tie.Need-sub-unused-zero
 sub-unused-zero c = search needs

@@ -43,11 +43,13 @@ get-u32-requires-2 c κs = search needs
 returns : tie.Need-returns
 unfolding recordSays recordIn placeIn countIn slice
 returns c =
-    let p = c .before .before .place-at .ensures in
-    let n = c .before .before .before .before .get-u16 .ensures in
+    let after-get-u32 = c .before in
+    let after-place-at = after-get-u32 .before in
+    let p = after-place-at .place-at .ensures in
+    let n = after-place-at .before .before .get-u16 .ensures in
     record {
       made = record { kind = refl; proper = p .proper };
-      says = λ b. rw (p .place, n, c .before .get-u32 .ensures, c .get-u322 .ensures);
+      says = λ b. rw (p .place, n, after-get-u32 .get-u32 .ensures, c .get-u322 .ensures);
     }
 
 pub held-spec : {M : Type 1} → statement M

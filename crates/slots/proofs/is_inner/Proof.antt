@@ -29,6 +29,10 @@ headed c =
     let x = c .before .before .before .args .s .now in
     ap (λ k. allOf (headTests (length x) k 255 x)) (sym (c .before .inner-kind .ensures)) ∙ sym (c .head-right .ensures)
 
+-- `A-from-B` is the state A as the later state B has it.
+abbrev else3-from-get-u322 : tie.After-get-u322 → tie.Else3
+else3-from-get-u322 c = c .before .before .before
+
 returns : tie.Need-returns
 unfolding isInner
 returns c = sym (test-failed _ (headed (c .before) ∙ not-true _ (c .if1 .taken)))
@@ -75,9 +79,8 @@ get-u32-requires-2 : tie.Need-get-u32-requires-2
 get-u32-requires-2 c κs = search needs
 
 returns-5 : tie.Need-returns-5
-returns-5 c =
-    let s = bytes3 (c .before .before .before) in
-    ap (leb 1) (c .get-u322 .ensures) ∙ sym (after3 (c .before .before .before) ∙ rw (lt-leb 1 (field 48 4 s) (omega arith)))
+returns-5 c = let s = bytes3 (else3-from-get-u322 c) in
+    ap (leb 1) (c .get-u322 .ensures) ∙ sym (after3 (else3-from-get-u322 c) ∙ rw (lt-leb 1 (field 48 4 s) (omega arith)))
 
 pub is-inner-spec : {M : Type 1} → statement M
 is-inner-spec =

@@ -30,7 +30,8 @@ all-zero-requires c κs = search needs
 returns-2 : tie.Need-returns-2
 unfolding isLeaf headRight leafIn slice
 returns-2 c =
-    c .all-zero .ensures ∙ sym (test-passed _ (sym (c .before .before .before .head-right .ensures) ∙ not-false _ (c .before .before .if1 .left)) ∙ test-last _)
+    let else1 = c .before .before in
+    c .all-zero .ensures ∙ sym (test-passed _ (sym (else1 .before .head-right .ensures) ∙ not-false _ (else1 .if1 .left)) ∙ test-last _)
 
 pub is-leaf-spec : {M : Type 1} → statement M
 is-leaf-spec =

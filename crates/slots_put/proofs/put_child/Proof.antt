@@ -33,10 +33,11 @@ same-length c = search needs
 returns : tie.Need-returns
 unfolding childSays
 returns c =
-    let put = c .before .before .before .before .before .before in
-    let start = put .before .before .before in
+    let after-put-hash = c .before .before in
+    let after-put-u32 = after-put-hash .before .before .before .before in
+    let start = after-put-u32 .before .before .before in
     let a = start .args in
-    child-put (a .at) (childSays (a .c)) (a .s .now) (start .pre) (hash-whole (a .c .hash) .0) (put .put-u32 .ensures) (c .before .before .put-hash .ensures)
+    child-put (a .at) (childSays (a .c)) (a .s .now) (start .pre) (hash-whole (a .c .hash) .0) (after-put-u32 .put-u32 .ensures) (after-put-hash .put-hash .ensures)
 
 pub put-child-spec : {M : Type 1} → statement M
 put-child-spec =

@@ -32,10 +32,17 @@ part-copy-end c = search needs
 slice-aggregate-copy : tie.Need-slice-aggregate-copy
 slice-aggregate-copy c = search needs
 
+-- `A-from-B` is the state A as the later state B has it.
+abbrev start-from-put-u32-arg : tie.After-put-u32-arg → tie.Start
+start-from-put-u32-arg c = c .before .before .before .before
+
+abbrev start-from-put-u16 : tie.After-put-u16 → tie.Start
+start-from-put-u16 c = start-from-put-u32-arg (c .before .before .before .before .before)
+
 copy-requires : tie.Need-copy-requires
 copy-requires c κs =
-    let put = c .before .before .before .before in
-    let start = put .before .before .before .before .before .before .before .before .before .before .before .before .before in
+    let after-put-u162 = c .before .before .before .before in
+    let start = start-from-put-u16 (after-put-u162 .before .before .before .before) in
     proper-whole (start .args .place) (start .pre .1) ∙ simp (length-take, length-drop) (omega arith)
 
 put-u32-requires-2 : tie.Need-put-u32-requires-2
@@ -49,17 +56,16 @@ same-length c = search needs
 
 returns : tie.Need-returns
 returns c =
-    let c6 = c .before .before in
-    let c5 = c6 .before .before .before .before in
-    let c4 = c5 .before .before .before .before in
-    let c3 = c4 .before .before .before .before .before in
-    let c2 = c3 .before .before .before .before in
-    let c1 = c2 .before .before .before .before in
-    let start = c1 .before .before .before .before .before in
+    let after-put-u323 = c .before .before in
+    let after-put-u322 = after-put-u323 .before .before .before .before in
+    let after-copy = after-put-u322 .before .before .before .before in
+    let after-put-u162 = after-copy .before .before .before .before .before in
+    let after-put-u16 = after-put-u162 .before .before .before .before in
+    let start = start-from-put-u16 after-put-u16 in
     let a = start .args in
     let p = start .pre .1 in
-    head-put (a .len) (a .kind) _ (a .version) (a .retired) (a .s .now) (start .pre .0 .0) (sym (proper-count (a .place) p)) (c4 .copy .ensures ∙ p .trimmed)
-    (c1 .put-u32 .ensures) (c2 .put-u16 .ensures) (c3 .put-u162 .ensures) (c5 .put-u322 .ensures) (c6 .put-u323 .ensures)
+    head-put (a .len) (a .kind) _ (a .version) (a .retired) (a .s .now) (start .pre .0 .0) (sym (proper-count (a .place) p)) (after-copy .copy .ensures ∙ p .trimmed)
+    (after-put-u16 .before .before .before .before .put-u32 .ensures) (after-put-u16 .put-u16 .ensures) (after-put-u162 .put-u162 .ensures) (after-put-u322 .put-u322 .ensures) (after-put-u323 .put-u323 .ensures)
 
 pub put-head-spec : {M : Type 1} → statement M
 put-head-spec =

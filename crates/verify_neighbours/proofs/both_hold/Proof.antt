@@ -23,6 +23,9 @@ start-from-else1 c = c .before .before .before .before .before
 abbrev start-from-get-u16 : tie.After-get-u16 → tie.Start
 start-from-get-u16 c = start-from-else1 (c .before .before .before)
 
+abbrev start-from-else2 : tie.Else2 → tie.Start
+start-from-else2 c = start-from-else1 (c .before .before)
+
 returns : tie.Need-returns
 returns c = rw (sym (c .before .neighbour-holds .ensures) ∙ not-true _ (c .if1 .taken))
 
@@ -39,7 +42,7 @@ returns-2 c =
 
 get-u16-requires : tie.Need-get-u16-requires
 get-u16-requires c κs =
-    let start = c .before .before .before .before .before .before .before in
+    let start = start-from-else2 c in
     let w = presence-whole (start .args .l .now) (start .pre .0) in omega arith
 
 cast-m : tie.Need-cast-m

@@ -20,14 +20,26 @@ head c = absence-head (c .args .proof .now) (c .pre)
 abbrev start-from-then1 : tie.Then1 → tie.Start
 start-from-then1 c = c .before .before .before
 
+abbrev get-u32-from-leads-to2 : tie.After-leads-to2 → tie.After-get-u32
+get-u32-from-leads-to2 c = c .before .before
+
+abbrev else1-from-leads-to-arg2 : tie.After-leads-to-arg2 → tie.Else1
+else1-from-leads-to-arg2 c = c .before .before
+
+abbrev else1-from-else2 : tie.Else2 → tie.Else1
+else1-from-else2 c = else1-from-leads-to-arg2 (c .before .before)
+
+abbrev start-from-else1 : tie.Else1 → tie.Start
+start-from-else1 c = c .before .before .before
+
 get-u16-requires : tie.Need-get-u16-requires
 get-u16-requires c κs = let w = head (c .before) in omega arith
 
 sub-leads-to : tie.Need-sub-leads-to
-sub-leads-to c = let w = head (c .before .before .before) in omega arith
+sub-leads-to c = let w = head (start-from-then1 c) in omega arith
 
 part-leads-to-start : tie.Need-part-leads-to-start
-part-leads-to-start c = let w = head (c .before .before .before) in omega arith
+part-leads-to-start c = let w = head (start-from-then1 c) in omega arith
 
 part-leads-to-end : tie.Need-part-leads-to-end
 part-leads-to-end c = search needs
@@ -83,19 +95,19 @@ part-leads-to-end-2 c = let m = room (c .before) in omega arith
 leads-to-requires-2 : tie.Need-leads-to-requires-2
 unfolding leftLength
 leads-to-requires-2 c κs =
-    let o = c .before .before in
-    let s = o .before .before .before in
-    ap isPresence (left-part _ (s .args .proof .now) (c .before .get-u32 .ensures)) ∙ left-there (s .args .proof .now) (s .pre) (two-flagged o)
+    let else1 = else1-from-leads-to-arg2 c in
+    let start = start-from-else1 else1 in
+    ap isPresence (left-part _ (start .args .proof .now) (c .before .get-u32 .ensures)) ∙ left-there (start .args .proof .now) (start .pre) (two-flagged else1)
 
 returns-2 : tie.Need-returns-2
 unfolding leftLength
 returns-2 c =
-    let u = c .before .before .before in
-    let o = u .before in
-    let s = o .before .before .before in
-    let x = s .args .proof .now in
-    let two = two-flagged o in
-    let l = sym (not-true _ (c .if2 .taken)) ∙ c .before .leads-to2 .ensures ∙ ap (leads (hashBytes (s .args .root))) (left-part _ x (u .get-u32 .ensures)) in
+    let after-leads-to2 = c .before in
+    let else1 = else1-from-leads-to-arg2 (after-leads-to2 .before) in
+    let start = start-from-else1 else1 in
+    let x = start .args .proof .now in
+    let two = two-flagged else1 in
+    let l = sym (not-true _ (c .if2 .taken)) ∙ after-leads-to2 .leads-to2 .ensures ∙ ap (leads (hashBytes (start .args .root))) (left-part _ x (get-u32-from-leads-to2 after-leads-to2 .get-u32 .ensures)) in
     record {
       lone = λ k. absurd (omega (arith, two, k));
       leftward = λ k. l;
@@ -104,11 +116,11 @@ returns-2 c =
 
 sub-leads-to-3 : tie.Need-sub-leads-to-3
 unfolding leftLength
-sub-leads-to-3 c = let m = room (c .before .before .before .before) in omega arith
+sub-leads-to-3 c = let m = room (else1-from-else2 c) in omega arith
 
 part-leads-to-start-3 : tie.Need-part-leads-to-start-3
 unfolding leftLength
-part-leads-to-start-3 c = let m = room (c .before .before .before .before) in omega arith
+part-leads-to-start-3 c = let m = room (else1-from-else2 c) in omega arith
 
 part-leads-to-end-3 : tie.Need-part-leads-to-end-3
 part-leads-to-end-3 c = search needs
@@ -116,25 +128,25 @@ part-leads-to-end-3 c = search needs
 leads-to-requires-3 : tie.Need-leads-to-requires-3
 unfolding leftLength
 leads-to-requires-3 c κs =
-    let u = c .before .before .before .before in
-    let o = u .before in
-    let s = o .before .before .before in
-    ap isPresence (right-part _ (s .args .proof .now) (u .get-u32 .ensures)) ∙ right-there (s .args .proof .now) (s .pre) (two-flagged o)
+    let else1 = else1-from-else2 (c .before) in
+    let start = start-from-else1 else1 in
+    ap isPresence (right-part _ (start .args .proof .now) (get-u32-from-leads-to2 (c .before .before) .get-u32 .ensures)) ∙ right-there (start .args .proof .now) (start .pre) (two-flagged else1)
 
 returns-3 : tie.Need-returns-3
 unfolding leftLength
 returns-3 c =
-    let e = c .before .before in
-    let u = e .before .before .before in
-    let o = u .before in
-    let s = o .before .before .before in
-    let x = s .args .proof .now in
-    let two = two-flagged o in
-    let l = sym (not-false _ (e .if2 .left)) ∙ e .before .leads-to2 .ensures ∙ ap (leads (hashBytes (s .args .root))) (left-part _ x (u .get-u32 .ensures)) in
+    let else2 = c .before .before in
+    let after-leads-to2 = else2 .before in
+    let after-get-u32 = get-u32-from-leads-to2 after-leads-to2 in
+    let else1 = after-get-u32 .before in
+    let start = start-from-else1 else1 in
+    let x = start .args .proof .now in
+    let two = two-flagged else1 in
+    let l = sym (not-false _ (else2 .if2 .left)) ∙ after-leads-to2 .leads-to2 .ensures ∙ ap (leads (hashBytes (start .args .root))) (left-part _ x (after-get-u32 .get-u32 .ensures)) in
     record {
       lone = λ k. absurd (omega (arith, two, k));
       leftward = λ k. l;
-      rightward = λ k g. c .leads-to3 .ensures ∙ ap (leads (hashBytes (s .args .root))) (right-part _ x (u .get-u32 .ensures));
+      rightward = λ k g. c .leads-to3 .ensures ∙ ap (leads (hashBytes (start .args .root))) (right-part _ x (after-get-u32 .get-u32 .ensures));
     }
 
 pub lead-around-spec : {M : Type 1} → statement M

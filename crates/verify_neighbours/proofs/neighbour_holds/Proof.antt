@@ -11,6 +11,10 @@ use Rattle.proofrecords.proofs.Forms.{presence-whole}
 use Rattle.verify_neighbours.proofs.neighbour_holds.Statement.{statement}
 use Rattle.verify_neighbours.proofs.neighbour_holds.Tie as tie
 
+-- `A-from-B` is the state A as the later state B has it.
+abbrev start-from-else1 : tie.Else1 → tie.Start
+start-from-else1 c = c .before .before .before
+
 returns : tie.Need-returns
 unfolding neighbourHolds
 returns c = rw (sym (c .before .before .before .pre .1) ∙ not-true _ (c .if1 .taken))
@@ -23,7 +27,7 @@ part-beyond-start c = search needs
 
 part-beyond-end : tie.Need-part-beyond-end
 part-beyond-end c =
-    let start = c .before .before .before in
+    let start = start-from-else1 c in
     let w = presence-whole (start .args .p .now) (start .pre .0) in omega arith
 
 beyond-requires : tie.Need-beyond-requires
@@ -32,7 +36,8 @@ beyond-requires c κs = search needs
 returns-2 : tie.Need-returns-2
 unfolding neighbourHolds presenceIn slice
 returns-2 c =
-    rw (sym (c .before .before .before .before .before .pre .1) ∙ not-false _ (c .before .before .if1 .left)) (c .beyond .ensures)
+    let else1 = c .before .before in
+    rw (sym (start-from-else1 else1 .pre .1) ∙ not-false _ (else1 .if1 .left)) (c .beyond .ensures)
 
 pub neighbour-holds-spec : {M : Type 1} → statement M
 neighbour-holds-spec =

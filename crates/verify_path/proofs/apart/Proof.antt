@@ -9,6 +9,10 @@ use Rattle.verify_path.proofs.apart.Tie as tie
 is-right-requires : tie.Need-is-right-requires
 is-right-requires c κs = search needs
 
+-- `A-from-B` is the state A as the later state B has it.
+abbrev is-right-from-is-right2 : tie.After-is-right2 → tie.After-is-right
+is-right-from-is-right2 c = c .before .before
+
 returns : tie.Need-returns
 returns c = rw (sym (c .before .is-right .ensures) ∙ c .if1 .taken)
 
@@ -17,20 +21,21 @@ is-right-requires-2 c κs = search needs
 
 returns-2 : tie.Need-returns-2
 returns-2 c =
-    let t = c .before .before in
-    rw (sym (t .before .is-right .ensures) ∙ t .if1 .left, sym (c .before .is-right2 .ensures) ∙ not-true _ (c .if2 .taken))
+    let after-is-right2 = c .before in
+    rw (sym (is-right-from-is-right2 after-is-right2 .is-right .ensures) ∙ after-is-right2 .before .if1 .left, sym (after-is-right2 .is-right2 .ensures) ∙ not-true _ (c .if2 .taken))
 
 outermost-requires : tie.Need-outermost-requires
 outermost-requires c κs = search needs
 
 returns-3 : tie.Need-returns-3
 returns-3 c =
-    let u = c .before .before in
-    let t = u .before .before in
+    let after-outermost = c .before in
+    let else2 = after-outermost .before in
+    let after-is-right2 = else2 .before in
     rw (
-      sym (t .before .is-right .ensures) ∙ t .if1 .left,
-      sym (u .before .is-right2 .ensures) ∙ not-false _ (u .if2 .left),
-      sym (c .before .outermost .ensures) ∙ not-true _ (c .if3 .taken),
+      sym (is-right-from-is-right2 after-is-right2 .is-right .ensures) ∙ after-is-right2 .before .if1 .left,
+      sym (after-is-right2 .is-right2 .ensures) ∙ not-false _ (else2 .if2 .left),
+      sym (after-outermost .outermost .ensures) ∙ not-true _ (c .if3 .taken),
     )
 
 outermost-requires-2 : tie.Need-outermost-requires-2
@@ -38,13 +43,14 @@ outermost-requires-2 c κs = search needs
 
 returns-4 : tie.Need-returns-4
 returns-4 c =
-    let w = c .before in
-    let u = w .before .before in
-    let t = u .before .before in
+    let else3 = c .before in
+    let after-outermost = else3 .before in
+    let else2 = after-outermost .before in
+    let after-is-right2 = else2 .before in
     rw (
-      sym (t .before .is-right .ensures) ∙ t .if1 .left,
-      sym (u .before .is-right2 .ensures) ∙ not-false _ (u .if2 .left),
-      sym (w .before .outermost .ensures) ∙ not-false _ (w .if3 .left),
+      sym (is-right-from-is-right2 after-is-right2 .is-right .ensures) ∙ after-is-right2 .before .if1 .left,
+      sym (after-is-right2 .is-right2 .ensures) ∙ not-false _ (else2 .if2 .left),
+      sym (after-outermost .outermost .ensures) ∙ not-false _ (else3 .if3 .left),
     )
     (c .outermost2 .ensures)
 

@@ -22,9 +22,11 @@ is-zero-requires c κs = search needs
 
 returns-2 : tie.Need-returns-2
 returns-2 c =
+    let after-sibling = c .before in
+    let else1 = after-sibling .before in
     c .is-zero .ensures
-    ∙ ap (λ (h : Bytes). sameBytes h zeros) (c .before .sibling .ensures)
-    ∙ sym (keeps-zero _ _ (c .before .before .before .is-right .ensures) (c .before .before .if1 .left))
+    ∙ ap (λ (h : Bytes). sameBytes h zeros) (after-sibling .sibling .ensures)
+    ∙ sym (keeps-zero _ _ (else1 .before .is-right .ensures) (else1 .if1 .left))
 
 pub keeps-to-spec : {M : Type 1} → statement M
 keeps-to-spec =

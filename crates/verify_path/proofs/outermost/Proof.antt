@@ -25,11 +25,18 @@ loop-holds c = (omega arith, rw sub-zero)
 keeps-to-requires : tie.Need-keeps-to-requires Inv-loop μ-loop
 keeps-to-requires c κs = omega arith
 
+-- `A-from-B` is the state A as the later state B has it.
+abbrev at-loop-from-keeps-to : tie.After-keeps-to Inv-loop μ-loop → tie.At-loop Inv-loop μ-loop
+at-loop-from-keeps-to c = c .before .before
+
+abbrev start-from-at-loop : tie.At-loop Inv-loop μ-loop → tie.Start Inv-loop μ-loop
+start-from-at-loop c = c .before .before
+
 returns : tie.Need-returns Inv-loop μ-loop
 returns c =
-    let t = c .before .before .before in
-    let a = t .before .before .args in
-    sym (t .loop .inv .1 ∙ outermost-off (a .side) (t .loop .i) (a .n) (a .p .now) (omega arith) (sym (c .before .keeps-to .ensures) ∙ not-true _ (c .if1 .taken)))
+    let at-loop = at-loop-from-keeps-to (c .before) in
+    let a = start-from-at-loop at-loop .args in
+    sym (at-loop .loop .inv .1 ∙ outermost-off (a .side) (at-loop .loop .i) (a .n) (a .p .now) (omega arith) (sym (c .before .keeps-to .ensures) ∙ not-true _ (c .if1 .taken)))
 
 add-i : tie.Need-add-i Inv-loop μ-loop
 add-i c = omega arith
@@ -39,15 +46,15 @@ loop-less c = omega arith
 
 loop-again : tie.Need-loop-again Inv-loop μ-loop
 loop-again c =
-    let t = c .before .before .before in
-    let a = t .before .before .args in
-    (omega arith, t .loop .inv .1 ∙ outermost-on (a .side) (t .loop .i) (a .n) (a .p .now) (omega arith) (sym (c .before .keeps-to .ensures) ∙ not-false _ (c .if1 .left)))
+    let at-loop = at-loop-from-keeps-to (c .before) in
+    let a = start-from-at-loop at-loop .args in
+    (omega arith, at-loop .loop .inv .1 ∙ outermost-on (a .side) (at-loop .loop .i) (a .n) (a .p .now) (omega arith) (sym (c .before .keeps-to .ensures) ∙ not-false _ (c .if1 .left)))
 
 returns-2 : tie.Need-returns-2 Inv-loop μ-loop
 returns-2 c =
-    let t = c .before in
-    let a = t .before .before .args in
-    sym (t .loop .inv .1 ∙ ap (outermost (a .side)) (no-steps-left (t .loop .i) (a .n) (a .p .now) (omega arith)))
+    let at-loop = c .before in
+    let a = start-from-at-loop at-loop .args in
+    sym (at-loop .loop .inv .1 ∙ ap (outermost (a .side)) (no-steps-left (at-loop .loop .i) (a .n) (a .p .now) (omega arith)))
 
 pub outermost-spec : {M : Type 1} → statement M
 outermost-spec =

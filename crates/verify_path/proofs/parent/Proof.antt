@@ -15,14 +15,18 @@ inner-hash-requires c κs = search needs
 
 returns : tie.Need-returns
 returns c =
-    rw (← c .before .before .is-right .ensures, c .before .if1 .taken, ← c .before .before .before .sibling .ensures) (c .inner-hash .ensures)
+    let then1 = c .before in
+    let after-is-right = then1 .before in
+    rw (← after-is-right .is-right .ensures, then1 .if1 .taken, ← after-is-right .before .sibling .ensures) (c .inner-hash .ensures)
 
 inner-hash-requires-2 : tie.Need-inner-hash-requires-2
 inner-hash-requires-2 c κs = search needs
 
 returns-2 : tie.Need-returns-2
 returns-2 c =
-    rw (← c .before .before .is-right .ensures, c .before .if1 .left, ← c .before .before .before .sibling .ensures) (c .inner-hash2 .ensures)
+    let else1 = c .before in
+    let after-is-right = else1 .before in
+    rw (← after-is-right .is-right .ensures, else1 .if1 .left, ← after-is-right .before .sibling .ensures) (c .inner-hash2 .ensures)
 
 pub parent-spec : {M : Type 1} → statement M
 parent-spec =

@@ -20,17 +20,24 @@ abbrev μ-loop : tie.MeasureT-loop
 loop-holds : tie.Need-loop-holds Inv-loop μ-loop
 loop-holds c = (omega arith, omega arith, refl)
 
+-- `A-from-B` is the state A as the later state B has it.
+abbrev at-loop-from-else2 : tie.Else2 Inv-loop μ-loop → tie.At-loop Inv-loop μ-loop
+at-loop-from-else2 c = c .before .before
+
+abbrev start-from-at-loop : tie.At-loop Inv-loop μ-loop → tie.Start Inv-loop μ-loop
+start-from-at-loop c = c .before .before .before
+
 returns : tie.Need-returns Inv-loop μ-loop
 returns c =
-    let t = c .before in
-    let a = t .before .before .before .args in
-    sym (t .loop .inv .2 ∙ left-done (t .loop .i) (t .loop .j) (a .l .now) (a .r .now) (c .if1 .taken))
+    let at-loop = c .before in
+    let a = start-from-at-loop at-loop .args in
+    sym (at-loop .loop .inv .2 ∙ left-done (at-loop .loop .i) (at-loop .loop .j) (a .l .now) (a .r .now) (c .if1 .taken))
 
 returns-2 : tie.Need-returns-2 Inv-loop μ-loop
 returns-2 c =
-    let t = c .before .before in
-    let a = t .before .before .before .args in
-    sym (t .loop .inv .2 ∙ right-done (t .loop .i) (t .loop .j) (a .l .now) (a .r .now) (c .if2 .taken))
+    let at-loop = c .before .before in
+    let a = start-from-at-loop at-loop .args in
+    sym (at-loop .loop .inv .2 ∙ right-done (at-loop .loop .i) (at-loop .loop .j) (a .l .now) (a .r .now) (c .if2 .taken))
 
 sub-i : tie.Need-sub-i Inv-loop μ-loop
 sub-i c = search needs
@@ -46,25 +53,27 @@ apart-requires c κs = search needs
 
 returns-3 : tie.Need-returns-3 Inv-loop μ-loop
 returns-3 c =
-    let u = c .before .before .before in
-    let t = u .before .before in
-    let a = t .before .before .before .args in
-    let e = sym (c .before .before .same-step .ensures) ∙ not-true _ (c .before .if3 .taken) in
+    let then3 = c .before in
+    let after-same-step = then3 .before in
+    let else2 = after-same-step .before in
+    let at-loop = at-loop-from-else2 else2 in
+    let a = start-from-at-loop at-loop .args in
+    let e = sym (after-same-step .same-step .ensures) ∙ not-true _ (then3 .if3 .taken) in
     c .apart .ensures
-    ∙ sym (t .loop .inv .2 ∙ other-tops (t .loop .i) (t .loop .j) (a .l .now) (a .r .now) (u .before .if1 .left) (u .if2 .left) e)
+    ∙ sym (at-loop .loop .inv .2 ∙ other-tops (at-loop .loop .i) (at-loop .loop .j) (a .l .now) (a .r .now) (else2 .before .if1 .left) (else2 .if2 .left) e)
 
 loop-less : tie.Need-loop-less Inv-loop μ-loop
 loop-less c = omega arith
 
 loop-again : tie.Need-loop-again Inv-loop μ-loop
 loop-again c =
-    let u = c .before .before in
-    let t = u .before .before in
-    let a = t .before .before .before .args in
+    let else2 = c .before .before in
+    let at-loop = at-loop-from-else2 else2 in
+    let a = start-from-at-loop at-loop .args in
     let e = sym (c .before .same-step .ensures) ∙ not-false _ (c .if3 .left) in (
       omega arith,
       omega arith,
-      t .loop .inv .2 ∙ equal-tops (t .loop .i) (t .loop .j) (a .l .now) (a .r .now) (u .before .if1 .left) (u .if2 .left) e,
+      at-loop .loop .inv .2 ∙ equal-tops (at-loop .loop .i) (at-loop .loop .j) (a .l .now) (a .r .now) (else2 .before .if1 .left) (else2 .if2 .left) e,
     )
 
 pub paths-part-spec : {M : Type 1} → statement M

@@ -28,10 +28,13 @@ same-hash-requires c κs = search needs
 
 returns-2 : tie.Need-returns-2
 returns-2 c =
-    let t = c .before .before .before in
+    let after-sibling2 = c .before in
+    let after-sibling = after-sibling2 .before in
+    let else1 = after-sibling .before in
+    let after-is-right2 = else1 .before in
     c .same-hash .ensures
-    ∙ ap₂ sameBytes (c .before .before .sibling .ensures) (c .before .sibling2 .ensures)
-    ∙ sym (same-side _ _ (t .before .before .is-right .ensures) (t .before .is-right2 .ensures) (not-false _ (t .if1 .left)))
+    ∙ ap₂ sameBytes (after-sibling .sibling .ensures) (after-sibling2 .sibling2 .ensures)
+    ∙ sym (same-side _ _ (after-is-right2 .before .is-right .ensures) (after-is-right2 .is-right2 .ensures) (not-false _ (else1 .if1 .left)))
 
 pub same-step-spec : {M : Type 1} → statement M
 same-step-spec =

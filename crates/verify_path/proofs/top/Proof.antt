@@ -34,9 +34,12 @@ part-leaf-hash-end c = omega arith
 leaf-hash-requires : tie.Need-leaf-hash-requires Inv-loop μ-loop
 leaf-hash-requires c κs = simp (length-take, length-drop) (omega arith)
 
+-- `A-from-B` is the state A as the later state B has it.
+abbrev start-from-leaf-hash : tie.After-leaf-hash Inv-loop μ-loop → tie.Start Inv-loop μ-loop
+start-from-leaf-hash c = c .before .before .before
+
 loop-holds : tie.Need-loop-holds Inv-loop μ-loop
-loop-holds c =
-    let a = c .before .before .before .args in
+loop-holds c = let a = start-from-leaf-hash c .args in
     (omega arith, rw (sub-zero, c .leaf-hash .ensures, grant-at (a .p .now) (omega arith) .0, grant-at (a .p .now) (omega arith) .1))
 
 parent-requires : tie.Need-parent-requires Inv-loop μ-loop
@@ -50,17 +53,17 @@ loop-less c = omega arith
 
 loop-again : tie.Need-loop-again Inv-loop μ-loop
 loop-again c =
-    let t = c .before .before in
-    let a = t .before .before .before .before .args in (
+    let at-loop = c .before .before in
+    let a = start-from-leaf-hash (at-loop .before) .args in (
       omega arith,
-      rw (c .parent .ensures) (sym (ap (climb leafHash innerHash (hashBytes (t .loop .h))) (steps-left (t .loop .i) (a .n) (a .p .now) (omega arith))) ∙ t .loop .inv .1),
+      rw (c .parent .ensures) (sym (ap (climb leafHash innerHash (hashBytes (at-loop .loop .h))) (steps-left (at-loop .loop .i) (a .n) (a .p .now) (omega arith))) ∙ at-loop .loop .inv .1),
     )
 
 returns : tie.Need-returns Inv-loop μ-loop
 returns c =
-    let t = c .before in
-    let a = t .before .before .before .before .args in
-    sym (ap (climb leafHash innerHash (hashBytes (t .loop .h))) (no-steps-left (t .loop .i) (a .n) (a .p .now) (omega arith))) ∙ t .loop .inv .1
+    let at-loop = c .before in
+    let a = start-from-leaf-hash (at-loop .before) .args in
+    sym (ap (climb leafHash innerHash (hashBytes (at-loop .loop .h))) (no-steps-left (at-loop .loop .i) (a .n) (a .p .now) (omega arith))) ∙ at-loop .loop .inv .1
 
 pub top-spec : {M : Type 1} → statement M
 top-spec =
