@@ -141,11 +141,7 @@ pub told-tied : (s : Bytes) (i : ℕ) (b : Side) (p : Place) (f : found.Found) �
 told-tied s i b p (At j) w t = tied-alike s i j b p (w .1) (t .1 (w .0))
 told-tied s i b p Nothing w t = absurd w
 
--- what the tests say
-pub passed-if : {P : Type 0} (r : Bool) → (r ≡ true → P) → Passed r P
-passed-if true f = f refl
-passed-if false f = tt
-
+-- what a test says
 pub passed-then : {P Q : Type 0} (r : Bool) → (P → Q) → Passed r P → Passed r Q
 passed-then true f h = f h
 passed-then false f h = tt

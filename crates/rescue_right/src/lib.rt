@@ -30,13 +30,20 @@ fn alike(source: &[u8], i: usize, j: usize, right: bool) -> bool
     if child_version_at(Form::Counted, source, i, !right) == 0 {
         return false;
     }
-    if child_version_at(Form::Counted, source, i, right) != child_version_at(Form::Counted, source, j, right) {
+    if child_version_at(Form::Counted, source, i, right)
+        != child_version_at(Form::Counted, source, j, right)
+    {
         return false;
     }
-    if child_count_at(Form::Counted, source, i, right) != child_count_at(Form::Counted, source, j, right) {
+    if child_count_at(Form::Counted, source, i, right)
+        != child_count_at(Form::Counted, source, j, right)
+    {
         return false;
     }
-    same(child_hash(slot_of(Form::Counted, source, i), right), child_hash(slot_of(Form::Counted, source, j), right))
+    same(
+        child_hash(slot_of(Form::Counted, source, i), right),
+        child_hash(slot_of(Form::Counted, source, j), right),
+    )
 }
 
 // Whether the record found beside that in slot i is an inner one, and says the same.

@@ -119,8 +119,7 @@ join-lowest-requires-2 t c κs =
 
 join-record-right-requires : (t : ℕ) → join-lts.Need-record-right-requires (join-calls t) (join-at t) join.Post
 join-record-right-requires t c κs =
-    let start = join-start-from-lowest2 t c in
-    (
+    let start = join-start-from-lowest2 t c in (
       record { size = start .pre .1 .0; proper = start .pre .1 .1; lowest = c .before .lowest .ensures },
       start .pre .1 .2,
       record { version = start .args .b; lowest = c .lowest2 .ensures; right = right-here (start .args .source .now) (start .args .place) (start .args .b) (start .pre .1 .3) },
@@ -176,8 +175,7 @@ join-join-requires : (t : ℕ) → join-lts.Need-join-requires (join-calls t) (j
 join-join-requires t c κs =
     let else4 = c .before .before .before .before .before in
     let start = join-start-from-else4 t else4 in
-    let p = placeOf (start .args .place) in
-    (
+    let p = placeOf (start .args .place) in (
       omega (arith, start .pre .0, c .left .ensures .count, else4 .if4 .left),
       (
         start .pre .1 .0,
@@ -225,8 +223,7 @@ join-join-requires-2 t c κs =
     let after-left = c .before .before .before .before .before in
     let else4 = after-left .before .before .before .before .before in
     let start = join-start-from-else4 t else4 in
-    let p = placeOf (start .args .place) in
-    (
+    let p = placeOf (start .args .place) in (
       omega (arith, start .pre .0, c .right .ensures .count, else4 .if4 .left),
       (
         start .pre .1 .0,

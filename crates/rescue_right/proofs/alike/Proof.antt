@@ -3,8 +3,8 @@ use mathlib.Core.Path.{ap, sym, _∙_}
 use Rattle.terms.proofs.Tests.{same-bytes}
 use Rattle.layout.specs.Slots.{kidOn}
 use Rattle.store.proofs.Slots.{slot-within}
+use Rattle.order_find.proofs.Found.{passed-if}
 use Rattle.rescue_right.specs.Right.{Alike}
-use Rattle.rescue_right.proofs.Righting.{passed-if}
 use borrow.Author.Needs.{needs}
 use Rattle.rescue_right.proofs.alike.Statement.{statement}
 use Rattle.rescue_right.proofs.alike.Tie as tie
