@@ -1,5 +1,5 @@
--- Document 02, request 2026-08, over the bytes of a source: two records at one place beside each other. No public promise
--- reaches this file. Assumes nothing.
+-- Document 02, request 2026-08, over the bytes of a source: two records at one place beside each other. No public
+-- promise reaches this file. Assumes nothing.
 use Prim.Native.Nat.{ℕ}
 use mathlib.Core.Path.{_≡_}
 use mathlib.Core.Bool.{true, false, not}
@@ -46,4 +46,6 @@ Tied s b p Nothing = Unit {0}
 pub record Beside (s : Bytes) (p : place.Place) (f : found.Found) : Type 0 where
   pub version : ℕ
   pub lowest : LowestIn (storeOf s .slots) version (placeOf p) f
-  pub right : recordRight leafHash innerHash (storeOf s .slots) version (placeOf p) (find version (placeOf p) (storeOf s .slots)) ≡ true
+  pub right : recordRight leafHash innerHash (storeOf s .slots) version (placeOf p)
+      (find version (placeOf p) (storeOf s .slots))
+      ≡ true
