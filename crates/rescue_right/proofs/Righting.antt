@@ -28,6 +28,7 @@ use Rattle.store.proofs.Slots.{slots-many}
 use Rattle.lookup.specs.declared.Found as found
 use Rattle.lookup.specs.declared.Found.the-variants.{At, Nothing}
 use Rattle.check_pass.specs.Passes.{Passed}
+use Rattle.order_find.proofs.Found.{passed-if}
 use Rattle.rescue_rules.specs.Joining.{linked, bodyRight, recordRight}
 use Rattle.rescue_look.specs.Look.{LowestIn, Inside, linkedAt, weighsAt, tiedAt}
 use Rattle.rescue_look.proofs.Looking.{its-form, leaf-is, inner-is, inner-counts}
@@ -141,7 +142,21 @@ pub told-tied : (s : Bytes) (i : ℕ) (b : Side) (p : Place) (f : found.Found) �
 told-tied s i b p (At j) w t = tied-alike s i j b p (w .1) (t .1 (w .0))
 told-tied s i b p Nothing w t = absurd w
 
--- what a test says
+-- what the tests say
+pub alike-if : (s : Bytes) (i j : ℕ) (b : Side) {o v w m n : ℕ} {x y f g : Bytes} {t : Bool} → o ≡ kidOn (not b) (slotIn counted i s) .version → (o ≡ 0 → ⊥) →
+    v ≡ kidOn b (slotIn counted i s) .version → w ≡ kidOn b (slotIn counted j s) .version → v ≡ w →
+    m ≡ countOn b (countsIn (slotIn counted i s)) → n ≡ countOn b (countsIn (slotIn counted j s)) → m ≡ n →
+    x ≡ slotIn counted i s → f ≡ kidOn b x .hash → y ≡ slotIn counted j s → g ≡ kidOn b y .hash → t ≡ sameBytes f g → Passed t (Alike s i j b)
+alike-if s i j b {f = f} {g = g} {t = t} o-is there v-is w-is v-same m-is n-is m-same x-is f-is y-is g-is t-is =
+    passed-if {P = Alike s i j b} t
+    (λ e.
+    record {
+      version = sym v-is ∙ v-same ∙ w-is;
+      hash = sym (f-is ∙ ap (λ z. kidOn b z .hash) x-is) ∙ same-bytes f g (sym t-is ∙ e) ∙ g-is ∙ ap (λ z. kidOn b z .hash) y-is;
+      count = sym m-is ∙ m-same ∙ n-is;
+      other = λ z. there (o-is ∙ z);
+    })
+
 pub passed-then : {P Q : Type 0} (r : Bool) → (P → Q) → Passed r P → Passed r Q
 passed-then true f h = f h
 passed-then false f h = tt

@@ -8,6 +8,10 @@ use borrow.Author.Needs.{needs}
 use Rattle.rescue_root.proofs.newest_before.Statement.{statement}
 use Rattle.rescue_root.proofs.newest_before.Tie as tie
 
+-- `A-from-B` is the state A as the later state B has it.
+abbrev start-from-top : tie.After-top → tie.Start
+start-from-top c = c .before .before .before .before .before .before
+
 newest-root-requires : tie.Need-newest-root-requires
 newest-root-requires c κs = search needs
 
@@ -39,12 +43,12 @@ sub-first-near : tie.Need-sub-first-near
 sub-first-near c = omega arith
 
 first-near-requires : tie.Need-first-near-requires
-first-near-requires c κs = let p = c .before .before .before .before .before .before .pre in (p .0, p .1, p .2, c .top .ensures .proper)
+first-near-requires c κs = let p = start-from-top c .pre in (p .0, p .1, p .2, c .top .ensures .proper)
 
 find-first-requires : tie.Need-find-first-requires
 find-first-requires c κs =
     let after-top = c .before in
-    let p = after-top .before .before .before .before .before .before .pre in (p .0, p .1, p .2, after-top .top .ensures .proper, c .first-near .ensures)
+    let p = start-from-top after-top .pre in (p .0, p .1, p .2, after-top .top .ensures .proper, c .first-near .ensures)
 
 returns-2 : tie.Need-returns-2
 returns-2 c =
