@@ -1,8 +1,8 @@
 -- A look at an entry of an ordered table says how the key of its slot stands to the node's; and where the search ends, what is found. Assumes nothing.
-use Prim.Native.Nat.{ℕ, suc, _<_, _≤_}
+use Prim.Native.Nat.{ℕ, suc, _-_, _<_, _≤_}
 use native.Mathlib.Omega.{arith}
 use mathlib.Core.Path.{_≡_, refl, ap, ap₂, sym, _∙_, subst}
-use mathlib.Core.Bool.{true, false}
+use mathlib.Core.Bool.{Bool, true, false}
 use mathlib.Core.List.{List, [], _∷_, _++_}
 use mathlib.Core.Option.{none, some}
 use lib.ListN.{length, getD}
@@ -24,8 +24,9 @@ use Rattle.store.proofs.Slots.{slots-many, slot-long, slot-bytes, slot-within, 
 use Rattle.lookup.specs.Lookup.{FoundIn}
 use Rattle.lookup.specs.declared.Found.the-variants.{At, Nothing}
 use Rattle.lookup.proofs.Matching.{says}
+use Rattle.check_pass.specs.Passes.{Passed}
 use Rattle.ordered.specs.Ordered.{nodeKey, keyNo, InForm, Ordered, Between}
-use Rattle.ordered.proofs.Ordered.{key-node, first-lowest, first-found, first-none}
+use Rattle.ordered.proofs.Ordered.{between-start, between-above, between-below, key-node, first-lowest, first-found, first-none}
 use Rattle.order_look.specs.Looks.{headKey, keyIn, Stands}
 use Rattle.order_look.specs.declared.Look as declared
 use Rattle.order_look.specs.declared.Look.the-variants.{Before, After, Same}
@@ -75,6 +76,19 @@ module _ (s : Bytes) {t : List ℕ} {n : ℕ} (size : sizeRight counted (length 
         is-false _
         (λ g. before-irrefl (headKey (p .count) (p .bits) v) (subst (λ z. before z (headKey (p .count) (p .bits) v) ≡ true) (sym mine ∙ said Same f) g))
 
+    -- the same of the node's key
+    as-key : {b : Bool} → before (keyNo (storeOf s .slots) (getD t k 0)) (headKey (p .count) (p .bits) v) ≡ b → b ≡ before (keyNo (storeOf s .slots) (getD t k 0)) (nodeKey v (placeOf p))
+    as-key f = sym f ∙ ap (before (keyNo (storeOf s .slots) (getD t k 0))) (place-key v p proper)
+
+    pub stands-before : r ≡ Before → true ≡ before (keyNo (storeOf s .slots) (getD t k 0)) (nodeKey v (placeOf p))
+    stands-before f = as-key (looked-before f)
+
+    pub stands-after : r ≡ After → false ≡ before (keyNo (storeOf s .slots) (getD t k 0)) (nodeKey v (placeOf p))
+    stands-after f = as-key (looked-after f)
+
+    pub stands-same : r ≡ Same → false ≡ before (keyNo (storeOf s .slots) (getD t k 0)) (nodeKey v (placeOf p))
+    stands-same f = as-key (looked-same f)
+
     module _ (first : Between (storeOf s .slots) t n (nodeKey v (placeOf p)) k k) where
       node : r ≡ Same → isNode v (placeOf p) (o .names k h .0) ≡ true
       node f =
@@ -110,6 +124,22 @@ module _ (s : Bytes) {t : List ℕ} {n : ℕ} (size : sizeRight counted (length 
         tt,
       )
 
+  -- An entry that isn't before a key is the first if there is none before it, or the one before it is before the key.
+  module _ (key : Bytes) {k : ℕ} (h : k < n) (not-it : before (keyNo (storeOf s .slots) (getD t k 0)) key ≡ false) where
+    pub first-of-all : k ≡ 0 → Between (storeOf s .slots) t n key k k
+    first-of-all z = subst (λ m. Between (storeOf s .slots) t n key m k) (sym z) (between-below o key (between-start o key) (omega arith) h not-it)
+
+    pub first-behind : (1 ≤ k) → before (keyNo (storeOf s .slots) (getD t (k - 1) 0)) key ≡ true → Between (storeOf s .slots) t n key k k
+    first-behind l e =
+        between-below o key
+        (subst (λ m. Between (storeOf s .slots) t n key m n) (omega arith) (between-above o key {m = k - 1} (between-start o key) (omega arith) (omega arith) e))
+        (omega arith) h not-it
+
   -- All entries are before the node.
   pub none-left : (v : ℕ) (p : Place) (k : ℕ) → n ≤ k → Between (storeOf s .slots) t n (nodeKey v p) k k → FoundIn (storeOf s .slots) v p Nothing × NoLower (storeOf s .slots) v p Nothing
   none-left v p k l first = (first-none o v p first (omega arith) (λ h g. absurd (omega arith)), tt)
+
+-- what a test says
+pub passed-if : {P : Type 0} (r : Bool) → (r ≡ true → P) → Passed r P
+passed-if true f = f refl
+passed-if false f = tt

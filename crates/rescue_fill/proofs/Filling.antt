@@ -33,7 +33,8 @@ use Rattle.rescue_laws.proofs.Runs.{Readable}
 use Rattle.rescue_laws.proofs.Coming.{Come, come-first, come-step, come-back, come-oldest, come-low, come-no-root, come-apart, come-above}
 use Rattle.rescue_bytes.proofs.Readable.{readable}
 use Rattle.rescue_enter.specs.Enter.{Target, Entering, Enters}
-use Rattle.rescue_step.specs.Step.{joinsTop, floorTop, Stops, rootless, apart, above, Joins}
+use Rattle.rescue_step.specs.Step.{joinsTop, floorTop, RightTop, Stops, rootless, apart, above, Joins}
+use Rattle.rescue_step.proofs.Stepping.{right-nothing, right-joined}
 use Rattle.rescue_fill.specs.Fill.{bounded, Shaped, Fillable, Filled}
 
 -- numbers, apart from the trees
@@ -123,6 +124,7 @@ pub record State (s : Bytes) (oldest latest b low : ℕ) (t : Bytes) : Type 0 wh
   pub target : Target s t
   pub root-in : b ≤ at
   pub low-in : low ≤ at
+  pub right : RightTop s b
 
 module _ (s : Bytes) (bytes : All Byte s) (oldest latest : ℕ) (number : latest ≤ top32) (size : sizeRight counted (length s) ≡ true) where
   abbrev S : List Slot
@@ -142,6 +144,7 @@ module _ (s : Bytes) (bytes : All Byte s) (oldest latest : ℕ) (number : latest
     target = e .target;
     root-in = subst (λ w. w ≤ latest) (j .root) (root-not-above S latest);
     low-in = j .within;
+    right = right-joined s j (right-nothing s size bytes);
   }
     where
       no-floor : (x : ℕ) → low ≡ max 0 x → low ≡ x
@@ -232,6 +235,7 @@ module _ (s : Bytes) (bytes : All Byte s) (oldest latest : ℕ) (number : latest
         target = e .target;
         root-in = subst (λ g. g ≤ u) (j .root) (root-not-above S u);
         low-in = j .within;
+        right = right-joined s j (w .right);
       }
         where
           not-before : (x y : ℕ) → x < y → x ≤ y - 1

@@ -3,7 +3,7 @@ use check_kin::later;
 use place::Place;
 use rescue_look::kid;
 use rescue_look::lowest;
-use rescue_look::record_right;
+use rescue_right::record_right;
 use terms::Form;
 ghost use mathlib.Core.Path.{_≡_};
 ghost use mathlib.Core.Bool.{true, _||_};
@@ -14,7 +14,7 @@ ghost use Rattle.layout.specs.Headers.{sizeRight};
 ghost use Rattle.layout.specs.Stores.{storeOf};
 ghost use Rattle.ordered.specs.Ordered.{Guide};
 ghost use Rattle.rescue_rules.specs.Joining.{newer};
-ghost use Rattle.rescue_join.specs.Join.{JoinSays};
+ghost use Rattle.rescue_join.specs.Join.{JoinSays, RightHere};
 
 // Whether a version is 0 or the next one.
 fn of_next(b: u32, next: u32) -> bool
@@ -42,7 +42,7 @@ pub enum Joined {
     Fits { floor: u32 },
 }
 
-// Joins the node of version a at a place, and all below it, to the node of version b in the tree of the version `next`.
+// Joins the node of version a at a place, and all below it, to the node of version b in the tree of the version `next`, which is right.
 pub fn join(
     source: &[u8],
     table: &[u16; 16384],
@@ -52,7 +52,7 @@ pub fn join(
     a: u32,
     b: u32,
 ) -> Joined
-    requires { ⌜ (sizeRight Form.Counted (length (now source)) ≡ true) × Proper place × Guide (storeOf (now source) .slots) (now table) many ⌝ }
+    requires { ⌜ (sizeRight Form.Counted (length (now source)) ≡ true) × Proper place × Guide (storeOf (now source) .slots) (now table) many × RightHere (now source) place b ⌝ }
     ensures { λ r. ⌜ JoinSays (now (source .entry)) next place a b r ⌝ }
 {
     if a == b {
@@ -62,13 +62,13 @@ pub fn join(
         return Joined::Broken;
     }
     let here = lowest(source, table, many, a, place);
-    if !record_right(source, table, many, a, place, here) {
+    let there = lowest(source, table, many, b, place);
+    if !record_right(source, table, many, a, place, here, there) {
         return Joined::Broken;
     }
     if 256 <= place.count {
         return Joined::Fits { floor: 0 };
     }
-    let there = lowest(source, table, many, b, place);
     let a_left = kid(source, here, false);
     let a_right = kid(source, here, true);
     let b_left = kid(source, there, false);

@@ -9,20 +9,19 @@ use lib.ListN.{length, getD, take, drop}
 use lib.Seq.{take-all}
 use lib.Dec.{eqb}
 use Rattle.terms.specs.declared.Form.the-variants.{Counted as counted}
-use Rattle.terms.specs.Bits.{Bytes, Byte, All, Side, left, right, Place, longer, begins, sameBytes}
-use Rattle.terms.specs.Records.{Child, Body, leafBody, innerBody, noTally, countOn, Record, Slot, free, used, spoiled}
-use Rattle.terms.specs.Form.{RecordForm, CountsForm, placeLimit}
-use Rattle.terms.proofs.Tests.{is-false, and-true}
+use Rattle.terms.specs.Bits.{Bytes, Byte, All, Side, right, Place, sameBytes}
+use Rattle.terms.specs.Records.{Child, Body, leafBody, innerBody, countOn, Record, Slot, free, used, spoiled}
+use Rattle.terms.specs.Form.{RecordForm}
+use Rattle.terms.proofs.Tests.{is-false}
 use Rattle.meaning.specs.Store.{find, isNode}
 use Rattle.meaning.specs.Reading.{bodyHash}
 use Rattle.meaning.specs.Counting.{weight}
-use Rattle.meaning.specs.Local.{childVersion, weighed, countsBy}
+use Rattle.meaning.specs.Local.{childVersion, weighed}
 use Rattle.meaning.proofs.Finding.{free-used, found-in, hit, Hit, hits}
-use Rattle.local.specs.Test.{byRecord, loneLeaf, countsAre}
+use Rattle.local.specs.Test.{byRecord, loneLeaf}
 use Rattle.nodehash.specs.Node.{leafHash, innerHash}
 use Rattle.place.specs.declared.Place as place
-use Rattle.place.specs.Place.{placeOf, Proper, Grown}
-use Rattle.place.proofs.Places.{proper-count}
+use Rattle.place.specs.Place.{placeOf, Proper}
 use Rattle.layout.specs.Sizes.{roomOf}
 use Rattle.layout.specs.Headers.{sizeRight}
 use Rattle.layout.specs.Slots.{countIn, bitsIn, versionIn, isLeaf, keyIn, valueIn, leafIn, countsIn, leftIn, rightIn, kidOn, innerIn, recordIn, slotOf, SlotForm}
@@ -39,8 +38,8 @@ use Rattle.check_kin.specs.Kin.{countNode}
 use Rattle.check_kin.proofs.Holding.{other-version, other-count, other-bits, no-record, held}
 use Rattle.read_step.specs.Walk.{bodyIn}
 use Rattle.read_step.proofs.Seeing.{kid-is, body-is}
-use Rattle.rescue_rules.specs.Joining.{kidOf, linked, bodyRight, recordRight}
-use Rattle.rescue_look.specs.Look.{StandsSay, LowestIn, Sought, Inside, KidSays, linkedAt, WeighsSay, weighsAt, tiedAt}
+use Rattle.rescue_rules.specs.Joining.{kidOf}
+use Rattle.rescue_look.specs.Look.{StandsSay, LowestIn, Inside, KidSays, linkedAt, WeighsSay, weighsAt, tiedAt}
 
 -- the first slot that holds the node is found
 find-lowest : (s : List Slot) (v : ℕ) (p : Place) (i : ℕ) (r : Record) → getD s i free ≡ used r → isNode v p r ≡ true →
@@ -196,16 +195,6 @@ module _ (s : Bytes) (i : ℕ) (b : Side) {f : found.Found} {c : ℕ} (e : c ≡
       let x : LowestIn (storeOf s .slots) v p (At j) = subst (LowestIn (storeOf s .slots) v p) k h in
       ap₂ eqb e (w (x .1 .0) (x .1 .1 .at) ∙ sym (ap weighed (x .1 .1 .found)))
 
--- two tests on each of two sides
-both-sides : (a b x y : Bool) → ((a && b) && (x && y)) ≡ ((x && a) && (y && b))
-both-sides true true true y = elim y as (λ z. z ≡ z && true) [ true ↦ refl | false ↦ refl ]
-both-sides true true false y = refl
-both-sides true false true true = refl
-both-sides true false true false = refl
-both-sides true false false y = refl
-both-sides false b true y = refl
-both-sides false b false y = refl
-
 -- both tests of the child on a side
 module _ (s : Bytes) (i : ℕ) (b : Side) (p : Place) {v : ℕ} (f : found.Found) (k : v ≡ kidOn b (slotIn counted i s) .version)
     (h : LowestIn (storeOf s .slots) v p f) where
@@ -266,68 +255,6 @@ module _ (s : Bytes) (i : ℕ) (b : Side) (p : Place) {v : ℕ} {f : found.Found
         pub link-leaf : {o : ℕ} → q ≡ true → o ≡ kidOn (not b) (slotIn counted i s) .version → not (eqb o 0) ≡ linkedAt s i b p
         unfolding bodyIn leafIn
         link-leaf u w = sym (linked-found ∙ rw (same-is, right-hash, ap isLeaf (sym slot) ∙ sym kind ∙ u) (ap (λ n. not (eqb n 0)) (sym w)))
-
--- a record that was sought
-module _ (s : Bytes) (v : ℕ) (p : place.Place) {f : found.Found} (w : Sought s v p f) where
-  abbrev Right : Bool
-  Right = recordRight leafHash innerHash (storeOf s .slots) v (placeOf p) (find v (placeOf p) (storeOf s .slots))
-
-  pub right-nothing : f ≡ Nothing → eqb v 0 ≡ Right
-  right-nothing e =
-      sym (ap (recordRight leafHash innerHash (storeOf s .slots) v (placeOf p)) (subst (LowestIn (storeOf s .slots) v (placeOf p)) e (w .lowest)))
-
-  module _ (bytes : All Byte s) {i : ℕ} (e : f ≡ At i) where
-    at-slot : LowestIn (storeOf s .slots) v (placeOf p) (At i)
-    at-slot = subst (LowestIn (storeOf s .slots) v (placeOf p)) e (w .lowest)
-
-    pub sought-has : Has counted s i
-    sought-has = record { size = w .size; inside = omega (arith, at-slot .0, slots-many counted s) }
-
-    right-by : (y : Body) → at-slot .1 .0 .body ≡ y → Right
-        ≡ (bodyRight leafHash innerHash (storeOf s .slots) (placeOf p) y && countsAre counted (at-slot .1 .0 .counts) (countsBy (storeOf s .slots) (placeOf p) y))
-    right-by y k =
-        ap (recordRight leafHash innerHash (storeOf s .slots) v (placeOf p)) (at-slot .1 .1 .found)
-        ∙ ap (λ z. bodyRight leafHash innerHash (storeOf s .slots) (placeOf p) z
-        && countsAre counted (at-slot .1 .0 .counts) (countsBy (storeOf s .slots) (placeOf p) z)) k
-
-    module _ {x : Bytes} {t : Bool} (slot : x ≡ slotIn counted i s) (kind : t ≡ isLeaf x) where
-      pub right-leaf : {z : Bytes} {r : Bool} → t ≡ true → z ≡ keyIn x → r ≡ begins (placeOf p) z → r ≡ Right
-      right-leaf u k g =
-          let y = keyIn (slotIn counted i s) in
-          let body = leaf-is s bytes i sought-has (at-slot .1 .0) (at-slot .1 .1 .at) (ap isLeaf (sym slot) ∙ sym kind ∙ u) in
-          let form = its-form s bytes i sought-has (at-slot .1 .0) (at-slot .1 .1 .at) in
-          let none-there : at-slot .1 .0 .counts ≡ noTally = subst (λ z. CountsForm z (at-slot .1 .0 .counts)) body (form .counts) in
-          g
-          ∙ ap (begins (placeOf p)) (k ∙ ap keyIn slot)
-          ∙ sym (right-by _ body ∙ ap (λ c. begins (placeOf p) y && countsAre counted c noTally) none-there ∙ and-true (begins (placeOf p) y))
-
-      inner-body-is : t ≡ false → at-slot .1 .0 .body ≡ innerBody (leftIn (slotIn counted i s)) (rightIn (slotIn counted i s))
-      inner-body-is u = inner-is s bytes i sought-has (at-slot .1 .0) (at-slot .1 .1 .at) (ap isLeaf (sym slot) ∙ sym kind ∙ u)
-
-      pub inner-short : t ≡ false → p .count < 256
-      inner-short u =
-          let form = its-form s bytes i sought-has (at-slot .1 .0) (at-slot .1 .1 .at) in
-          let there = found-in (storeOf s .slots) v (placeOf p) (at-slot .1 .0) (at-slot .1 .1 .found) .3 in
-          let limit : placeLimit (at-slot .1 .0 .body) ≡ 255 = ap placeLimit (inner-body-is u) in
-          omega (arith, form .short, ap length there, proper-count p (w .proper))
-
-      module _ (u : t ≡ false) {l : place.Place} (on-left : Grown left p l) where
-        sides : Right ≡ (tiedAt s i left (placeOf l) && tiedAt s i right (longer right (placeOf p)))
-        unfolding tiedAt weighsAt linkedAt
-        sides =
-            let b = innerBody (leftIn (slotIn counted i s)) (rightIn (slotIn counted i s)) in
-            right-by b (inner-body-is u)
-            ∙ ap (λ c. bodyRight leafHash innerHash (storeOf s .slots) (placeOf p) b && countsAre counted c (countsBy (storeOf s .slots) (placeOf p) b))
-            (inner-counts s bytes i sought-has (at-slot .1 .0) (at-slot .1 .1 .at) (ap isLeaf (sym slot) ∙ sym kind ∙ u))
-            ∙ both-sides (linkedAt s i left (longer left (placeOf p))) (linkedAt s i right (longer right (placeOf p)))
-            (weighsAt s i left (longer left (placeOf p))) (weighsAt s i right (longer right (placeOf p)))
-            ∙ ap (λ y. tiedAt s i left y && tiedAt s i right (longer right (placeOf p))) (sym (on-left .place))
-
-        pub left-off : {m : Bool} → m ≡ tiedAt s i left (placeOf l) → m ≡ false → false ≡ Right
-        left-off d n = sym (sides ∙ rw (sym d ∙ n))
-
-        pub right-on : {m o : Bool} {r : place.Place} → m ≡ tiedAt s i left (placeOf l) → m ≡ true → Grown right p r → o ≡ tiedAt s i right (placeOf r) → o ≡ Right
-        right-on d n g k = k ∙ ap (tiedAt s i right) (g .place) ∙ sym (sides ∙ rw (sym d ∙ n))
 
 -- what is found by a table is the lowest slot
 pub as-lowest : (s : List Slot) (v : ℕ) (p : Place) (f : found.Found) → FoundIn s v p f → NoLower s v p f → LowestIn s v p f

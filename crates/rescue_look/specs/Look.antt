@@ -2,7 +2,7 @@
 -- this file. Assumes nothing.
 use Prim.Native.Nat.{ℕ, _<_}
 use mathlib.Core.Path.{_≡_}
-use mathlib.Core.Bool.{Bool, true, not, cond, _&&_}
+use mathlib.Core.Bool.{Bool, not, cond, _&&_}
 use mathlib.Core.Option.{Option, none}
 use mathlib.Core.List.{List}
 use lib.ListN.{length}
@@ -15,8 +15,7 @@ use Rattle.meaning.specs.Local.{weighed}
 use Rattle.local.specs.Test.{byRecord}
 use Rattle.nodehash.specs.Node.{leafHash, innerHash}
 use Rattle.place.specs.declared.Place as place
-use Rattle.place.specs.Place.{placeOf, Proper}
-use Rattle.layout.specs.Headers.{sizeRight}
+use Rattle.place.specs.Place.{placeOf}
 use Rattle.layout.specs.Slots.{versionIn, countsIn, kidOn}
 use Rattle.layout.specs.Stores.{slotIn, storeOf, slotNo, Has}
 use Rattle.lookup.specs.declared.Found as found
@@ -34,12 +33,6 @@ StandsSay s i p r = (v : ℕ) → versionIn (slotIn counted i s) ≡ v → cond 
 abbrev pub LowestIn : List Slot → ℕ → Place → found.Found → Type 0
 LowestIn s v p (At i) = (i < length s) × ((r : Record) × LowestAt s v p i r)
 LowestIn s v p Nothing = find v p s ≡ none
-
--- A search for a node in a source of the right size.
-pub record Sought (s : Bytes) (v : ℕ) (p : place.Place) (r : found.Found) : Type 0 where
-  pub size : sizeRight counted (length s) ≡ true
-  pub proper : Proper p
-  pub lowest : LowestIn (storeOf s .slots) v (placeOf p) r
 
 -- What is found is in a slot of the source.
 abbrev pub Inside : Bytes → found.Found → Type 0

@@ -1,5 +1,5 @@
 // The records of a source of any contents, document 02, request 2026-08: the lowest slot of a node, the children that its record names, and
-// whether the record is right by itself.
+// whether one of them is linked.
 use check_counts::weight_at;
 use hash::hash_at;
 use hash::same_hash;
@@ -7,13 +7,11 @@ use lookup::Found;
 use lookup::holds_record;
 use order_find::find_by;
 use place::Place;
-use place::begins;
 use place::same;
 use read_hash::record_hash;
 use slots::bits_of;
 use slots::child_hash;
 use slots::is_leaf;
-use slots::key_of;
 use store::child_count_at;
 use store::child_version_at;
 use store::count_at;
@@ -24,14 +22,11 @@ use terms::Form;
 ghost use mathlib.Core.Path.{_≡_};
 ghost use mathlib.Core.Bool.{true};
 ghost use lib.ListN.{length};
-ghost use Rattle.meaning.specs.Store.{find};
-ghost use Rattle.nodehash.specs.Node.{leafHash, innerHash};
 ghost use Rattle.place.specs.Place.{placeOf, Proper};
 ghost use Rattle.layout.specs.Headers.{sizeRight};
 ghost use Rattle.layout.specs.Stores.{storeOf, Has};
 ghost use Rattle.ordered.specs.Ordered.{Guide};
-ghost use Rattle.rescue_rules.specs.Joining.{recordRight};
-ghost use Rattle.rescue_look.specs.Look.{StandsSay, LowestIn, Sought, Inside, KidSays, WeighsSay, tiedAt};
+ghost use Rattle.rescue_look.specs.Look.{StandsSay, LowestIn, Inside, KidSays, WeighsSay, tiedAt};
 
 // Whether slot i, where its version is right, holds the node at a place.
 fn stands_at(source: &[u8], i: usize, place: Place) -> bool
@@ -120,7 +115,7 @@ fn weighs(source: &[u8], i: usize, right: bool, found: Found) -> bool
 
 // Whether the child on a side of the inner record in slot i is missing, or found at its place with the stored hash and no lone leaf,
 // and the count on that side is right.
-fn linked(
+pub fn linked(
     source: &[u8],
     table: &[u16; 16384],
     many: usize,
@@ -149,31 +144,4 @@ fn linked(
         return other != 0;
     }
     true
-}
-
-// Whether no node was asked for, or it was found and is right: a leaf's key begins with its place, an inner record's children are linked.
-pub fn record_right(
-    source: &[u8],
-    table: &[u16; 16384],
-    many: usize,
-    version: u32,
-    place: Place,
-    found: Found,
-) -> bool
-    requires { ⌜ Sought (now source) version place found × Guide (storeOf (now source) .slots) (now table) many ⌝ }
-    ensures { λ r. ⌜ r ≡ recordRight leafHash innerHash (storeOf (now (source .entry)) .slots) version (placeOf place) (find version (placeOf place) (storeOf (now (source .entry)) .slots)) ⌝ }
-{
-    let Found::At(i) = found else {
-        return version == 0;
-    };
-    let slot = slot_of(Form::Counted, source, i);
-    if is_leaf(slot) {
-        return begins(key_of(slot), place);
-    }
-    let left = place.left();
-    if !linked(source, table, many, i, false, left) {
-        return false;
-    }
-    let right = place.right();
-    linked(source, table, many, i, true, right)
 }

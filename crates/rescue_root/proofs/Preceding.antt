@@ -142,9 +142,9 @@ module _ (s : Bytes) {t : List ℕ} {n k i : ℕ} (size : sizeRight counted (len
   pub before-has : Has counted s i
   before-has = subst (Has counted s) (sym e) (entry-has s size o (k - 1) (omega arith))
 
-  pub located-before : All Byte s → (v : ℕ) {p : Place} {u : ℕ} (f : found.Found) → p ≡ [] → Between (storeOf s .slots) t n (nodeKey v p) k k →
+  pub located-before : All Byte s → (v : ℕ) {p : Place} {u : ℕ} (f : found.Found) → p ≡ [] → Between (storeOf s .slots) t n (nodeKey v []) k k →
       find v [] (storeOf s .slots) ≡ none → u ≡ versionIn (slotIn counted i s) → FoundIn (storeOf s .slots) u p f →
       Located (storeOf s .slots) (newestRoot v (storeOf s .slots)) f
   located-before b v {p} {u} f top w own version h =
-      newest-before o v (subst (λ q. Between (storeOf s .slots) t n (nodeKey v q) k k) top w) own some-before f top
+      newest-before o v w own some-before f top
       (λ r g. version ∙ version-own before-has b r (ap (λ z. getD (storeOf s .slots) z free) e ∙ g)) h

@@ -1,8 +1,9 @@
 // The root record of a version in a source of any contents, document 02, requests 2026-08 and 2026-13.
 use lookup::Found;
 use lookup::holds_record;
-use order_find::find_by;
+use order_find::find_first;
 use order_find::first;
+use order_find::first_near;
 use place::Place;
 use store::count_at;
 use store::retired_at;
@@ -21,7 +22,8 @@ ghost use Rattle.local.specs.Test.{byRecord};
 ghost use Rattle.layout.specs.Headers.{sizeRight};
 ghost use Rattle.layout.specs.Stores.{storeOf, slotNo, Has};
 ghost use Rattle.lookup.specs.Lookup.{Located};
-ghost use Rattle.ordered.specs.Ordered.{Guide, Ordered};
+ghost use Rattle.ordered.specs.Ordered.{nodeKey, Guide, Ordered};
+ghost use Rattle.order_find.specs.Finds.{First};
 ghost use Rattle.rescue_rules.specs.Rescue.{newestRoot};
 ghost use Rattle.rescue_rules.specs.Joining.{rootVersion};
 ghost use Rattle.rescue_root.specs.Roots.{rootAbove};
@@ -73,18 +75,18 @@ fn wide(x: u16) -> usize
     x as usize
 }
 
-// The same by a table, where no root record is of the version itself: that of the entry before, the lowest of its version. Where no entry is before, the scan.
-fn newest_before(source: &[u8], table: &[u16; 16384], many: usize, version: u32) -> Found
-    requires { ⌜ (sizeRight Form.Counted (length (now source)) ≡ true) × (many ≤ 16384) × Ordered (storeOf (now source) .slots) (now table) many × (find version [] (storeOf (now source) .slots) ≡ none) ⌝ }
+// The same by a table, where no root record is of the version itself: that of the entry before entry k, the lowest of its version. Where no entry is before, the scan.
+fn newest_before(source: &[u8], table: &[u16; 16384], many: usize, k: usize, version: u32) -> Found
+    requires { ⌜ (sizeRight Form.Counted (length (now source)) ≡ true) × (many ≤ 16384) × Ordered (storeOf (now source) .slots) (now table) many × First (storeOf (now source) .slots) (now table) many (nodeKey version []) k × (find version [] (storeOf (now source) .slots) ≡ none) ⌝ }
     ensures { λ r. ⌜ Located (storeOf (now (source .entry)) .slots) (newestRoot version (storeOf (now (source .entry)) .slots)) r ⌝ }
 {
-    let top = Place::top();
-    let k = first(source, table, many, version, top);
     if k == 0 {
         return newest_root(source, version);
     }
     let own = version_at(Form::Counted, source, wide(table[k - 1]));
-    find_by(source, table, many, own, top)
+    let top = Place::top();
+    let m = first_near(source, table, many, k - 1, own, top);
+    find_first(source, table, many, m, own, top)
 }
 
 // The same by a table to find by: a root record of the version itself is the newest.
@@ -96,11 +98,12 @@ fn newest_by(source: &[u8], table: &[u16; 16384], many: usize, version: u32) -> 
         return newest_root(source, version);
     }
     let top = Place::top();
-    let found = find_by(source, table, many, version, top);
+    let k = first(source, table, many, version, top);
+    let found = find_first(source, table, many, k, version, top);
     if let Found::At(i) = found {
         return Found::At(i);
     }
-    newest_before(source, table, many, version)
+    newest_before(source, table, many, k, version)
 }
 
 // The version of the root record of a version; 0 where there is none, or where the newest one was retired by then.

@@ -4,20 +4,40 @@ use native.Mathlib.Omega.{arith}
 use mathlib.Core.Path.{_≡_, ap, ap₂, sym, _∙_, subst}
 use mathlib.Core.Bool.{true, false}
 use mathlib.Core.List.{[]}
-use Rattle.terms.specs.Bits.{Bytes}
+use lib.ListN.{length}
+use Rattle.terms.specs.declared.Form.the-variants.{Counted as counted}
+use Rattle.terms.specs.Bits.{Bytes, Byte, All}
 use Rattle.nodehash.specs.Node.{leafHash, innerHash}
 use Rattle.place.specs.declared.Place as place
 use Rattle.place.specs.Place.{placeOf, Stands}
+use Rattle.layout.specs.Headers.{sizeRight}
 use Rattle.layout.specs.Stores.{storeOf}
 use Rattle.rescue_rules.specs.Joining.{rootVersion, newestChild, joinAt}
 use Rattle.rescue_join.specs.declared.Joined as joined
 use Rattle.rescue_join.specs.declared.Joined.the-variants.{Broken, Fits}
-use Rattle.rescue_join.specs.Join.{joinsHere, floorHere, JoinSays}
-use Rattle.rescue_step.specs.Step.{joinsTop, floorTop, Stops, rootless, apart, above, Joins, StepSays}
+use Rattle.rescue_join.specs.Join.{joinsHere, floorHere, JoinSays, RightFrom, RightHere}
+use Rattle.rescue_join.proofs.Rights.{nothing-right, joined-right}
+use Rattle.rescue_step.specs.Step.{joinsTop, floorTop, RightTop, Stops, rootless, apart, above, Joins, StepSays}
 use Rattle.rescue_step.specs.declared.Stepped.the-variants.{No, Yes}
 
 full : (n c : ℕ) → c ≡ 0 → n - c ≡ n
 full n c e = omega arith
+
+-- A right tree is right from the empty place on.
+pub top-right : (s : Bytes) (b : ℕ) {p : place.Place} → Stands [] 0 p → RightTop s b → RightHere s p b
+unfolding RightHere RightTop
+top-right s b {p} top h =
+    subst (RightFrom (256 - p .count) (storeOf s .slots) b) (sym (top .place))
+    (subst (λ n. RightFrom n (storeOf s .slots) b []) (sym (full 256 (p .count) (top .count))) h)
+
+-- There is nothing wrong where there is no tree; and a version that joins a right tree has one.
+pub right-nothing : (s : Bytes) → sizeRight counted (length s) ≡ true → All Byte s → RightTop s 0
+unfolding RightTop
+right-nothing s size bytes = nothing-right s size bytes 256 []
+
+pub right-joined : (s : Bytes) {v next b low a l : ℕ} → Joins s v next b low a l → RightTop s b → RightTop s a
+unfolding RightTop joinsTop
+right-joined s {next = next} {b = b} {a = a} j h = joined-right (storeOf s .slots) next 256 a b [] (j .joins) h
 
 pub step-rootless : (s : Bytes) (v next b low : ℕ) {a : ℕ} → a ≡ rootVersion (storeOf s .slots) v → a ≡ 0 → StepSays s v next b low No
 step-rootless s v next b low r e = rootless (sym r ∙ e)

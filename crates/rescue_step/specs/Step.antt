@@ -8,6 +8,7 @@ use Rattle.terms.specs.Bits.{Bytes}
 use Rattle.nodehash.specs.Node.{leafHash, innerHash}
 use Rattle.layout.specs.Stores.{storeOf}
 use Rattle.rescue_rules.specs.Joining.{rootVersion, newestChild, joinAt}
+use Rattle.rescue_join.specs.Join.{RightFrom}
 use Rattle.rescue_step.specs.declared.Stepped as declared
 use Rattle.rescue_step.specs.declared.Stepped.the-variants.{No, Yes}
 
@@ -18,6 +19,10 @@ joinsTop s next a b = joinAt leafHash innerHash 256 (storeOf s .slots) next a b 
 
 unfoldable pub floorTop : Bytes → ℕ → ℕ → ℕ
 floorTop s a b = newestChild 256 (storeOf s .slots) a b []
+
+-- Each record of the tree of a root of version b is right.
+unfoldable pub RightTop : Bytes → ℕ → Type 0
+RightTop s b = RightFrom 256 (storeOf s .slots) b []
 
 -- Version v doesn't join: it has no root, or its tree doesn't join, or a run that begins there would be too early.
 pub data Stops (s : Bytes) (v next b low : ℕ) : Type 0 where

@@ -11,7 +11,7 @@ ghost use lib.ListN.{length};
 ghost use Rattle.layout.specs.Headers.{sizeRight};
 ghost use Rattle.layout.specs.Stores.{storeOf};
 ghost use Rattle.ordered.specs.Ordered.{Guide};
-ghost use Rattle.rescue_step.specs.Step.{StepSays};
+ghost use Rattle.rescue_step.specs.Step.{StepSays, RightTop};
 
 pub enum Stepped {
     No,
@@ -19,8 +19,8 @@ pub enum Stepped {
     Yes { root: u32, floor: u32 },
 }
 
-// Whether version v joins the tree of the version `next`, whose root is of version b; `low` is the floor of the run up to now. All three are 0
-// where there is no next version.
+// Whether version v joins the tree of the version `next`, which is right and whose root is of version b; `low` is the floor of the run up to now. All three
+// are 0 where there is no next version.
 pub fn step(
     source: &[u8],
     table: &[u16; 16384],
@@ -30,7 +30,7 @@ pub fn step(
     b: u32,
     low: u32,
 ) -> Stepped
-    requires { ⌜ (sizeRight Form.Counted (length (now source)) ≡ true) × Guide (storeOf (now source) .slots) (now table) many ⌝ }
+    requires { ⌜ (sizeRight Form.Counted (length (now source)) ≡ true) × Guide (storeOf (now source) .slots) (now table) many × RightTop (now source) b ⌝ }
     ensures { λ r. ⌜ StepSays (now (source .entry)) v next b low r ⌝ }
 {
     let a = root_version(source, table, many, v);

@@ -5,6 +5,7 @@ use borrow.Author.Tests.{not-true, not-false}
 use Rattle.terms.specs.Bits.{Byte}
 use Rattle.terms.proofs.Lists.{all-of}
 use Rattle.rescue_step.specs.Step.{StepSays}
+use Rattle.rescue_step.proofs.Stepping.{right-nothing}
 use Rattle.rescue.proofs.Answering.{wrong-source, wrong-target, disordered, fillable, no-run, kept}
 use borrow.Author.Needs.{needs}
 use Rattle.rescue.proofs.rescue.Statement.{statement}
@@ -32,6 +33,9 @@ else2-from-guide c = c .before .before .before
 
 abbrev else3-from-guide : tie.After-guide → tie.Else3
 else3-from-guide c = c .before .before
+
+abbrev shared-slice-known-from-guide : tie.After-guide → tie.After-shared-slice-known
+shared-slice-known-from-guide c = size-right-from-guide c .before .before
 
 abbrev start-from-size-right : tie.After-size-right → tie.Start
 start-from-size-right c = c .before .before .before
@@ -65,7 +69,9 @@ guide-requires c κs = sym (size-right-from-table c .size-right .ensures) ∙ no
 step-requires : tie.Need-step-requires
 step-requires c κs =
     let after-guide = c .before in
-    (sym (size-right-from-guide after-guide .size-right .ensures) ∙ not-false _ (else1-from-guide after-guide .if1 .left), after-guide .guide .ensures)
+    let s = start-from-guide after-guide .args .source .now in
+    let size = sym (size-right-from-guide after-guide .size-right .ensures) ∙ not-false _ (else1-from-guide after-guide .if1 .left) in
+    (size, after-guide .guide .ensures, right-nothing s size (all-of Byte s 0 (λ i _. omega (arith, shared-slice-known-from-guide after-guide .shared-slice-known .given i))))
 
 enum-known-tested : tie.Need-enum-known-tested
 enum-known-tested c =

@@ -238,7 +238,7 @@ sub-step c =
 step-requires : tie.Need-step-requires Inv-loop μ-loop
 step-requires c κs =
     let start = start-from-else1 (c .before) in
-    (start .pre .0 .size, start .pre .1)
+    (start .pre .0 .size, start .pre .1, at-loop-from-else1 (c .before) .loop .inv .right)
 
 enum-known-stepped : tie.Need-enum-known-stepped Inv-loop μ-loop
 enum-known-stepped c =

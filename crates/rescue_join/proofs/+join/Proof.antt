@@ -3,11 +3,13 @@ use Prim.Native.Nat.{ℕ, _-_, _<_}
 use native.Mathlib.Omega.{arith}
 use mathlib.Core.Path.{refl, sym, _∙_, subst}
 use borrow.Author.Tests.{not-true, not-false}
+use Rattle.terms.specs.Bits.{left, right}
 use Rattle.place.specs.Place.{placeOf}
 use Rattle.layout.specs.Stores.{storeOf}
 use Rattle.rescue_look.proofs.Looking.{inside-of}
 use Rattle.rescue_join.specs.Join.{JoinSays}
 use Rattle.rescue_join.proofs.Joining.{joins-same, joins-apart, joins-wrong, joins-end, left-broken, right-broken, both-fit}
+use Rattle.rescue_join.proofs.Rights.{right-here, right-side}
 use borrow.Author.Needs.{needs}
 use borrow.Fn.Kinds.{In}
 use borrow.Fn.PlainCycle.{Measures, is, falls, and}
@@ -17,7 +19,7 @@ use Rattle.rescue_join.proofs.+join.Lts-join as join-lts
 use Rattle.rescue_join.proofs.of_next.Reads as of-next-reads
 use Rattle.rescue_join.proofs.newer.Reads as newer-reads
 use Rattle.rescue_look.proofs.lowest.Reads as lowest-reads
-use Rattle.rescue_look.proofs.record_right.Reads as record-right-reads
+use Rattle.rescue_right.proofs.record_right.Reads as record-right-reads
 use Rattle.rescue_look.proofs.kid.Reads as kid-reads
 use Rattle.check_kin.proofs.later.Reads as later-reads
 use Rattle.place.proofs.Place.left.Reads as left-reads
@@ -61,13 +63,16 @@ abbrev join-kid4-from-join : (t : ℕ) → join-lts.After-join (join-calls t) (j
 join-kid4-from-join t c = c .before .before
 
 abbrev join-lowest-from-else3 : (t : ℕ) → join-lts.Else3 (join-calls t) (join-at t) join.Post → join-lts.After-lowest (join-calls t) (join-at t) join.Post
-join-lowest-from-else3 t c = c .before .before
+join-lowest-from-else3 t c = c .before .before .before
 
-abbrev join-lowest-from-lowest2 : (t : ℕ) → join-lts.After-lowest2 (join-calls t) (join-at t) join.Post → join-lts.After-lowest (join-calls t) (join-at t) join.Post
-join-lowest-from-lowest2 t c = join-lowest-from-else3 t (c .before .before .before)
+abbrev join-else3-from-else4 : (t : ℕ) → join-lts.Else4 (join-calls t) (join-at t) join.Post → join-lts.Else3 (join-calls t) (join-at t) join.Post
+join-else3-from-else4 t c = c .before .before
+
+abbrev join-lowest2-from-else4 : (t : ℕ) → join-lts.Else4 (join-calls t) (join-at t) join.Post → join-lts.After-lowest2 (join-calls t) (join-at t) join.Post
+join-lowest2-from-else4 t c = join-else3-from-else4 t c .before .before
 
 abbrev join-lowest2-from-kid2 : (t : ℕ) → join-lts.After-kid2 (join-calls t) (join-at t) join.Post → join-lts.After-lowest2 (join-calls t) (join-at t) join.Post
-join-lowest2-from-kid2 t c = c .before .before
+join-lowest2-from-kid2 t c = join-lowest2-from-else4 t (c .before .before)
 
 abbrev join-else1-from-else2 : (t : ℕ) → join-lts.Else2 (join-calls t) (join-at t) join.Post → join-lts.Else1 (join-calls t) (join-at t) join.Post
 join-else1-from-else2 t c = c .before .before
@@ -82,10 +87,10 @@ abbrev join-start-from-lowest : (t : ℕ) → join-lts.After-lowest (join-calls 
 join-start-from-lowest t c = join-start-from-else2 t (c .before)
 
 abbrev join-start-from-else4 : (t : ℕ) → join-lts.Else4 (join-calls t) (join-at t) join.Post → join-lts.Start (join-calls t) (join-at t) join.Post
-join-start-from-else4 t c = join-start-from-lowest t (c .before .before .before .before)
+join-start-from-else4 t c = join-start-from-lowest t (join-lowest-from-else3 t (join-else3-from-else4 t c))
 
 abbrev join-start-from-lowest2 : (t : ℕ) → join-lts.After-lowest2 (join-calls t) (join-at t) join.Post → join-lts.Start (join-calls t) (join-at t) join.Post
-join-start-from-lowest2 t c = join-start-from-else4 t (c .before)
+join-start-from-lowest2 t c = join-start-from-lowest t (c .before)
 
 join-returns : (t : ℕ) → join-lts.Need-returns (join-calls t) (join-at t) join.Post
 join-returns t c =
@@ -103,17 +108,27 @@ join-returns-2 t c =
     joins-apart (start .args .source .now) (start .args .next) (start .args .place) (start .args .a) (start .args .b) (after-of-next .before .if1 .left) (after-of-next .of-next .ensures) (not-true _ (c .if2 .taken))
 
 join-lowest-requires : (t : ℕ) → join-lts.Need-lowest-requires (join-calls t) (join-at t) join.Post
-join-lowest-requires t c κs = join-start-from-else2 t c .pre .1
+join-lowest-requires t c κs =
+    let start = join-start-from-else2 t c in
+    (start .pre .1 .0, start .pre .1 .1, start .pre .1 .2)
+
+join-lowest-requires-2 : (t : ℕ) → join-lts.Need-lowest-requires-2 (join-calls t) (join-at t) join.Post
+join-lowest-requires-2 t c κs =
+    let start = join-start-from-lowest t c in
+    (start .pre .1 .0, start .pre .1 .1, start .pre .1 .2)
 
 join-record-right-requires : (t : ℕ) → join-lts.Need-record-right-requires (join-calls t) (join-at t) join.Post
 join-record-right-requires t c κs =
-    let start = join-start-from-lowest t c in
-    (record { size = start .pre .1 .0; proper = start .pre .1 .1; lowest = c .lowest .ensures }, start .pre .1 .2)
+    let start = join-start-from-lowest2 t c in (
+      record { size = start .pre .1 .0; proper = start .pre .1 .1; lowest = c .before .lowest .ensures },
+      start .pre .1 .2,
+      record { version = start .args .b; lowest = c .lowest2 .ensures; right = right-here (start .args .source .now) (start .args .place) (start .args .b) (start .pre .1 .3) },
+    )
 
 join-returns-3 : (t : ℕ) → join-lts.Need-returns-3 (join-calls t) (join-at t) join.Post
 join-returns-3 t c =
     let after-record-right = c .before in
-    let else2 = after-record-right .before .before in
+    let else2 = after-record-right .before .before .before in
     let start = join-start-from-else2 t else2 in
     joins-wrong (start .args .source .now) (start .args .next) (start .args .place) (start .args .a) (start .args .b) (join-else1-from-else2 t else2 .if1 .left) (else2 .before .of-next .ensures) (not-false _ (else2 .if2 .left))
     (after-record-right .record-right .ensures) (not-true _ (c .if3 .taken))
@@ -122,23 +137,20 @@ join-returns-4 : (t : ℕ) → join-lts.Need-returns-4 (join-calls t) (join-at t
 join-returns-4 t c =
     let else3 = c .before .before in
     let after-record-right = else3 .before in
-    let else2 = after-record-right .before .before in
+    let else2 = after-record-right .before .before .before in
     let start = join-start-from-else2 t else2 in
     joins-end (start .args .source .now) (start .args .next) (start .args .place) (start .args .a) (start .args .b) (join-else1-from-else2 t else2 .if1 .left) (else2 .before .of-next .ensures) (not-false _ (else2 .if2 .left))
     (after-record-right .record-right .ensures) (not-false _ (else3 .if3 .left)) (c .if4 .taken)
 
-join-lowest-requires-2 : (t : ℕ) → join-lts.Need-lowest-requires-2 (join-calls t) (join-at t) join.Post
-join-lowest-requires-2 t c κs = join-start-from-else4 t c .pre .1
-
 join-kid-requires : (t : ℕ) → join-lts.Need-kid-requires (join-calls t) (join-at t) join.Post
 join-kid-requires t c κs =
-    let after-lowest = join-lowest-from-lowest2 t c in
+    let after-lowest = join-lowest2-from-else4 t c .before in
     let start = join-start-from-lowest t after-lowest in
     inside-of (start .args .source .now) (start .pre .1 .0) (start .args .a) (placeOf (start .args .place)) (after-lowest .lowest .result) (after-lowest .lowest .ensures)
 
 join-kid-requires-2 : (t : ℕ) → join-lts.Need-kid-requires-2 (join-calls t) (join-at t) join.Post
 join-kid-requires-2 t c κs =
-    let after-lowest = join-lowest-from-lowest2 t (c .before) in
+    let after-lowest = join-lowest2-from-else4 t (c .before) .before in
     let start = join-start-from-lowest t after-lowest in
     inside-of (start .args .source .now) (start .pre .1 .0) (start .args .a) (placeOf (start .args .place)) (after-lowest .lowest .result) (after-lowest .lowest .ensures)
 
@@ -156,14 +168,23 @@ join-kid-requires-4 t c κs =
 
 join-left-requires : (t : ℕ) → join-lts.Need-left-requires (join-calls t) (join-at t) join.Post
 join-left-requires t c κs =
-    let else4 = c .before .before .before .before .before in
+    let else4 = c .before .before .before .before in
     (join-start-from-else4 t else4 .pre .1 .1, else4 .if4 .left)
 
 join-join-requires : (t : ℕ) → join-lts.Need-join-requires (join-calls t) (join-at t) join.Post
 join-join-requires t c κs =
-    let after-lowest2 = c .before .before .before .before .before in
-    let start = join-start-from-lowest2 t after-lowest2 in
-    (omega (arith, start .pre .0, c .left .ensures .count, after-lowest2 .before .if4 .left), (start .pre .1 .0, c .left .ensures .proper, start .pre .1 .2))
+    let else4 = c .before .before .before .before .before in
+    let start = join-start-from-else4 t else4 in
+    let p = placeOf (start .args .place) in (
+      omega (arith, start .pre .0, c .left .ensures .count, else4 .if4 .left),
+      (
+        start .pre .1 .0,
+        c .left .ensures .proper,
+        start .pre .1 .2,
+        right-side (start .args .source .now) (start .args .place) (start .args .b) (start .pre .1 .3) (else4 .if4 .left) left (c .left .ensures)
+            (c .before .before .kid3 .ensures (start .args .b) p (join-lowest2-from-else4 t else4 .lowest2 .ensures)),
+      ),
+    )
 
 join-enum-known-on-left : (t : ℕ) → join-lts.Need-enum-known-on-left (join-calls t) (join-at t) join.Post
 join-enum-known-on-left t c =
@@ -179,10 +200,10 @@ join-returns-5 t c =
     let after-left = after-join .before in
     let after-kid3 = after-left .before .before in
     let after-kid = after-kid3 .before .before in
-    let after-lowest2 = after-kid .before in
-    let else4 = after-lowest2 .before in
-    let else3 = else4 .before .before in
-    let else2 = else3 .before .before .before in
+    let else4 = after-kid .before in
+    let else3 = join-else3-from-else4 t else4 in
+    let after-lowest2 = join-lowest2-from-else4 t else4 in
+    let else2 = after-lowest2 .before .before in
     let start = join-start-from-else2 t else2 in
     let p = placeOf (start .args .place) in
     let s = start .args .source .now in
@@ -194,15 +215,24 @@ join-returns-5 t c =
 join-right-requires : (t : ℕ) → join-lts.Need-right-requires (join-calls t) (join-at t) join.Post
 join-right-requires t c κs =
     let after-kid4 = c .before .before .before .before .before in
-    let else4 = after-kid4 .before .before .before .before .before in
+    let else4 = after-kid4 .before .before .before .before in
     (join-start-from-else4 t else4 .pre .1 .1, else4 .if4 .left)
 
 join-join-requires-2 : (t : ℕ) → join-lts.Need-join-requires-2 (join-calls t) (join-at t) join.Post
 join-join-requires-2 t c κs =
     let after-left = c .before .before .before .before .before in
-    let after-lowest2 = after-left .before .before .before .before .before in
-    let start = join-start-from-lowest2 t after-lowest2 in
-    (omega (arith, start .pre .0, c .right .ensures .count, after-lowest2 .before .if4 .left), (start .pre .1 .0, c .right .ensures .proper, start .pre .1 .2))
+    let else4 = after-left .before .before .before .before .before in
+    let start = join-start-from-else4 t else4 in
+    let p = placeOf (start .args .place) in (
+      omega (arith, start .pre .0, c .right .ensures .count, else4 .if4 .left),
+      (
+        start .pre .1 .0,
+        c .right .ensures .proper,
+        start .pre .1 .2,
+        right-side (start .args .source .now) (start .args .place) (start .args .b) (start .pre .1 .3) (else4 .if4 .left) right (c .right .ensures)
+            (after-left .before .kid4 .ensures (start .args .b) p (join-lowest2-from-else4 t else4 .lowest2 .ensures)),
+      ),
+    )
 
 join-enum-known-on-right : (t : ℕ) → join-lts.Need-enum-known-on-right (join-calls t) (join-at t) join.Post
 join-enum-known-on-right t c =
@@ -218,9 +248,9 @@ join-returns-6 t c =
     let after-right = after-join2 .before in
     let after-kid4 = join-kid4-from-join t (after-right .before .before .before .before) in
     let after-kid2 = after-kid4 .before .before in
-    let else4 = after-kid2 .before .before .before in
-    let else3 = else4 .before .before in
-    let else2 = else3 .before .before .before in
+    let else4 = after-kid2 .before .before in
+    let else3 = join-else3-from-else4 t else4 in
+    let else2 = join-lowest2-from-else4 t else4 .before .before in
     let start = join-start-from-else2 t else2 in
     let p = placeOf (start .args .place) in
     let s = start .args .source .now in
@@ -263,10 +293,10 @@ join-returns-7 t c =
     let after-kid4 = join-kid4-from-join t after-join in
     let after-kid3 = after-kid4 .before in
     let after-kid2 = after-kid3 .before in
-    let after-lowest2 = join-lowest2-from-kid2 t after-kid2 in
-    let else4 = after-lowest2 .before in
-    let else3 = else4 .before .before in
-    let after-lowest = join-lowest-from-else3 t else3 in
+    let else4 = after-kid2 .before .before in
+    let else3 = join-else3-from-else4 t else4 in
+    let after-lowest2 = join-lowest2-from-else4 t else4 in
+    let after-lowest = after-lowest2 .before in
     let else2 = after-lowest .before in
     let start = join-start-from-else2 t else2 in
     let p = placeOf (start .args .place) in
@@ -286,10 +316,10 @@ pub +join-spec : {M : Type 1} → statement M
     (join-of-next-requires t)
     (join-returns-2 t)
     (join-lowest-requires t)
+    (join-lowest-requires-2 t)
     (join-record-right-requires t)
     (join-returns-3 t)
     (join-returns-4 t)
-    (join-lowest-requires-2 t)
     (join-kid-requires t)
     (join-kid-requires-2 t)
     (join-kid-requires-3 t)

@@ -1,6 +1,6 @@
 -- `rescue_step::step` meets its contract: the root, the trees, the floor. Assumes nothing.
 use native.Mathlib.Omega.{arith}
-use Rattle.rescue_step.proofs.Stepping.{step-rootless, step-apart, step-above, step-joins}
+use Rattle.rescue_step.proofs.Stepping.{top-right, step-rootless, step-apart, step-above, step-joins}
 use borrow.Author.Needs.{needs}
 use Rattle.rescue_step.proofs.step.Statement.{statement}
 use Rattle.rescue_step.proofs.step.Tie as tie
@@ -17,7 +17,8 @@ start-from-else1 c = start-from-root-version (c .before)
 
 root-version-requires : tie.Need-root-version-requires
 root-version-requires c κs =
-    (c .before) .pre
+    let start = c .before in
+    (start .pre .0, start .pre .1)
 
 returns : tie.Need-returns
 returns c =
@@ -31,7 +32,7 @@ top-requires c κs =
 join-requires : tie.Need-join-requires
 join-requires c κs =
     let start = start-from-else1 (c .before) in
-    (start .pre .0, c .top .ensures .proper, start .pre .1)
+    (start .pre .0, c .top .ensures .proper, start .pre .1, top-right (start .args .source .now) (start .args .b) (c .top .ensures) (start .pre .2))
 
 enum-known-joined : tie.Need-enum-known-joined
 enum-known-joined c =

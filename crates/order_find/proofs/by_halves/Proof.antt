@@ -1,4 +1,4 @@
--- `order_find::first` meets its contract: the entries before lo are before the node, those from hi on are not. Assumes nothing.
+-- `order_find::by_halves` meets its contract: the entries before lo are before the node, those from hi on are not. Assumes nothing.
 use native.Mathlib.Omega.{arith}
 use Prim.Native.Nat.{suc, _+_, _-_, _/_, _≤_, _<_}
 use mathlib.Core.Path.{_≡_, sym, _∙_, subst}
@@ -11,8 +11,8 @@ use Rattle.ordered.proofs.Ordered.{between-start, between-above, between-below}
 use Rattle.order_look.specs.Looks.{headKey}
 use Rattle.order_find.proofs.Found.{place-key, entry-has, looked-before, looked-after, looked-same}
 use borrow.Author.Needs.{needs}
-use Rattle.order_find.proofs.first.Statement.{statement}
-use Rattle.order_find.proofs.first.Tie as tie
+use Rattle.order_find.proofs.by_halves.Statement.{statement}
+use Rattle.order_find.proofs.by_halves.Tie as tie
 
 abbrev Inv-loop : tie.InvT-loop
 Inv-loop store table many version bits count lo₀ hi₀ lo hi = Between (storeOf store .slots) table many (headKey count bits version) lo hi × (many ≤ 16384)
@@ -162,8 +162,8 @@ returns c =
     subst (λ q. Between (storeOf (a .store .now) .slots) (a .table .now) (a .many) q (at-loop .loop .lo) (at-loop .loop .lo)) (place-key (a .version) (a .place) (start .pre .3))
     (subst (Between (storeOf (a .store .now) .slots) (a .table .now) (a .many) (headKey (a .place .count) (a .place .bits) (a .version)) (at-loop .loop .lo)) e w)
 
-pub first-spec : {M : Type 1} → statement M
-first-spec =
+pub by-halves-spec : {M : Type 1} → statement M
+by-halves-spec =
     tie.close
     (tie.spec
     Inv-loop
