@@ -1,7 +1,6 @@
 -- `check_kin::root_apart` meets its contract: one early return for each field that tells. Assumes nothing.
 use native.Mathlib.Omega.{arith}
 use mathlib.Core.Path.{sym, _∙_}
-use borrow.Author.Tests.{not-false}
 use Rattle.terms.specs.Bits.{Byte}
 use Rattle.terms.proofs.Lists.{all-of}
 use Rattle.store.proofs.Slots.{slot-within}
