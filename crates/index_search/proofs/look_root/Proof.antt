@@ -12,6 +12,13 @@ use Rattle.index_search.proofs.Looked.{root-unformed, root-deep, root-l
 use Rattle.index_search.proofs.look_root.Statement.{statement}
 use Rattle.index_search.proofs.look_root.Tie as tie
 
+-- `A-from-B` is the state A as the later state B has it.
+abbrev start-from-else1 : tie.Else1 → tie.Start
+start-from-else1 c = c .before .before .before .before
+
+abbrev start-from-else2 : tie.Else2 → tie.Start
+start-from-else2 c = start-from-else1 (c .before .before)
+
 slot-of-requires : tie.Need-slot-of-requires
 slot-of-requires c κs = slot-within (c .before .pre)
 
@@ -28,7 +35,7 @@ returns c =
     root-unformed (start .pre) (all-of Byte (start .args .store .now) 0 (λ i _. omega (arith, known .shared-slice-known .given i))) (start .args .version) (sym (held .holds-record .ensures ∙ ap (λ x. isUsed (slotOf x)) (slot .slot-of .ensures .0)) ∙ not-true _ (formed .if1 .taken))
 
 count-at-requires : tie.Need-count-at-requires
-count-at-requires c κs = slot-within (c .before .before .before .before .pre)
+count-at-requires c κs = slot-within (start-from-else1 c .pre)
 
 returns-2 : tie.Need-returns-2
 returns-2 c =
@@ -42,7 +49,7 @@ returns-2 c =
     root-deep (start .pre) (all-of Byte (start .args .store .now) 0 (λ i _. omega (arith, known .shared-slice-known .given i))) (start .args .version) (sym (held .holds-record .ensures ∙ ap (λ x. isUsed (slotOf x)) (slot .slot-of .ensures .0)) ∙ not-false _ (formed .if1 .left)) (λ e. deep .if2 .taken (count .count-at .ensures ∙ e))
 
 version-at-requires : tie.Need-version-at-requires
-version-at-requires c κs = slot-within (c .before .before .before .before .before .before .pre)
+version-at-requires c κs = slot-within (start-from-else2 c .pre)
 
 returns-3 : tie.Need-returns-3
 returns-3 c =
@@ -58,7 +65,7 @@ returns-3 c =
     root-later (start .pre) (all-of Byte (start .args .store .now) 0 (λ i _. omega (arith, known .shared-slice-known .given i))) (start .args .version) (sym (held .holds-record .ensures ∙ ap (λ x. isUsed (slotOf x)) (slot .slot-of .ensures .0)) ∙ not-false _ (formed .if1 .left)) (sym (count .count-at .ensures) ∙ shallow .if2 .left) (omega (arith, from .version-at .ensures, late .if3 .taken))
 
 retired-at-requires : tie.Need-retired-at-requires
-retired-at-requires c κs = slot-within (c .before .before .before .before .before .before .before .before .pre)
+retired-at-requires c κs = slot-within (start-from-else2 (c .before .before) .pre)
 
 covers-requires : tie.Need-covers-requires
 covers-requires c κs = search needs
