@@ -22,11 +22,17 @@ start-from-slot-of c = c .before .before
 abbrev slot-of-from-bits-of : tie.After-bits-of → tie.After-slot-of
 slot-of-from-bits-of c = c .before .before .before
 
+abbrev slot-of-from-before2 : tie.After-before2 → tie.After-slot-of
+slot-of-from-before2 c = slot-of-from-bits-of (c .before)
+
 abbrev slot-of-from-else1 : tie.Else1 → tie.After-slot-of
-slot-of-from-else1 c = slot-of-from-bits-of (c .before .before)
+slot-of-from-else1 c = slot-of-from-before2 (c .before)
 
 abbrev slot-of-from-else2 : tie.Else2 → tie.After-slot-of
 slot-of-from-else2 c = slot-of-from-else1 (c .before .before)
+
+abbrev else1-from-else2 : tie.Else2 → tie.Else1
+else1-from-else2 c = c .before .before
 
 abbrev else2-from-before3 : tie.After-before3 → tie.Else2
 else2-from-before3 c = c .before .before .before
@@ -87,18 +93,20 @@ before-requires c κs = search needs
 
 returns : tie.Need-returns
 returns c =
-    let after-slot-of = slot-of-from-bits-of (c .before .before) in
+    let after-before2 = c .before in
+    let after-slot-of = slot-of-from-before2 after-before2 in
     let start = start-from-slot-of after-slot-of in
-    bits-above (start .pre .0) (all-bytes after-slot-of) (start .args .version) (start .args .place) (start .pre .1) (sym (above-is (c .before)) ∙ c .if1 .taken)
+    bits-above (start .pre .0) (all-bytes after-slot-of) (start .args .version) (start .args .place) (start .pre .1) (sym (above-is after-before2) ∙ c .if1 .taken)
 
 holds-record-requires : tie.Need-holds-record-requires
 holds-record-requires c κs = search needs
 
 returns-2 : tie.Need-returns-2
 returns-2 c =
-    let after-slot-of = slot-of-from-else1 (c .before .before) in
+    let after-holds-record = c .before in
+    let after-slot-of = slot-of-from-before2 (after-holds-record .before .before) in
     let start = start-from-slot-of after-slot-of in
-    unformed (start .pre .0) (all-bytes after-slot-of) (start .args .version) (start .args .place) (start .pre .1) (sym (form-is (c .before)) ∙ not-true _ (c .if2 .taken))
+    unformed (start .pre .0) (all-bytes after-slot-of) (start .args .version) (start .args .place) (start .pre .1) (sym (form-is after-holds-record) ∙ not-true _ (c .if2 .taken))
 
 bits-of-requires-2 : tie.Need-bits-of-requires-2
 bits-of-requires-2 c κs = search needs
@@ -129,7 +137,7 @@ returns-4 c =
     let else2 = else2-from-else3 else3 in
     let after-slot-of = slot-of-from-else2 else2 in
     let start = start-from-slot-of after-slot-of in
-    count-small (start .pre .0) (all-bytes after-slot-of) (start .args .version) (start .args .place) (start .pre .1) (formed else2) (not-below else3) (not-above (else2 .before .before)) (omega (arith, after-count-at .count-at .ensures, c .if4 .taken))
+    count-small (start .pre .0) (all-bytes after-slot-of) (start .args .version) (start .args .place) (start .pre .1) (formed else2) (not-below else3) (not-above (else1-from-else2 else2)) (omega (arith, after-count-at .count-at .ensures, c .if4 .taken))
 
 returns-5 : tie.Need-returns-5
 returns-5 c =
@@ -138,7 +146,7 @@ returns-5 c =
     let else2 = else2-from-else3 else3 in
     let after-slot-of = slot-of-from-else2 else2 in
     let start = start-from-slot-of after-slot-of in
-    count-great (start .pre .0) (all-bytes after-slot-of) (start .args .version) (start .args .place) (start .pre .1) (formed else2) (not-below else3) (not-above (else2 .before .before)) (omega (arith, after-count-at .count-at .ensures, c .if5 .taken))
+    count-great (start .pre .0) (all-bytes after-slot-of) (start .args .version) (start .args .place) (start .pre .1) (formed else2) (not-below else3) (not-above (else1-from-else2 else2)) (omega (arith, after-count-at .count-at .ensures, c .if5 .taken))
 
 version-at-requires : tie.Need-version-at-requires
 version-at-requires c κs = slot-within (start-from-slot-of (slot-of-from-else2 (else2-from-else3 (else3-from-else5 c))) .pre .0)
@@ -151,7 +159,7 @@ returns-6 c =
     let else2 = else2-from-else3 else3 in
     let after-slot-of = slot-of-from-else2 else2 in
     let start = start-from-slot-of after-slot-of in
-    version-small (start .pre .0) (all-bytes after-slot-of) (start .args .version) (start .args .place) (start .pre .1) (formed else2) (not-below else3) (not-above (else2 .before .before)) (same-count else5) (omega (arith, after-version-at .version-at .ensures, c .if6 .taken))
+    version-small (start .pre .0) (all-bytes after-slot-of) (start .args .version) (start .args .place) (start .pre .1) (formed else2) (not-below else3) (not-above (else1-from-else2 else2)) (same-count else5) (omega (arith, after-version-at .version-at .ensures, c .if6 .taken))
 
 returns-7 : tie.Need-returns-7
 returns-7 c =
@@ -161,17 +169,18 @@ returns-7 c =
     let else2 = else2-from-else3 else3 in
     let after-slot-of = slot-of-from-else2 else2 in
     let start = start-from-slot-of after-slot-of in
-    version-great (start .pre .0) (all-bytes after-slot-of) (start .args .version) (start .args .place) (start .pre .1) (formed else2) (not-below else3) (not-above (else2 .before .before)) (same-count else5) (omega (arith, after-version-at .version-at .ensures, c .if7 .taken))
+    version-great (start .pre .0) (all-bytes after-slot-of) (start .args .version) (start .args .place) (start .pre .1) (formed else2) (not-below else3) (not-above (else1-from-else2 else2)) (same-count else5) (omega (arith, after-version-at .version-at .ensures, c .if7 .taken))
 
 returns-8 : tie.Need-returns-8
 returns-8 c =
-    let after-version-at = c .before .before in
+    let else6 = c .before in
+    let after-version-at = else6 .before in
     let else5 = after-version-at .before in
     let else3 = else3-from-else5 else5 in
     let else2 = else2-from-else3 else3 in
     let after-slot-of = slot-of-from-else2 else2 in
     let start = start-from-slot-of after-slot-of in
-    meeting (start .pre .0) (all-bytes after-slot-of) (start .args .version) (start .args .place) (start .pre .1) (formed else2) (not-below else3) (not-above (else2 .before .before)) (same-count else5) (omega (arith, after-version-at .version-at .ensures, c .before .if6 .left, c .if7 .left))
+    meeting (start .pre .0) (all-bytes after-slot-of) (start .args .version) (start .args .place) (start .pre .1) (formed else2) (not-below else3) (not-above (else1-from-else2 else2)) (same-count else5) (omega (arith, after-version-at .version-at .ensures, else6 .if6 .left, c .if7 .left))
 
 pub look-node-spec : {M : Type 1} → statement M
 look-node-spec =

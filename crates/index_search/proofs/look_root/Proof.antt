@@ -26,11 +26,20 @@ start-from-else1 c = start-from-holds-record (c .before)
 abbrev start-from-else2 : tie.Else2 → tie.Start
 start-from-else2 c = start-from-else1 (c .before .before)
 
+abbrev holds-record-from-else2 : tie.Else2 → tie.After-holds-record
+holds-record-from-else2 c = c .before .before .before
+
+abbrev else1-from-else2 : tie.Else2 → tie.Else1
+else1-from-else2 c = c .before .before
+
 abbrev start-from-else3 : tie.Else3 → tie.Start
 start-from-else3 c = start-from-else2 (c .before .before)
 
 abbrev else2-from-else3 : tie.Else3 → tie.Else2
 else2-from-else3 c = c .before .before
+
+abbrev else3-from-covers : tie.After-covers → tie.Else3
+else3-from-covers c = c .before .before
 
 -- The bytes of the slot that is looked at.
 abbrev slot : tie.Start → Bytes
@@ -75,19 +84,21 @@ count-at-requires c κs = slot-within (start-from-else1 c .pre)
 
 returns-2 : tie.Need-returns-2
 returns-2 c =
-    let else1 = c .before .before in
-    let start = start-from-else1 else1 in
-    root-deep (start .pre) (all-bytes (else1 .before)) (start .args .version) (formed else1) (λ e. c .if2 .taken (c .before .count-at .ensures ∙ e))
+    let after-count-at = c .before in
+    let else1 = after-count-at .before in
+    let after-holds-record = else1 .before in
+    let start = start-from-holds-record after-holds-record in
+    root-deep (start .pre) (all-bytes after-holds-record) (start .args .version) (formed else1) (λ e. c .if2 .taken (after-count-at .count-at .ensures ∙ e))
 
 version-at-requires : tie.Need-version-at-requires
 version-at-requires c κs = slot-within (start-from-else2 c .pre)
 
 returns-3 : tie.Need-returns-3
 returns-3 c =
-    let else2 = c .before .before in
-    let else1 = else2 .before .before in
-    let start = start-from-else1 else1 in
-    root-later (start .pre) (all-bytes (else1 .before)) (start .args .version) (formed else1) (at-top else2) (omega (arith, c .before .version-at .ensures, c .if3 .taken))
+    let after-version-at = c .before in
+    let else2 = after-version-at .before in
+    let start = start-from-else2 else2 in
+    root-later (start .pre) (all-bytes (holds-record-from-else2 else2)) (start .args .version) (formed (else1-from-else2 else2)) (at-top else2) (omega (arith, after-version-at .version-at .ensures, c .if3 .taken))
 
 retired-at-requires : tie.Need-retired-at-requires
 retired-at-requires c κs = slot-within (start-from-else3 c .pre)
@@ -97,19 +108,19 @@ covers-requires c κs = search needs
 
 returns-4 : tie.Need-returns-4
 returns-4 c =
-    let else3 = c .before .before .before in
+    let after-covers = c .before in
+    let else3 = else3-from-covers after-covers in
     let else2 = else2-from-else3 else3 in
-    let else1 = else2 .before .before in
-    let start = start-from-else1 else1 in
-    root-ended (start .pre) (all-bytes (else1 .before)) (start .args .version) (formed else1) (at-top else2) (begun else3) (sym (covered-is (c .before)) ∙ not-true _ (c .if4 .taken))
+    let start = start-from-else2 else2 in
+    root-ended (start .pre) (all-bytes (holds-record-from-else2 else2)) (start .args .version) (formed (else1-from-else2 else2)) (at-top else2) (begun else3) (sym (covered-is after-covers) ∙ not-true _ (c .if4 .taken))
 
 returns-5 : tie.Need-returns-5
 returns-5 c =
-    let else3 = c .before .before .before in
+    let after-covers = c .before in
+    let else3 = else3-from-covers after-covers in
     let else2 = else2-from-else3 else3 in
-    let else1 = else2 .before .before in
-    let start = start-from-else1 else1 in
-    root-covered (start .pre) (all-bytes (else1 .before)) (start .args .version) (formed else1) (at-top else2) (begun else3) (sym (covered-is (c .before)) ∙ not-false _ (c .if4 .left))
+    let start = start-from-else2 else2 in
+    root-covered (start .pre) (all-bytes (holds-record-from-else2 else2)) (start .args .version) (formed (else1-from-else2 else2)) (at-top else2) (begun else3) (sym (covered-is after-covers) ∙ not-false _ (c .if4 .left))
 
 pub look-root-spec : {M : Type 1} → statement M
 look-root-spec =
