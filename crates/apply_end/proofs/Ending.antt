@@ -81,23 +81,23 @@ pub marked-both : (w : Bool) (since : ℕ) (xs ys : List step.Node) {s s′ s″
 marked-both w since xs ys x y = changed-as _ (whenWrites w (mark since (xs ++ ys))) (both-marked w since xs ys _) (changed-then x y)
 
 -- both children of a place, the left one first
-module _ {s : Bytes} {lv rv : ℕ} {p lp rp : place.Place} (w : Ends s lv rv p) (gl : Grown left p lp) (gr : Grown right p rp) where
-  pub left-once-there : Once s lv lp
+module _ {s : Bytes} {lversion rversion : ℕ} {p lplace rplace : place.Place} (w : Ends s lversion rversion p) (gl : Grown left p lplace) (gr : Grown right p rplace) where
+  pub left-once-there : Once s lversion lplace
   left-once-there = record { stored = w .stored; proper = gl .proper; single = rw (gl .place) (w .left-once) }
 
-  module _ (b : Bool) (since : ℕ) (lc : change.Change) {s₁ : Bytes} (x : Changed (whenWrites b (mark since (endsSays lc lv (placeOf lp)))) s s₁) where
-    pub right-once-there : Once s₁ rv rp
+  module _ (b : Bool) (since : ℕ) (lchange : change.Change) {s₁ : Bytes} (x : Changed (whenWrites b (mark since (endsSays lchange lversion (placeOf lplace)))) s s₁) where
+    pub right-once-there : Once s₁ rversion rplace
     right-once-there = record {
       stored = changed-stored x;
       proper = gr .proper;
-      single = rw (gr .place) (once-marked b since rv (longer right (placeOf p)) (endsSays lc lv (placeOf lp)) x (w .right-once));
+      single = rw (gr .place) (once-marked b since rversion (longer right (placeOf p)) (endsSays lchange lversion (placeOf lplace)) x (w .right-once));
     }
 
-    pub both-marked-there : (rc : change.Change) {s₂ : Bytes} → Changed (whenWrites b (mark since (endsSays rc rv (placeOf rp)))) s₁ s₂ →
-        Changed (whenWrites b (mark since (endsSays lc lv (longer left (placeOf p)) ++ endsSays rc rv (longer right (placeOf p))))) s s₂
-    both-marked-there rc {s₂} y =
-        subst₂ (λ i j. Changed (whenWrites b (mark since (endsSays lc lv i ++ endsSays rc rv j))) s s₂) (gl .place) (gr .place)
-        (marked-both b since (endsSays lc lv (placeOf lp)) (endsSays rc rv (placeOf rp)) x y)
+    pub both-marked-there : (rchange : change.Change) {s₂ : Bytes} → Changed (whenWrites b (mark since (endsSays rchange rversion (placeOf rplace)))) s₁ s₂ →
+        Changed (whenWrites b (mark since (endsSays lchange lversion (longer left (placeOf p)) ++ endsSays rchange rversion (longer right (placeOf p))))) s s₂
+    both-marked-there rchange {s₂} y =
+        subst₂ (λ i j. Changed (whenWrites b (mark since (endsSays lchange lversion i ++ endsSays rchange rversion j))) s s₂) (gl .place) (gr .place)
+        (marked-both b since (endsSays lchange lversion (placeOf lplace)) (endsSays rchange rversion (placeOf rplace)) x y)
 
 -- the node of a child is the top of its tree
 pub top-nodes : (t : VTree) (q : Place) → Numbered t → childNodes (topVersion t) q ≡ step.nodeAt q t

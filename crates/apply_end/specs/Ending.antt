@@ -37,9 +37,9 @@ remainsOf (N.Leaf v k x) (N.Inner w l r i j) = More
 remainsOf (N.Inner v l r i j) n = More
 
 -- Two children of the node at a place, each of which is one record at most.
-pub record Ends (s : Bytes) (lv rv : ℕ) (p : place.Place) : Type 0 where
+pub record Ends (s : Bytes) (lversion rversion : ℕ) (p : place.Place) : Type 0 where
   pub stored : Stored s
   pub proper : Proper p
   pub short : p .count < 256
-  pub left-once : Single lv (longer left (placeOf p)) (storeOf s .slots)
-  pub right-once : Single rv (longer right (placeOf p)) (storeOf s .slots)
+  pub left-once : Single lversion (longer left (placeOf p)) (storeOf s .slots)
+  pub right-once : Single rversion (longer right (placeOf p)) (storeOf s .slots)

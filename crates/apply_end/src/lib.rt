@@ -120,17 +120,17 @@ pub fn mark_children(
     guesses: &[u16; 8192],
     writes: bool,
     place: Place,
-    lc: Change,
-    rc: Change,
-    lv: u32,
-    rv: u32,
+    lchange: Change,
+    rchange: Change,
+    lversion: u32,
+    rversion: u32,
     since: u32,
 )
-    requires { ⌜ Ends (now store) lv rv place ⌝ }
-    ensures { λ _. ⌜ Changed (whenWrites writes (mark since (endsSays lc lv (longer left (placeOf place)) ++ endsSays rc rv (longer right (placeOf place))))) (now (store .entry)) (now (store .exit)) ⌝ }
+    requires { ⌜ Ends (now store) lversion rversion place ⌝ }
+    ensures { λ _. ⌜ Changed (whenWrites writes (mark since (endsSays lchange lversion (longer left (placeOf place)) ++ endsSays rchange rversion (longer right (placeOf place))))) (now (store .entry)) (now (store .exit)) ⌝ }
 {
-    let lp = place.left();
-    let rp = place.right();
-    mark_changed(store, guesses, writes, lc, lv, lp, since);
-    mark_changed(store, guesses, writes, rc, rv, rp, since);
+    let lplace = place.left();
+    let rplace = place.right();
+    mark_changed(store, guesses, writes, lchange, lversion, lplace, since);
+    mark_changed(store, guesses, writes, rchange, rversion, rplace, since);
 }

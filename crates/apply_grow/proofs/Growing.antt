@@ -251,15 +251,15 @@ module _ {new : ℕ} {writes : Bool} {from : ℕ} {s : Bytes} {p : place.Place} 
     side-is = let k : 256 - r .count ≡ 255 - p .count = omega (arith, g .count) in rw (side-leaf, k, g .place, side-asks)
 
   -- both sides, and the inner node above them
-  module _ (t : new ≤ top32) (h : p .count < 256) {lp rp : place.Place} {lpart rpart s₁ s₂ : Bytes}
-      {l r : declared.Outcome} (gl : Grown left p lp) (gr : Grown right p rp) (fl : lpart ≡ runOf left (p .count) part)
+  module _ (t : new ≤ top32) (h : p .count < 256) {lplace rplace : place.Place} {lpart rpart s₁ s₂ : Bytes}
+      {l r : declared.Outcome} (gl : Grown left p lplace) (gr : Grown right p rplace) (fl : lpart ≡ runOf left (p .count) part)
       (fr : rpart ≡ runOf right (p .count) part)
-      (x : Did new writes from s s₁ (step.grow leafHash innerHash new (256 - lp .count) (placeOf lp) (staysAt (placeOf lp) (staysSays leaf)) (asks lpart)) l)
-      (y : Did new writes (l .reach) s₁ s₂ (step.grow leafHash innerHash new (256 - rp .count) (placeOf rp) (staysAt (placeOf rp) (staysSays leaf)) (asks rpart)) r) where
-    on-left : Grows new writes from s lp leaf lpart
+      (x : Did new writes from s s₁ (step.grow leafHash innerHash new (256 - lplace .count) (placeOf lplace) (staysAt (placeOf lplace) (staysSays leaf)) (asks lpart)) l)
+      (y : Did new writes (l .reach) s₁ s₂ (step.grow leafHash innerHash new (256 - rplace .count) (placeOf rplace) (staysAt (placeOf rplace) (staysSays leaf)) (asks rpart)) r) where
+    on-left : Grows new writes from s lplace leaf lpart
     on-left = side-grows left h gl fl (w .stored) (w .starts)
 
-    on-right : Grows new writes (l .reach) s₁ rp leaf rpart
+    on-right : Grows new writes (l .reach) s₁ rplace leaf rpart
     on-right = side-grows right h gr fr (changed-stored (x .bytes)) (x .reach .starts)
 
     pub sides-fork : {c : child.Child} → childSays c ≡ nodeChild N.Nothing → Forks writes s₂ p c c l r
@@ -279,8 +279,8 @@ module _ {new : ℕ} {writes : Bool} {from : ℕ} {s : Bytes} {p : place.Place} 
     pub several-did : {s₃ : Bytes} {o : declared.Outcome} → FewSays Several (step.toGrow (here w) (asks part)) →
         Forked new writes s₂ s₃ (placeOf p) l r o → Did new writes from s s₃ (grows w) o
     several-did {s₃} {o} f k =
-        let a = step.grow leafHash innerHash new (256 - lp .count) (placeOf lp) (staysAt (placeOf lp) (staysSays leaf)) (asks lpart) in
-        let b = step.grow leafHash innerHash new (256 - rp .count) (placeOf rp) (staysAt (placeOf rp) (staysSays leaf)) (asks rpart) in
+        let a = step.grow leafHash innerHash new (256 - lplace .count) (placeOf lplace) (staysAt (placeOf lplace) (staysSays leaf)) (asks lpart) in
+        let b = step.grow leafHash innerHash new (256 - rplace .count) (placeOf rplace) (staysAt (placeOf rplace) (staysSays leaf)) (asks rpart) in
         let q = placeOf p in
         let n : 256 - p .count ≡ suc (255 - p .count) = omega arith in
         let is : step.fork leafHash innerHash new q a b [] ≡ grows w =

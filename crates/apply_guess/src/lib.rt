@@ -11,10 +11,10 @@ use store::retired_at;
 use store::slot_count;
 use store::slot_of;
 use store::version_at;
+use store::wide;
 use terms::Form;
 ghost use mathlib.Core.Path.{_≡_};
-ghost use mathlib.Core.Bool.{true};
-ghost use Prim.Native.Nat.{_+_, _≤_, _<_};
+ghost use Prim.Native.Nat.{_+_, _≤_};
 ghost use lib.ListN.{length};
 ghost use Rattle.place.specs.Place.{placeOf};
 ghost use Rattle.layout.specs.Stores.{storeOf};
@@ -24,12 +24,6 @@ ghost use Rattle.apply_guess.specs.Guess.{Once};
 
 // Four guesses lie together.
 const TOGETHER: usize = 4;
-
-fn slot_number(x: u16) -> usize
-    ensures { λ r. ⌜ r ≡ x ⌝ }
-{
-    x as usize
-}
 
 // Where the guesses for a node begin.
 fn start_of(version: u32, count: usize, bits: &[u8]) -> usize
@@ -85,7 +79,7 @@ pub fn find_near(store: &[u8], guesses: &[u16; 8192], version: u32, place: Place
     let b = start_of(version, place.count, &bits);
     let mut j = 0;
     while j < TOGETHER {
-        let i = slot_number(guesses[b + j]);
+        let i = wide(guesses[b + j]);
         if holds(store, i, version, place) {
             return Found::At(i);
         }

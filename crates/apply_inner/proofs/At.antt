@@ -46,8 +46,8 @@ module _ {new since : ℕ} {w : Bool} {s : Bytes} {p : place.Place} {slot : ℕ}
       go (N.Inner v a b i j) k e = absurd (⊎-elim (λ e. omega arith) (λ e. omega arith) k)
 
   -- the inner node there, with its own version
-  module _ {n : node.Node} (held : NodeHeld s slot n) {v : ℕ} {cl cr : child.Child} {i j : ℕ} (e : n ≡ N.Inner v cl cr i j) where
-    pub its-inner : NodeSays true (N.Inner (versionIn s slot) cl cr i j) tree
+  module _ {n : node.Node} (held : NodeHeld s slot n) {v : ℕ} {lchild rchild : child.Child} {i j : ℕ} (e : n ≡ N.Inner v lchild rchild i j) where
+    pub its-inner : NodeSays true (N.Inner (versionIn s slot) lchild rchild i j) tree
     its-inner =
         let (a, b, t, x, y, z) = subst (λ m. NodeSays true m tree) e (its-node n held) in
         (a, b, t ∙ ap (λ u. vinner u a b) (subst (λ z. topVersion z ≡ versionIn s slot) t (h .standing .top)), x, y, z)
@@ -58,24 +58,24 @@ module _ {new since : ℕ} {w : Bool} {s : Bytes} {p : place.Place} {slot : ℕ}
     older-inner : Older new (placeOf p) (vinner (versionIn s slot) (its-inner .0) (its-inner .1))
     older-inner = subst (Older new (placeOf p)) (its-inner .2) (h .older)
 
-    left-older : cl .version < new
+    left-older : lchild .version < new
     left-older =
-        omega (arith, child-top cl (its-inner .0) (its-inner .3), top-older new (longer left (placeOf p)) (its-inner .0) (h .number) (λ u q k. older-inner u q (inr (inl k))))
+        omega (arith, child-top lchild (its-inner .0) (its-inner .3), top-older new (longer left (placeOf p)) (its-inner .0) (h .number) (λ u q k. older-inner u q (inr (inl k))))
 
-    right-older : cr .version < new
+    right-older : rchild .version < new
     right-older =
-        omega (arith, child-top cr (its-inner .1) (its-inner .4), top-older new (longer right (placeOf p)) (its-inner .1) (h .number) (λ u q k. older-inner u q (inr (inr k))))
+        omega (arith, child-top rchild (its-inner .1) (its-inner .4), top-older new (longer right (placeOf p)) (its-inner .1) (h .number) (λ u q k. older-inner u q (inr (inr k))))
 
-    pub may-end : Ends s (cl .version) (cr .version) p
+    pub may-end : Ends s (lchild .version) (rchild .version) p
     may-end = record {
       stored = h .standing .stored;
       proper = h .standing .proper;
       short = h .short;
-      left-once = h .single (cl .version) (longer left (placeOf p)) left-older;
-      right-once = h .single (cr .version) (longer right (placeOf p)) right-older;
+      left-once = h .single (lchild .version) (longer left (placeOf p)) left-older;
+      right-once = h .single (rchild .version) (longer right (placeOf p)) right-older;
     }
 
-    pub may-renew : Renews new since w s p cl cr l r
+    pub may-renew : Renews new since w s p lchild rchild l r
     may-renew = record {
       marks = h .marks;
       ends = may-end;
@@ -86,8 +86,8 @@ module _ {new since : ℕ} {w : Bool} {s : Bytes} {p : place.Place} {slot : ℕ}
         short = h .short;
         left-form = h .left-form;
         right-form = h .right-form;
-        left-kept = h .kept cl cr i j its-inner .0;
-        right-kept = h .kept cl cr i j its-inner .1;
+        left-kept = h .kept lchild rchild i j its-inner .0;
+        right-kept = h .kept lchild rchild i j its-inner .1;
         left-few = h .left-few;
         right-few = h .right-few;
       };

@@ -78,9 +78,9 @@ by-says w (N.Inner v l r i j) m t u nothing one both e f = rw (e .2)
 older-both : (new : ℕ) (xs ys : List step.Node) → AllOlder new xs → AllOlder new ys → AllOlder new (xs ++ ys)
 older-both new xs ys f g v q h = elim (among-append v q xs ys h) [ inl k ↦ f v q k | inr k ↦ g v q k ]
 
-module _ (new : ℕ) (w : Bool) {from : ℕ} (p : place.Place) (v : ℕ) (A B : VTree) (a b : step.Outcome) (cl cr : child.Child) {l r : declared.Outcome}
-    {s s₁ s₂ : Bytes} (sl : childSays cl ≡ childOf leafHash innerHash A)
-    (sr : childSays cr ≡ childOf leafHash innerHash B) (na : Numbered A) (nb : Numbered B) (x : Did new w from s s₁ a l) (y : Did new w (l .reach) s₁ s₂ b r)
+module _ (new : ℕ) (w : Bool) {from : ℕ} (p : place.Place) (v : ℕ) (A B : VTree) (a b : step.Outcome) (lchild rchild : child.Child) {l r : declared.Outcome}
+    {s s₁ s₂ : Bytes} (sl : childSays lchild ≡ childOf leafHash innerHash A)
+    (sr : childSays rchild ≡ childOf leafHash innerHash B) (na : Numbered A) (nb : Numbered B) (x : Did new w from s s₁ a l) (y : Did new w (l .reach) s₁ s₂ b r)
     (fa : AllNew new (a .fresh)) (fb : AllNew new (b .fresh)) (ob : AllOlder new (b .retired))
     (oa : AllOlder new (step.nodeAt (longer left (placeOf p)) A)) (oe : AllOlder new (step.nodeAt (longer right (placeOf p)) B))
     {m n : ℕ} (ws : Weighs m n A B) (few : leaves (a .node) + leaves (b .node) ≤ top32) where
@@ -92,11 +92,11 @@ module _ (new : ℕ) (w : Bool) {from : ℕ} (p : place.Place) (v : ℕ) (A B : 
       older-both new (step.endsAt c (longer left (placeOf p)) A) (step.endsAt d (longer right (placeOf p)) B)
       (λ u q h. oa u q (ends-at u q c (longer left (placeOf p)) A h)) (λ u q h. oe u q (ends-at u q d (longer right (placeOf p)) B h))
 
-  marks-are : (c d : change.Change) → endsSays c (cl .version) (longer left (placeOf p)) ++ endsSays d (cr .version) (longer right (placeOf p))
+  marks-are : (c d : change.Change) → endsSays c (lchild .version) (longer left (placeOf p)) ++ endsSays d (rchild .version) (longer right (placeOf p))
       ≡ ending (changeSays c) (changeSays d)
-  marks-are c d = ap₂ _++_ (ends-is c cl A (longer left (placeOf p)) sl na) (ends-is d cr B (longer right (placeOf p)) sr nb)
+  marks-are c d = ap₂ _++_ (ends-is c lchild A (longer left (placeOf p)) sl na) (ends-is d rchild B (longer right (placeOf p)) sr nb)
 
-  marked-as : (c d : change.Change) {s₃ : Bytes} → Marked new w s₂ s₃ p cl cr c d → Changed (whenWrites w (mark new (ending (changeSays c) (changeSays d)))) s₂ s₃
+  marked-as : (c d : change.Change) {s₃ : Bytes} → Marked new w s₂ s₃ p lchild rchild c d → Changed (whenWrites w (mark new (ending (changeSays c) (changeSays d)))) s₂ s₃
   marked-as c d {s₃} m = subst (λ ns. Changed (whenWrites w (mark new ns)) s₂ s₃) (marks-are c d) m
 
   -- nothing placed above the children
@@ -134,7 +134,7 @@ module _ (new : ℕ) (w : Bool) {from : ℕ} (p : place.Place) (v : ℕ) (A B : 
 
   -- a lone leaf, or a new inner node
   renewed-did : bothStayed (l .change) (r .change) ≡ false → (f : remains.Remains) → remainsOf (l .node) (r .node) ≡ f → remainsChange f ≡ Updated →
-      {s₃ : Bytes} {o : declared.Outcome} → Renewed new w s₂ s₃ p cl cr l r o → Did new w from s s₃ becomes o
+      {s₃ : Bytes} {o : declared.Outcome} → Renewed new w s₂ s₃ p lchild rchild l r o → Did new w from s s₃ becomes o
   renewed-did e f i k {s₃} {o} (lone z u j q m) =
       subst₂ (λ c t. Did new w from s s₃ c t) (sym (ap decided j) ∙ by-remains e) (sym q)
       (plain-did Updated (N.Leaf new z u) (vleaf new (grant (hashBytes z) (hashBytes u))) (ending step.deleted step.deleted) refl (older-ends step.deleted step.deleted)
@@ -148,16 +148,16 @@ module _ (new : ℕ) (w : Bool) {from : ℕ} (p : place.Place) (v : ℕ) (A B : 
       d fa fb ob (older-ends (a .change) (b .change)) few)
 
   -- what is settled is what the definition says
-  pub settled-did : {s₃ : Bytes} {o : declared.Outcome} → SettledTo (settledSays l r) new w s₂ s₃ p v cl cr m n l r o → Did new w from s s₃ becomes o
+  pub settled-did : {s₃ : Bytes} {o : declared.Outcome} → SettledTo (settledSays l r) new w s₂ s₃ p v lchild rchild m n l r o → Did new w from s s₃ becomes o
   unfolding settledSays
   settled-did {s₃} {o} h = by (bothStayed (l .change) (r .change)) refl (remainsOf (l .node) (r .node)) refl h
     where
       by : (c : Bool) → bothStayed (l .change) (r .change) ≡ c → (f : remains.Remains) → remainsOf (l .node) (r .node) ≡ f →
-          SettledTo (cond c Unchanged (remainsChange f)) new w s₂ s₃ p v cl cr m n l r o → Did new w from s s₃ becomes o
+          SettledTo (cond c Unchanged (remainsChange f)) new w s₂ s₃ p v lchild rchild m n l r o → Did new w from s s₃ becomes o
       by true e f i (q, j) =
           subst₂ (λ c z. Did new w from s s₃ c z) (by-stayed e) (sym q)
-          (subst (λ u. Did new w from s u (step.above step.unchanged (vinner v A B) a b [] []) (record { change = Unchanged; node = N.Inner v cl cr m n; reach = r .reach })) (sym j)
-          (plain-did Unchanged (N.Inner v cl cr m n) (vinner v A B) [] (says-either w (N.Inner v cl cr m n) (vinner v A B) (A, B, refl, sl, sr, ws)) (λ u q h. absurd h)
+          (subst (λ u. Did new w from s u (step.above step.unchanged (vinner v A B) a b [] []) (record { change = Unchanged; node = N.Inner v lchild rchild m n; reach = r .reach })) (sym j)
+          (plain-did Unchanged (N.Inner v lchild rchild m n) (vinner v A B) [] (says-either w (N.Inner v lchild rchild m n) (vinner v A B) (A, B, refl, sl, sr, ws)) (λ u q h. absurd h)
           (nothing-marked w new (changed-stored (y .bytes)))))
       by false e R.Nothing i (q, m) =
           subst₂ (λ c z. Did new w from s s₃ c z) (sym (ap decided i) ∙ by-remains e) (sym q)

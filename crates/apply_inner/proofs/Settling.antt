@@ -52,30 +52,30 @@ module _ (l r : declared.Outcome) {b : Bool} (e : b ≡ bothStayed (l .change) (
         go R.More k = refl
 
 -- it stays, or it ends
-module _ (new : ℕ) (w : Bool) (s : Bytes) (p : place.Place) (cl cr : child.Child) (n v i j : ℕ) (c : change.Change) where
-  pub stays : OneOf (0 ∷ 2 ∷ []) (tagOf change-type.the-type c) → EndsOrStays new w s s p cl cr n v i j c (record { change = Unchanged; node = N.Inner v cl cr i j; reach = n })
+module _ (new : ℕ) (w : Bool) (s : Bytes) (p : place.Place) (lchild rchild : child.Child) (n v i j : ℕ) (c : change.Change) where
+  pub stays : OneOf (0 ∷ 2 ∷ []) (tagOf change-type.the-type c) → EndsOrStays new w s s p lchild rchild n v i j c (record { change = Unchanged; node = N.Inner v lchild rchild i j; reach = n })
   stays k = record { by = go c k }
     where
-      go : (d : change.Change) → OneOf (0 ∷ 2 ∷ []) (tagOf change-type.the-type d) → EndsBy new w s s p cl cr n v i j d (record { change = Unchanged; node = N.Inner v cl cr i j; reach = n })
+      go : (d : change.Change) → OneOf (0 ∷ 2 ∷ []) (tagOf change-type.the-type d) → EndsBy new w s s p lchild rchild n v i j d (record { change = Unchanged; node = N.Inner v lchild rchild i j; reach = n })
       go Updated k = tt
       go Deleted k = absurd (⊎-elim (λ e. omega arith) (λ e. omega arith) k)
       go Unchanged k = (refl, refl)
 
-  pub ends : {s′ : Bytes} → c ≡ Deleted → Marked new w s s′ p cl cr Deleted Deleted →
-      EndsOrStays new w s s′ p cl cr n v i j c (record { change = Deleted; node = N.Nothing; reach = n })
+  pub ends : {s′ : Bytes} → c ≡ Deleted → Marked new w s s′ p lchild rchild Deleted Deleted →
+      EndsOrStays new w s s′ p lchild rchild n v i j c (record { change = Deleted; node = N.Nothing; reach = n })
   ends {s′} e m = record {
-    by = subst (λ d. EndsBy new w s s′ p cl cr n v i j d (record { change = Deleted; node = N.Nothing; reach = n })) (sym e) (refl, m);
+    by = subst (λ d. EndsBy new w s s′ p lchild rchild n v i j d (record { change = Deleted; node = N.Nothing; reach = n })) (sym e) (refl, m);
   }
 
 -- a lone leaf, or a new inner node
-module _ (new : ℕ) (w : Bool) (s : Bytes) (p : place.Place) (cl cr : child.Child) (l r : declared.Outcome) {f : remains.Remains}
+module _ (new : ℕ) (w : Bool) (s : Bytes) (p : place.Place) (lchild rchild : child.Child) (l r : declared.Outcome) {f : remains.Remains}
     (i : f ≡ remainsOf (l .node) (r .node)) where
-  pub is-lone : {s′ : Bytes} {k x : Hash} → f ≡ R.Leaf k x → Marked new w s s′ p cl cr Deleted Deleted →
-      Renewed new w s s′ p cl cr l r (record { change = Updated; node = N.Leaf new k x; reach = r .reach })
+  pub is-lone : {s′ : Bytes} {k x : Hash} → f ≡ R.Leaf k x → Marked new w s s′ p lchild rchild Deleted Deleted →
+      Renewed new w s s′ p lchild rchild l r (record { change = Updated; node = N.Leaf new k x; reach = r .reach })
   is-lone {k = k} {x = x} e m = lone k x (sym i ∙ e) refl m
 
-  pub is-more : {s′ s₂ : Bytes} {o : declared.Outcome} → OneOf (0 ∷ 2 ∷ []) (tagOf remains-type.the-type f) → Marked new w s s₂ p cl cr (l .change) (r .change) →
-      Forked new w s₂ s′ (placeOf p) l r o → Renewed new w s s′ p cl cr l r o
+  pub is-more : {s′ s₂ : Bytes} {o : declared.Outcome} → OneOf (0 ∷ 2 ∷ []) (tagOf remains-type.the-type f) → Marked new w s s₂ p lchild rchild (l .change) (r .change) →
+      Forked new w s₂ s′ (placeOf p) l r o → Renewed new w s s′ p lchild rchild l r o
   is-more {s₂ = s₂} k m d = more (λ a b e. no-leaf f k a b (i ∙ e)) s₂ m d
     where
       no-leaf : (g : remains.Remains) → OneOf (0 ∷ 2 ∷ []) (tagOf remains-type.the-type g) → (a b : Hash) → g ≡ R.Leaf a b → ⊥
@@ -89,18 +89,18 @@ pub marked-new : (w : Bool) {new since : ℕ} (ns : List step.Node) {s s′ : By
 marked-new true ns {s} {s′} e m = subst (λ n. Changed (mark n ns) s s′) (e refl) m
 marked-new false ns e m = m
 
-pub ends-new : (w : Bool) {new since : ℕ} {s s′ : Bytes} {p : place.Place} {cl cr : child.Child} {n v i j : ℕ} {c : change.Change} {o : declared.Outcome} →
-    (w ≡ true → since ≡ new) → EndsOrStays since w s s′ p cl cr n v i j c o → EndsOrStays new w s s′ p cl cr n v i j c o
-ends-new w {new} {since} {s} {s′} {p} {cl} {cr} {n} {v} {i} {j} {c} {o} e h = record { by = go c (h .by) }
+pub ends-new : (w : Bool) {new since : ℕ} {s s′ : Bytes} {p : place.Place} {lchild rchild : child.Child} {n v i j : ℕ} {c : change.Change} {o : declared.Outcome} →
+    (w ≡ true → since ≡ new) → EndsOrStays since w s s′ p lchild rchild n v i j c o → EndsOrStays new w s s′ p lchild rchild n v i j c o
+ends-new w {new} {since} {s} {s′} {p} {lchild} {rchild} {n} {v} {i} {j} {c} {o} e h = record { by = go c (h .by) }
   where
-    go : (d : change.Change) → EndsBy since w s s′ p cl cr n v i j d o → EndsBy new w s s′ p cl cr n v i j d o
+    go : (d : change.Change) → EndsBy since w s s′ p lchild rchild n v i j d o → EndsBy new w s s′ p lchild rchild n v i j d o
     go Updated h = tt
     go Deleted (q, m) = (q, marked-new w _ e m)
     go Unchanged h = h
 
 -- the marks come before the placing
-pub forks-after : (w : Bool) (new : ℕ) {s s′ : Bytes} {p : place.Place} {cl cr : child.Child} {l r : declared.Outcome} → Forks w s p cl cr l r →
-    Marked new w s s′ p cl cr (l .change) (r .change) → Forks w s′ p cl cr l r
+pub forks-after : (w : Bool) (new : ℕ) {s s′ : Bytes} {p : place.Place} {lchild rchild : child.Child} {l r : declared.Outcome} → Forks w s p lchild rchild l r →
+    Marked new w s s′ p lchild rchild (l .change) (r .change) → Forks w s′ p lchild rchild l r
 forks-after w new f m = record {
   stored = changed-stored m;
   starts = starts-marked w new _ m (f .starts);
@@ -116,17 +116,17 @@ forks-after w new f m = record {
 
 -- by the change
 module _ (l r : declared.Outcome) {c : change.Change} (e : c ≡ settledSays l r) where
-  pub settled-else : {new : ℕ} {w : Bool} {s s′ : Bytes} {p : place.Place} {v : ℕ} {cl cr : child.Child} {i j : ℕ} {o : declared.Outcome} →
-      OneOf (1 ∷ 2 ∷ []) (tagOf change-type.the-type c) → EndsOrStays new w s s′ p cl cr (r .reach) v i j c o →
-      SettledTo (settledSays l r) new w s s′ p v cl cr i j l r o
-  settled-else {new} {w} {s} {s′} {p} {v} {cl} {cr} {i} {j} {o} k h = subst (λ d. SettledTo d new w s s′ p v cl cr i j l r o) e (go c k (h .by))
+  pub settled-else : {new : ℕ} {w : Bool} {s s′ : Bytes} {p : place.Place} {v : ℕ} {lchild rchild : child.Child} {i j : ℕ} {o : declared.Outcome} →
+      OneOf (1 ∷ 2 ∷ []) (tagOf change-type.the-type c) → EndsOrStays new w s s′ p lchild rchild (r .reach) v i j c o →
+      SettledTo (settledSays l r) new w s s′ p v lchild rchild i j l r o
+  settled-else {new} {w} {s} {s′} {p} {v} {lchild} {rchild} {i} {j} {o} k h = subst (λ d. SettledTo d new w s s′ p v lchild rchild i j l r o) e (go c k (h .by))
     where
-      go : (d : change.Change) → OneOf (1 ∷ 2 ∷ []) (tagOf change-type.the-type d) → EndsBy new w s s′ p cl cr (r .reach) v i j d o →
-          SettledTo d new w s s′ p v cl cr i j l r o
+      go : (d : change.Change) → OneOf (1 ∷ 2 ∷ []) (tagOf change-type.the-type d) → EndsBy new w s s′ p lchild rchild (r .reach) v i j d o →
+          SettledTo d new w s s′ p v lchild rchild i j l r o
       go Updated k h = absurd (⊎-elim (λ e. omega arith) (λ e. omega arith) k)
       go Deleted k h = h
       go Unchanged k h = h
 
-  pub settled-renewed : {new : ℕ} {w : Bool} {s s′ : Bytes} {p : place.Place} (v i j : ℕ) {cl cr : child.Child} {o : declared.Outcome} → c ≡ Updated →
-      Renewed new w s s′ p cl cr l r o → SettledTo (settledSays l r) new w s s′ p v cl cr i j l r o
-  settled-renewed {new} {w} {s} {s′} {p} v i j {cl} {cr} {o} k h = subst (λ d. SettledTo d new w s s′ p v cl cr i j l r o) (sym k ∙ e) h
+  pub settled-renewed : {new : ℕ} {w : Bool} {s s′ : Bytes} {p : place.Place} (v i j : ℕ) {lchild rchild : child.Child} {o : declared.Outcome} → c ≡ Updated →
+      Renewed new w s s′ p lchild rchild l r o → SettledTo (settledSays l r) new w s s′ p v lchild rchild i j l r o
+  settled-renewed {new} {w} {s} {s′} {p} v i j {lchild} {rchild} {o} k h = subst (λ d. SettledTo d new w s s′ p v lchild rchild i j l r o) (sym k ∙ e) h

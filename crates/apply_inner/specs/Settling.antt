@@ -45,12 +45,12 @@ remainsChange R.More = Updated
 unfoldable pub settledSays : declared.Outcome → declared.Outcome → change.Change
 settledSays l r = cond (bothStayed (l .change) (r .change)) Unchanged (remainsChange (remainsOf (l .node) (r .node)))
 
-module _ (new : ℕ) (writes : Bool) (s s′ : Bytes) (p : place.Place) (cl cr : child.Child) where
+module _ (new : ℕ) (writes : Bool) (s s′ : Bytes) (p : place.Place) (lchild rchild : child.Child) where
   -- Both old children are marked, or those that changed.
   abbrev pub Marked : change.Change → change.Change → Type 0
-  Marked lc rc =
-      Changed (whenWrites writes (mark new (endsSays lc (cl .version) (longer left (placeOf p)) ++
-      endsSays rc (cr .version) (longer right (placeOf p))))) s s′
+  Marked lchange rchange =
+      Changed (whenWrites writes (mark new (endsSays lchange (lchild .version) (longer left (placeOf p)) ++
+      endsSays rchange (rchild .version) (longer right (placeOf p))))) s s′
 
   -- It stays as it was, or it ends with both its children.
   abbrev pub EndsBy : ℕ → ℕ → ℕ → ℕ → change.Change → declared.Outcome → Type 0
@@ -58,36 +58,38 @@ module _ (new : ℕ) (writes : Bool) (s s′ : Bytes) (p : place.Place) (cl cr :
       (o ≡ record { change = Deleted; node = N.Nothing; reach = reach }) × Marked Deleted Deleted
   EndsBy reach v i j Updated o = Unit {0}
   EndsBy reach v i j Unchanged o =
-      (o ≡ record { change = Unchanged; node = N.Inner v cl cr i j; reach = reach }) × (s′ ≡ s)
+      (o ≡ record { change = Unchanged; node = N.Inner v lchild rchild i j; reach = reach }) × (s′ ≡ s)
 
-pub record EndsOrStays (new : ℕ) (writes : Bool) (s s′ : Bytes) (p : place.Place) (cl cr : child.Child)
+pub record EndsOrStays (new : ℕ) (writes : Bool) (s s′ : Bytes) (p : place.Place) (lchild rchild : child.Child)
     (reach v i j : ℕ) (c : change.Change) (o : declared.Outcome) : Type 0 where
-  pub by : EndsBy new writes s s′ p cl cr reach v i j c o
+  pub by : EndsBy new writes s s′ p lchild rchild reach v i j c o
 
 -- The children as their parent's record says them, and the outcomes there.
-pub record Renews (new since : ℕ) (writes : Bool) (s : Bytes) (p : place.Place) (cl cr : child.Child)
+pub record Renews (new since : ℕ) (writes : Bool) (s : Bytes) (p : place.Place) (lchild rchild : child.Child)
     (l r : declared.Outcome) : Type 0 where
   pub marks : writes ≡ true → since ≡ new
-  pub ends : Ends s (cl .version) (cr .version) p
-  pub forks : Forks writes s p cl cr l r
+  pub ends : Ends s (lchild .version) (rchild .version) p
+  pub forks : Forks writes s p lchild rchild l r
 
 -- A lone leaf moves up; else it is new.
-pub data Renewed (new : ℕ) (writes : Bool) (s s′ : Bytes) (p : place.Place) (cl cr : child.Child)
+pub data Renewed (new : ℕ) (writes : Bool) (s s′ : Bytes) (p : place.Place) (lchild rchild : child.Child)
     (l r o : declared.Outcome) : Type 0 where
   lone : (k x : Hash) → remainsOf (l .node) (r .node) ≡ R.Leaf k x →
       o ≡ record { change = Updated; node = N.Leaf new k x; reach = r .reach } →
-      Marked new writes s s′ p cl cr Deleted Deleted → Renewed new writes s s′ p cl cr l r o
+      Marked new writes s s′ p lchild rchild Deleted Deleted → Renewed new writes s s′ p lchild rchild l r o
   more : ((k x : Hash) → remainsOf (l .node) (r .node) ≡ R.Leaf k x → ⊥) → (s₂ : Bytes) →
-      Marked new writes s s₂ p cl cr (l .change) (r .change) →
-      Forked new writes s₂ s′ (placeOf p) l r o → Renewed new writes s s′ p cl cr l r o
+      Marked new writes s s₂ p lchild rchild (l .change) (r .change) →
+      Forked new writes s₂ s′ (placeOf p) l r o → Renewed new writes s s′ p lchild rchild l r o
 
 -- By what it is settled to be.
 abbrev pub SettledTo : change.Change → ℕ → Bool → Bytes → Bytes → place.Place → ℕ → child.Child → child.Child → ℕ → ℕ →
     declared.Outcome → declared.Outcome →
     declared.Outcome → Type 0
-SettledTo Updated new writes s s′ p v cl cr i j l r o = Renewed new writes s s′ p cl cr l r o
-SettledTo Deleted new writes s s′ p v cl cr i j l r o = EndsBy new writes s s′ p cl cr (r .reach) v i j Deleted o
-SettledTo Unchanged new writes s s′ p v cl cr i j l r o = EndsBy new writes s s′ p cl cr (r .reach) v i j Unchanged o
+SettledTo Updated new writes s s′ p v lchild rchild i j l r o = Renewed new writes s s′ p lchild rchild l r o
+SettledTo Deleted new writes s s′ p v lchild rchild i j l r o =
+    EndsBy new writes s s′ p lchild rchild (r .reach) v i j Deleted o
+SettledTo Unchanged new writes s s′ p v lchild rchild i j l r o =
+    EndsBy new writes s s′ p lchild rchild (r .reach) v i j Unchanged o
 
 -- An older tree with an inner node at its top stands at the place, its record is in a slot, each older node is there
 -- once, and the outcomes at the children are in form; what ends is marked since the new version; of an unchanged one
@@ -107,8 +109,8 @@ pub record Settles (new since : ℕ) (writes : Bool) (s : Bytes) (p : place.Plac
   pub right-form : writes ≡ true → All RecordForm (updatedSays (longer right (placeOf p)) r)
   pub left-few : nodeLeaves (l .node) ≤ top32
   pub right-few : nodeLeaves (r .node) ≤ top32
-  pub kept : (cl cr : child.Child) (i j : ℕ) → NodeSays true (N.Inner (versionIn s slot) cl cr i j)
-      (treeHere s p (versionIn s slot)) → Kept writes cl l × Kept writes cr r
+  pub kept : (lchild rchild : child.Child) (i j : ℕ) → NodeSays true (N.Inner (versionIn s slot) lchild rchild i j)
+      (treeHere s p (versionIn s slot)) → Kept writes lchild l × Kept writes rchild r
 
 -- What becomes of that inner node.
 pub record Settled (new : ℕ) (writes : Bool) (s s′ : Bytes) (p : place.Place) (slot : ℕ) (l r o : declared.Outcome) :

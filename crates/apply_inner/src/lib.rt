@@ -32,14 +32,14 @@ fn both_stayed(l: Change, r: Change) -> bool
 fn settled(l: Outcome, r: Outcome) -> Change
     ensures { λ c. ⌜ c ≡ settledSays l r ⌝ }
 {
-    let lc = l.change;
-    let rc = r.change;
-    if both_stayed(lc, rc) {
+    let lchange = l.change;
+    let rchange = r.change;
+    if both_stayed(lchange, rchange) {
         return Change::Unchanged;
     }
-    let ln = l.node;
-    let rn = r.node;
-    let stands = remains_of(ln, rn);
+    let lnode = l.node;
+    let rnode = r.node;
+    let stands = remains_of(lnode, rnode);
     let Remains::Nothing = stands else {
         return Change::Updated;
     };
@@ -56,19 +56,19 @@ fn end_or_stay(
     reach: usize,
     change: Change,
     version: u32,
-    cl: Child,
-    cr: Child,
+    lchild: Child,
+    rchild: Child,
     lefts: u32,
     rights: u32,
 ) -> Outcome
-    requires { ⌜ Ends (now store) (cl .version) (cr .version) place ⌝ }
-    ensures { λ o. ⌜ EndsOrStays since writes (now (store .entry)) (now (store .exit)) place cl cr reach version lefts rights change o ⌝ }
+    requires { ⌜ Ends (now store) (lchild .version) (rchild .version) place ⌝ }
+    ensures { λ o. ⌜ EndsOrStays since writes (now (store .entry)) (now (store .exit)) place lchild rchild reach version lefts rights change o ⌝ }
 {
     let Change::Deleted = change else {
         let node = Node::Inner {
             version,
-            left: cl,
-            right: cr,
+            left: lchild,
+            right: rchild,
             lefts,
             rights,
         };
@@ -78,8 +78,6 @@ fn end_or_stay(
             reach,
         };
     };
-    let old_left = cl.version;
-    let old_right = cr.version;
     mark_children(
         store,
         guesses,
@@ -87,8 +85,8 @@ fn end_or_stay(
         place,
         Change::Deleted,
         Change::Deleted,
-        old_left,
-        old_right,
+        lchild.version,
+        rchild.version,
         since,
     );
     Outcome {
@@ -106,24 +104,34 @@ fn renew(
     new: u32,
     since: u32,
     place: Place,
-    cl: Child,
-    cr: Child,
+    lchild: Child,
+    rchild: Child,
     l: Outcome,
     r: Outcome,
 ) -> Outcome
-    requires { ⌜ Renews new since writes (now store) place cl cr l r ⌝ }
-    ensures { λ o. ⌜ Renewed new writes (now (store .entry)) (now (store .exit)) place cl cr l r o ⌝ }
+    requires { ⌜ Renews new since writes (now store) place lchild rchild l r ⌝ }
+    ensures { λ o. ⌜ Renewed new writes (now (store .entry)) (now (store .exit)) place lchild rchild l r o ⌝ }
 {
-    let ln = l.node;
-    let rn = r.node;
-    let stands = remains_of(ln, rn);
-    let lv = cl.version;
-    let rv = cr.version;
+    let lnode = l.node;
+    let rnode = r.node;
+    let stands = remains_of(lnode, rnode);
+    let lversion = lchild.version;
+    let rversion = rchild.version;
     let Remains::Leaf { key, value } = stands else {
-        let lc = l.change;
-        let rc = r.change;
-        mark_children(store, guesses, writes, place, lc, rc, lv, rv, since);
-        return fork(store, writes, new, place, cl, cr, l, r);
+        let lchange = l.change;
+        let rchange = r.change;
+        mark_children(
+            store,
+            guesses,
+            writes,
+            place,
+            lchange,
+            rchange,
+            lversion,
+            rversion,
+            since,
+        );
+        return fork(store, writes, new, place, lchild, rchild, l, r);
     };
     mark_children(
         store,
@@ -132,8 +140,8 @@ fn renew(
         place,
         Change::Deleted,
         Change::Deleted,
-        lv,
-        rv,
+        lversion,
+        rversion,
         since,
     );
     Outcome {

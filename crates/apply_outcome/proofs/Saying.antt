@@ -116,12 +116,12 @@ places-at w o g h t f = record {
   form = λ e. subst (λ i. All RecordForm (updatedSays i o)) (sym (g .place)) (f e);
 }
 
-pub two-placed : (w : Bool) (l r : declared.Outcome) {p lp rp : place.Place} {from k m : ℕ} {s s₁ s₂ : Bytes} → Grown left p lp → Grown right p rp →
-    Placed w from (updatedSays (placeOf lp) l) s s₁ k → Placed w k (updatedSays (placeOf rp) r) s₁ s₂ m →
+pub two-placed : (w : Bool) (l r : declared.Outcome) {p lplace rplace : place.Place} {from k m : ℕ} {s s₁ s₂ : Bytes} → Grown left p lplace → Grown right p rplace →
+    Placed w from (updatedSays (placeOf lplace) l) s s₁ k → Placed w k (updatedSays (placeOf rplace) r) s₁ s₂ m →
     Placed w from (updatedSays (longer left (placeOf p)) l ++ updatedSays (longer right (placeOf p)) r) s s₂ m
-two-placed w l r {p} {lp} {rp} {from} {m = m} {s = s} {s₂ = s₂} gl gr x y =
-    let xs = updatedSays (placeOf lp) l in
-    let ys = updatedSays (placeOf rp) r in
+two-placed w l r {p} {lplace} {rplace} {from} {m = m} {s = s} {s₂ = s₂} gl gr x y =
+    let xs = updatedSays (placeOf lplace) l in
+    let ys = updatedSays (placeOf rplace) r in
     subst₂ (λ i j. Placed w from (updatedSays i l ++ updatedSays j r) s s₂ m) (gl .place) (gr .place)
     (record {
       bytes = changed-as _ (whenWrites w (placed (xs ++ ys))) (both-placed w xs ys _) (changed-then (x .bytes) (y .bytes));

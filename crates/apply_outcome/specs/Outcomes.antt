@@ -88,16 +88,16 @@ ChildAfter writes o c = writes ≡ true → childSays c ≡ nodeChild (o .node)
 
 -- Two outcomes at the children of an inner node, whose records are in form, and what its old record says of the
 -- children.
-pub record Forks (writes : Bool) (s : Bytes) (p : place.Place) (cl cr : declared-child.Child) (l r : declared.Outcome) :
-    Type 0 where
+pub record Forks (writes : Bool) (s : Bytes) (p : place.Place) (lchild rchild : declared-child.Child)
+    (l r : declared.Outcome) : Type 0 where
   pub stored : Stored s
   pub starts : Starts writes (storeOf s .slots) (r .reach)
   pub proper : Proper p
   pub short : p .count < 256
   pub left-form : writes ≡ true → All RecordForm (updatedSays (longer left (placeOf p)) l)
   pub right-form : writes ≡ true → All RecordForm (updatedSays (longer right (placeOf p)) r)
-  pub left-kept : Kept writes cl l
-  pub right-kept : Kept writes cr r
+  pub left-kept : Kept writes lchild l
+  pub right-kept : Kept writes rchild r
   pub left-few : nodeLeaves (l .node) ≤ top32
   pub right-few : nodeLeaves (r .node) ≤ top32
 

@@ -117,22 +117,22 @@ pub fn fork(
     writes: bool,
     new: u32,
     place: Place,
-    cl: Child,
-    cr: Child,
+    lchild: Child,
+    rchild: Child,
     l: Outcome,
     r: Outcome,
 ) -> Outcome
-    requires { ⌜ Forks writes (now store) place cl cr l r ⌝ }
+    requires { ⌜ Forks writes (now store) place lchild rchild l r ⌝ }
     ensures { λ o. ⌜ Forked new writes (now (store .entry)) (now (store .exit)) (placeOf place) l r o ⌝ }
 {
     let half = place_updated(store, writes, r.reach, place.left(), l);
     let reach = place_updated(store, writes, half, place.right(), r);
-    let left = child_after(writes, cl, l);
-    let right = child_after(writes, cr, r);
-    let ln = l.node;
-    let rn = r.node;
-    let lefts = leaves_of(ln);
-    let rights = leaves_of(rn);
+    let left = child_after(writes, lchild, l);
+    let right = child_after(writes, rchild, r);
+    let lnode = l.node;
+    let rnode = r.node;
+    let lefts = leaves_of(lnode);
+    let rights = leaves_of(rnode);
     Outcome {
         change: Change::Updated,
         node: Node::Inner {

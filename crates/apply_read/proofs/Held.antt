@@ -42,10 +42,10 @@ module _ {s : Bytes} {i : ℕ} (w : Used s i) where
         let h = leaf-record x r (its-slot r u) (sym l ∙ e) in
         (v ∙ sym (ap (λ (q : Record). q .version) h), ap (λ (q : Record). q .body) h ∙ sym (ap₂ leafBody a b))
 
-    pub inner-held : {v : ℕ} (cl cr : child.Child) {t : Bool} → t ≡ isLeaf x → t ≡ false → v ≡ versionIn x → childSays cl ≡ leftIn x →
-        childSays cr ≡ rightIn x → {m n : ℕ} → m ≡ countsIn x .leftward → n ≡ countsIn x .rightward → NodeHeld s i (N.Inner v cl cr m n)
+    pub inner-held : {v : ℕ} (lchild rchild : child.Child) {t : Bool} → t ≡ isLeaf x → t ≡ false → v ≡ versionIn x → childSays lchild ≡ leftIn x →
+        childSays rchild ≡ rightIn x → {m n : ℕ} → m ≡ countsIn x .leftward → n ≡ countsIn x .rightward → NodeHeld s i (N.Inner v lchild rchild m n)
     unfolding recordIn innerIn
-    inner-held cl cr l e v a b f g r u =
+    inner-held lchild rchild l e v a b f g r u =
         let h = inner-record x r (its-slot r u) (sym l ∙ e) in (
           v ∙ sym (ap (λ (q : Record). q .version) h),
           ap (λ (q : Record). q .body) h ∙ sym (ap₂ innerBody a b),

@@ -154,7 +154,7 @@ module _ {s : Bytes} {p : place.Place} {v : ℕ} (w : Standing s p v) {o : found
     unfolding childOf
     goes-there z g =
         let (j, h) = subst (GoesOn s (F.At i)) z g in
-        let (cl, cr, b, k, m) = h (hit .1 .0) (hit .1 .1) in
+        let (lchild, rchild, b, k, m) = h (hit .1 .0) (hit .1 .1) in
         let (x, y, t, q, u, ns) = inner-there b in (
           j,
           ap isInner t,

@@ -107,21 +107,21 @@ module _ {new : ℕ} {writes : Bool} {from : ℕ} {s : Bytes} {p : place.Place} 
       go (vleaf x g) e h = absurd (false≢true e)
       go (vinner x l r) e h = h .0
 
-  module _ {lp : place.Place} (gl : Grown left p lp) {lpart : Bytes} (fl : lpart ≡ runOf left (p .count) part) where
+  module _ {lplace : place.Place} (gl : Grown left p lplace) {lpart : Bytes} (fl : lpart ≡ runOf left (p .count) part) where
     left-stands : Stands leafHash innerHash (storeOf s) (longer left (placeOf p)) (kid left whole)
     left-stands = kid-stands leafHash innerHash left (storeOf s) (placeOf p) whole its-stands
 
     -- the left child
-    pub left-here : Here new writes from s lp vl lpart
+    pub left-here : Here new writes from s lplace vl lpart
     left-here = side-here (w .here) is-short left gl (w .left-is) fl (w .here .standing .stored) left-stands (w .here .single) (w .here .starts)
 
-    left-read : treeHere s lp vl ≡ kid left whole
+    left-read : treeHere s lplace vl ≡ kid left whole
     left-read = side-read (w .here) is-short left gl (w .left-is) fl (w .here .standing .stored) left-stands (w .here .single) (w .here .starts)
 
     abbrev lefts : step.Outcome
-    lefts = atChild new s lp vl lpart
+    lefts = atChild new s lplace vl lpart
 
-    module _ {s₁ : Bytes} {l : declared.Outcome} (x : Did new writes from s s₁ lefts l) {rp : place.Place} (gr : Grown right p rp) {rpart : Bytes}
+    module _ {s₁ : Bytes} {l : declared.Outcome} (x : Did new writes from s s₁ lefts l) {rplace : place.Place} (gr : Grown right p rplace) {rpart : Bytes}
         (fr : rpart ≡ runOf right (p .count) part) where
       -- the whole tree, and so the right child, stand after the writes of the left
       still-stands : Stands leafHash innerHash (storeOf s₁) (placeOf p) whole
@@ -136,14 +136,14 @@ module _ {new : ℕ} {writes : Bool} {from : ℕ} {s : Bytes} {p : place.Place} 
       still-there : FoundIn (storeOf s₁ .slots) v (placeOf p) (F.At slot)
       still-there = found-after new lefts writes (x .bytes) v (placeOf p) slot (right-once v (placeOf p) is-older) (w .there)
 
-      pub right-here : Here new writes (l .reach) s₁ rp vr rpart
+      pub right-here : Here new writes (l .reach) s₁ rplace vr rpart
       right-here = side-here (w .here) is-short right gr (w .right-is) fr (changed-stored (x .bytes)) right-stands right-once (x .reach .starts)
 
-      right-read : treeHere s₁ rp vr ≡ kid right whole
+      right-read : treeHere s₁ rplace vr ≡ kid right whole
       right-read = side-read (w .here) is-short right gr (w .right-is) fr (changed-stored (x .bytes)) right-stands right-once (x .reach .starts)
 
       abbrev rights : step.Outcome
-      rights = atChild new s₁ rp vr rpart
+      rights = atChild new s₁ rplace vr rpart
 
       module _ {s₂ : Bytes} {r : declared.Outcome} (y : Did new writes (l .reach) s₁ s₂ rights r) where
         both-once : (u : ℕ) (z : Place) → u < new → Single u z (storeOf s₂ .slots)
@@ -171,14 +171,14 @@ module _ {new : ℕ} {writes : Bool} {from : ℕ} {s : Bytes} {p : place.Place} 
         kept-side b c o a t says e h k i z u =
             says ∙ ap (childOf leafHash innerHash) (sym (k (sym e ∙ ap changeSays u) ∙ i)) ∙ sym (says-child writes (o .node) (a .node) z h)
 
-        kept-both : (cl cr : child.Child) (i j : ℕ) → NodeSays true (N.Inner (versionIn s₂ slot) cl cr i j) (treeHere s₂ p (versionIn s₂ slot)) →
-            Kept writes cl l × Kept writes cr r
-        kept-both cl cr i j says =
+        kept-both : (lchild rchild : child.Child) (i j : ℕ) → NodeSays true (N.Inner (versionIn s₂ slot) lchild rchild i j) (treeHere s₂ p (versionIn s₂ slot)) →
+            Kept writes lchild l × Kept writes rchild r
+        kept-both lchild rchild i j says =
             let (a, b, e, sl, sr, ws) = says in
             let is : whole ≡ vinner (versionIn s₂ slot) a b = sym read-again ∙ e in (
-              kept-side left cl l lefts (treeHere s lp vl) (sl ∙ ap (λ z. childOf leafHash innerHash (kid left z)) (sym is)) (x .change) (x .node)
+              kept-side left lchild l lefts (treeHere s lplace vl) (sl ∙ ap (λ z. childOf leafHash innerHash (kid left z)) (sym is)) (x .change) (x .node)
                   (child-kept left-here) left-read,
-              kept-side right cr r rights (treeHere s₁ rp vr) (sr ∙ ap (λ z. childOf leafHash innerHash (kid right z)) (sym is)) (y .change) (y .node)
+              kept-side right rchild r rights (treeHere s₁ rplace vr) (sr ∙ ap (λ z. childOf leafHash innerHash (kid right z)) (sym is)) (y .change) (y .node)
                   (child-kept right-here) right-read,
             )
 

@@ -4,6 +4,7 @@ use guess::holds;
 use lookup::Found;
 use lookup::find;
 use place::Place;
+use store::wide;
 use terms::Form;
 ghost use mathlib.Core.Path.{_≡_};
 ghost use mathlib.Core.Bool.{true};
@@ -13,10 +14,6 @@ ghost use Rattle.layout.specs.Headers.{sizeRight};
 ghost use Rattle.layout.specs.Stores.{storeOf};
 ghost use Rattle.lookup.specs.Lookup.{FoundIn};
 ghost use Rattle.changes_guess.specs.Apart.{Apart};
-
-fn wide(x: u16) -> usize {
-    x as usize
-}
 
 // The guess for a side of slot i.
 pub fn guess_of(guess: &[u16; 32768], i: usize, right: bool) -> usize {

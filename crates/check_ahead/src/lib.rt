@@ -15,6 +15,7 @@ use store::child_version_at;
 use store::kind_at;
 use store::slot_count;
 use store::slot_of;
+use store::wide;
 use terms::Form;
 ghost use mathlib.Core.Path.{_≡_};
 ghost use mathlib.Core.Bool.{true};
@@ -29,10 +30,6 @@ ghost use Rattle.check_pass.specs.Passes.{Room, Passed};
 ghost use Rattle.check_hash.specs.Known.{HashIs, Known};
 ghost use Rattle.nodehash_eight.specs.Eight.{Lanes};
 ghost use Rattle.check_ahead.specs.Ahead.{LinkFits, AllSlots, AllLinks, MessageOf, HashAt};
-
-fn wide(x: u16) -> usize {
-    x as usize
-}
 
 // The message of the record in slot c.
 fn message_of(form: Form, store: &[u8], c: usize) -> Message

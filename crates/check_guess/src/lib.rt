@@ -11,8 +11,8 @@ use store::count_at;
 use store::kind_at;
 use store::slot_of;
 use store::version_at;
+use store::wide;
 use terms::Form;
-ghost use mathlib.Core.Path.{_≡_};
 ghost use Prim.Native.Nat.{_≤_, _<_};
 ghost use Rattle.check_pass.specs.Passes.{Room};
 
@@ -21,12 +21,6 @@ struct Node {
     count: u16,
     bits: Hash,
     version: u32,
-}
-
-fn wide(x: u16) -> usize
-    ensures { λ r. ⌜ (r ≡ x) × (r < 65536) ⌝ }
-{
-    x as usize
 }
 
 // Whether slot i stands before a node; a slot that isn't there doesn't.

@@ -10,19 +10,14 @@ use slots::child_hash;
 use slots::grant_of;
 use store::kind_at;
 use store::slot_of;
+use store::wide;
 use terms::Form;
 ghost use mathlib.Core.Path.{_≡_};
-ghost use Prim.Native.Nat.{_≤_, _<_};
+ghost use Prim.Native.Nat.{_≤_};
 ghost use Rattle.hash.specs.Hash.{hashBytes};
 ghost use Rattle.layout.specs.Stores.{Has};
 ghost use Rattle.check_pass.specs.Passes.{Passed};
 ghost use Rattle.check_hash.specs.Known.{HashIs, Stored, Known, linkSlot, storedAt};
-
-fn wide(x: u16) -> usize
-    ensures { λ r. ⌜ (r ≡ x) × (r < 65536) ⌝ }
-{
-    x as usize
-}
 
 // The hash that a link stores.
 pub fn stored(form: Form, store: &[u8], link: u16) -> Hash

@@ -2,7 +2,7 @@
 use Prim.Native.Nat.{ℕ, _+_, _<_, _≤_}
 use native.Mathlib.Omega.{arith}
 use mathlib.Core.Path.{_≡_, refl, ap, sym, _∙_, subst}
-use mathlib.Core.Bool.{true, false, cond, true≢false}
+use mathlib.Core.Bool.{Bool, true, false, cond, true≢false}
 use mathlib.Core.List.{List}
 use lib.ListN.{length}
 use native.Mathlib.Nat.{zero-add}
@@ -27,7 +27,15 @@ use Rattle.lookup.specs.declared.Found.the-variants.{At, Nothing}
 use Rattle.lookup.specs.Lookup.{isUsed, FoundIn}
 use Rattle.lookup.proofs.Matching.{NoNode, off-version, off-count, off-bits, is-node}
 use Rattle.lookup.proofs.Searching.{used-or, unused}
+use Rattle.agree.specs.Holding.{nodeHere}
 use Rattle.check_kin.specs.Kin.{countNode}
+
+-- a slot is counted where it holds the node
+pub as-count : (v : ℕ) (p : Place) (y : Slot) {t : Bool} {n : ℕ} → t ≡ nodeHere v p y → cond t 1 0 ≡ n → n ≡ byRecord 0 (countNode v p) y
+unfolding countNode
+as-count v p free e f = sym f ∙ rw e
+as-count v p (used q) e f = sym f ∙ rw e
+as-count v p (spoiled x) e f = sym f ∙ rw e
 
 none-counted : (v : ℕ) (p : Place) (y : Slot) → ((q : Record) → y ≡ used q → isNode v p q ≡ false) → byRecord 0 (countNode v p) y ≡ 0
 unfolding countNode

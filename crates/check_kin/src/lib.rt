@@ -1,10 +1,9 @@
 // One record among those of its store, document 01, 'Sound': its life, the slots that hold its node, the other roots, and its children.
+use agree::holds_node;
 use lookup::Found;
 use lookup::find;
 use lookup::holds_record;
 use place::Place;
-use place::same;
-use slots::bits_of;
 use store::count_at;
 use store::retired_at;
 use store::slot_count;
@@ -60,26 +59,15 @@ pub fn kept_life(oldest: u32, version: u32, ends: u64) -> u64
     ends - first
 }
 
-// 1 where slot j holds the node (version, place), else 0: the cheap fields first.
+// 1 where slot j holds the node (version, place), else 0.
 fn holder(form: Form, store: &[u8], j: usize, version: u32, place: Place) -> usize
     requires { ⌜ Has form (now store) j × Proper place ⌝ }
     ensures { λ r. ⌜ r ≡ byRecord 0 (countNode version (placeOf place)) (slotNo form j (now (store .entry))) ⌝ }
 {
-    if version_at(form, store, j) != version {
-        return 0;
+    if holds_node(form, store, j, version, place) {
+        return 1;
     }
-    if count_at(form, store, j) as usize != place.count {
-        return 0;
-    }
-    let bits = place.bits;
-    let s = slot_of(form, store, j);
-    if !same(bits_of(s), &bits) {
-        return 0;
-    }
-    if !holds_record(s) {
-        return 0;
-    }
-    1
+    0
 }
 
 // How many slots hold the node (version, place).

@@ -10,6 +10,7 @@ use store::retired_at;
 use store::slot_count;
 use store::slot_of;
 use store::version_at;
+use store::wide;
 use terms::Form;
 ghost use mathlib.Core.Path.{_≡_};
 ghost use mathlib.Core.Bool.{true};
@@ -20,12 +21,6 @@ ghost use Rattle.layout.specs.Headers.{sizeRight};
 ghost use Rattle.layout.specs.Stores.{Has};
 ghost use Rattle.check_pass.specs.Passes.{Room, Passed, Each};
 ghost use Rattle.check_order.specs.Order.{nodeKey, keyNo, PartedNo, Follows, InOrder, Named, NamedAt};
-
-fn wide(x: u16) -> usize
-    ensures { λ r. ⌜ r ≡ x ⌝ }
-{
-    x as usize
-}
 
 // Whether slot i stands before slot j: by the bit count, then by the bits, then by the version.
 fn ahead(form: Form, store: &[u8], i: usize, j: usize) -> bool

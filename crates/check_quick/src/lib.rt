@@ -12,6 +12,7 @@ use check_sort::rank;
 use check_sort::sort;
 use check_tie::tie_all;
 use store::slot_count;
+use store::wide;
 use terms::Form;
 ghost use mathlib.Core.Path.{_≡_};
 ghost use mathlib.Core.Bool.{true};
@@ -28,10 +29,6 @@ pub enum Look {
     Fine,
     // The slot with this number may fail.
     Suspect(usize),
-}
-
-fn wide(x: u16) -> usize {
-    x as usize
 }
 
 // The slots in order: whether no two records share their node, and no two roots live together.

@@ -4,33 +4,27 @@ use native.Mathlib.Omega.{arith}
 use mathlib.Core.Path.{_≡_, refl, ap, sym, _∙_}
 use mathlib.Core.Logic.{_⊎_, inl, ⊎-elim}
 use mathlib.Core.Bool.{Bool, true, false, cond, not}
-use lib.ListN.{length, take}
-use lib.Seq.{take-all}
 use lib.Dec.{eqb}
 use borrow.Author.Tests.{ne-eqb, eqb-false, not-true}
 use Rattle.terms.specs.declared.Form.{Form}
-use Rattle.terms.specs.Bits.{Bytes, Byte, All, sameBytes}
+use Rattle.terms.specs.Bits.{Bytes, Byte, All}
 use Rattle.terms.specs.Records.{Record, Slot, free, used, spoiled}
-use Rattle.terms.proofs.Places.{length-pack}
-use Rattle.terms.proofs.Tests.{same-bytes}
+use Rattle.meaning.specs.Sight.{agrees}
 use Rattle.meaning.specs.Sound.{At}
 use Rattle.meaning.specs.Local.{endsBefore}
+use Rattle.meaning.proofs.Finding.{isNode-eq}
 use Rattle.place.specs.declared.Place as declared-place
 use Rattle.place.specs.Place.{placeOf, Proper}
-use Rattle.place.proofs.Places.{proper-count}
 use Rattle.layout.specs.Sizes.{leafKind}
-use Rattle.layout.specs.Slots.{innerIn, recordIn, countIn, bitsIn, versionIn, sinceIn, slotOf}
+use Rattle.layout.specs.Slots.{innerIn, recordIn, versionIn, sinceIn, slotOf}
 use Rattle.layout.specs.Stores.{slotIn, storeIn, Has}
-use Rattle.lookup.proofs.Matching.{place-is}
 use Rattle.store.proofs.Slots.{slot-is}
+use Rattle.agree.proofs.Agreeing.{agreed-version, agreed-node}
 use Rattle.check_kin.specs.Kin.{endsAt, isLeafBody}
 use Rattle.check_pass.specs.Passes.{kindIn, Passed}
-use Rattle.check_pass.proofs.Records.{record-cases, version-of, retired-of, free-zero, read-long, read-bytes, read-as, stands}
+use Rattle.check_pass.proofs.Records.{record-cases, retired-of, free-zero, read-long, read-bytes, read-as, stands}
 use Rattle.check_seen.specs.Seen.{OwnAt}
 use Rattle.check_tie.specs.Side.{Node, Outlives}
-
-pub bits-long : (p : declared-place.Place) → Proper p → length (p .bits) ≡ 32
-bits-long p w = ap length (w .trimmed) ∙ length-pack 32 (placeOf p)
 
 module _ {fm : Form} {s : Bytes} {c : ℕ} (h : Has fm s c) where
   -- a slot with a version or a kind, whose own fields are right, holds a record
@@ -45,20 +39,13 @@ module _ {fm : Form} {s : Bytes} {c : ℕ} (h : Has fm s c) where
       go (spoiled y) e = absurd (own .whole y (slot-is h ∙ e))
 
   -- the node, by version, count and bits
-  pub node-is : All Byte s → OwnAt (storeIn fm s) c → {v u n : ℕ} → u ≡ versionIn (slotIn fm c s) → u ≡ v → 1 ≤ v → {p : declared-place.Place} → Proper p →
-      n ≡ countIn (slotIn fm c s) → n ≡ p .count → {a b : Bytes} → a ≡ bitsIn (slotIn fm c s) → b ≡ take 32 (p .bits) → (t : Bool) → t ≡ sameBytes a b →
-      Passed t (Node fm s c v (placeOf p))
-  unfolding countIn
-  node-is bytes own e f some {p} w g k {a} {b} ae be true same =
-      let (r, d) = holds bytes own (inl (λ z. omega (arith, e, f))) in
-      record {
-        it = r;
-        here = stands h refl r d;
-        version = version-of (slotIn fm c s) r d ∙ sym e ∙ f;
-        place = place-is fm (slotIn fm c s) (read-long h refl) (read-bytes h refl bytes) r d (placeOf p) (omega (arith, w .short, proper-count p w)) (sym g ∙ k ∙ sym (proper-count p w))
-            (sym ae ∙ same-bytes a b (sym same) ∙ be ∙ take-all 32 (p .bits) (omega (arith, bits-long p w)) ∙ w .trimmed);
-      }
-  node-is bytes own e f some w g k ae be false same = tt
+  pub node-is : All Byte s → OwnAt (storeIn fm s) c → (v : ℕ) → 1 ≤ v → (p : declared-place.Place) → Proper p → (t : Bool) →
+      t ≡ agrees v (placeOf p) (slotIn fm c s) → Passed t (Node fm s c v (placeOf p))
+  node-is bytes own v some p w true e =
+      let (r, d) = holds bytes own (inl (λ z. omega (arith, agreed-version v (placeOf p) (slotIn fm c s) (sym e)))) in
+      let (a, b) = isNode-eq v (placeOf p) r (agreed-node h bytes v p w (sym e) r d) in
+      record { it = r; here = stands h refl r d; version = a; place = b }
+  node-is bytes own v some p w false e = tt
 
   -- the end of life, and the kind
   module _ {latest n m ends : ℕ} (keeps : storeIn fm s .latest ≡ latest) (retired : n ≡ sinceIn (slotIn fm c s)) (end : m ≡ endsAt latest n) (le : ends ≤ m) where

@@ -1,5 +1,6 @@
 // Parents and their children, found at once by a guess: whether each child stands in the slot that was guessed, and all that is said of it is
 // right. Slots are read by single fields, since the own fields of all were looked at before.
+use agree::agrees;
 use check_counts::count_fits;
 use check_hash::hash_right;
 use check_kin::Kept;
@@ -9,7 +10,6 @@ use check_kin::later;
 use check_seen::add;
 use hash::Hash;
 use hash::hash_at;
-use hash::same_hash;
 use layout::sizes::LEAF_KIND;
 use place::Place;
 use place::child_place;
@@ -24,6 +24,7 @@ use store::retired_at;
 use store::slot_count;
 use store::slot_of;
 use store::version_at;
+use store::wide;
 use terms::Form;
 ghost use mathlib.Core.Path.{_≡_};
 ghost use mathlib.Core.Bool.{true};
@@ -56,26 +57,12 @@ struct Link {
     count: u32,
 }
 
-fn wide(x: u16) -> usize {
-    x as usize
-}
-
-// Whether slot c holds the node of a version at a place.
+// Whether slot c, which holds a record or is free, holds the node of a version at a place.
 fn is_node(form: Form, store: &[u8], c: usize, version: u32, place: Place) -> bool
     requires { ⌜ Has form (now store) c × OwnAt (storeIn form (now store)) c × (1 ≤ version) × Proper place ⌝ }
     ensures { λ r. ⌜ Passed r (Node form (now (store .entry)) c version (placeOf place)) ⌝ }
 {
-    if version_at(form, store, c) != version {
-        return false;
-    }
-    if count_at(form, store, c) as usize != place.count {
-        return false;
-    }
-    let bits = place.bits;
-    same_hash(
-        hash_at(bits_of(slot_of(form, store, c)), 0),
-        hash_at(&bits, 0),
-    )
+    agrees(form, store, c, version, place)
 }
 
 // Whether the record in slot c lives to an end at least, and is no lone leaf beside a child of version `other`.

@@ -21,7 +21,7 @@ use Rattle.nodehash.specs.Node as node
 use Rattle.layout.specs.Stores.{storeOf}
 use Rattle.read_step.specs.Walk.{Sees, leafAt, forkAt}
 use Rattle.read_step.specs.declared.Seen as declared
-use Rattle.read_step.specs.declared.Seen.the-variants.{Gap, Lost, Leaf, Inner}
+use Rattle.read_step.specs.declared.Seen.the-variants.{Gap, Stopped, Leaf, Inner}
 use Rattle.read_step.specs.declared.Trouble as declared-trouble
 use Rattle.read_root.specs.Parts.{rootSays}
 use Rattle.read_root.specs.declared.RootRead as declared-root
@@ -62,8 +62,8 @@ module _ {s : Bytes} {v : ℕ} (w : SoundVersion s v) where
     pub gap-holds-none : r ≡ Gap → true ≡ noGrant (grantsAt s v)
     gap-holds-none e = sym (ap isGap (subst (Sees s [] [] (seen (byTable [] (storeOf s)) v)) e sees)) ∙ by-root
 
-    pub lost-holds : {t : declared-trouble.Trouble} → r ≡ Lost t → false ≡ noGrant (grantsAt s v)
-    lost-holds e = sym (ap isGap (subst (Sees s [] [] (seen (byTable [] (storeOf s)) v)) e sees)) ∙ by-root
+    pub stopped-holds : {t : declared-trouble.Trouble} → r ≡ Stopped t → false ≡ noGrant (grantsAt s v)
+    stopped-holds e = sym (ap isGap (subst (Sees s [] [] (seen (byTable [] (storeOf s)) v)) e sees)) ∙ by-root
 
     pub leaf-holds : {i : ℕ} → r ≡ Leaf i → false ≡ noGrant (grantsAt s v)
     unfolding leafAt

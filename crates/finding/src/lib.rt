@@ -74,7 +74,7 @@ fn holds_none(store: &[u8], version: u32) -> bool
     let seen = read_step::root(store, &[], version);
     match seen {
         Seen::Gap => true,
-        Seen::Lost(_) => false,
+        Seen::Stopped(_) => false,
         Seen::Leaf(_) => false,
         Seen::Inner(_) => false,
     }

@@ -1,13 +1,14 @@
 // The search for a finding of a proof where it lies in bytes, request 2026-12: along its paths, the left one first, then over a version's nodes.
 use fields::get_u16;
-use fields::get_u32;
 use forged_nodes::Named;
 use forged_nodes::note_words;
 use forged_nodes::zero_node;
 use forged_path::along;
 use forged_path::is_nothing;
-use proofrecords::ABSENCE_HEAD;
-use proofrecords::FLAGS_AT;
+use neighbour_parts::is_lone;
+use neighbour_parts::left_part;
+use neighbour_parts::lone_part;
+use neighbour_parts::right_part;
 use proofrecords::STEPS_AT;
 use terms::Form;
 ghost use mathlib.Core.Path.{_≡_};
@@ -40,18 +41,15 @@ fn on_two(store: &[u8], version: u32, words: &[u64; 16384], l: &[u8], r: &[u8]) 
     on_path(store, version, words, r)
 }
 
-// Along the paths of an absence proof's neighbours, each read where it lies in the proof.
+// Along the paths of an absence proof's neighbours.
 fn on_neighbours(store: &[u8], version: u32, words: &[u64; 16384], proof: &[u8]) -> Named
     requires { ⌜ Noted version (now store) (now words) × (isAbsence (now proof) ≡ true) ⌝ }
     ensures { λ r. ⌜ namedSays r ≡ onNeighbours (nodesIn version (now (store .entry))) (now (proof .entry)) ⌝ }
 {
-    let n = proof.len();
-    let flags = get_u16(proof, FLAGS_AT);
-    if flags <= 2 {
-        return on_path(store, version, words, &proof[ABSENCE_HEAD..n]);
+    if is_lone(proof) {
+        return on_path(store, version, words, lone_part(proof));
     }
-    let e = ABSENCE_HEAD + get_u32(proof, ABSENCE_HEAD) as usize;
-    on_two(store, version, words, &proof[ABSENCE_HEAD..e], &proof[e..n])
+    on_two(store, version, words, left_part(proof), right_part(proof))
 }
 
 // What was named, else a node whose hash is zero.

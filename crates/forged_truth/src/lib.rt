@@ -1,11 +1,11 @@
 // Whether a proof tells the truth about a version, request 2026-12: a key read for its key and for each neighbour that it shows.
-use fields::get_u16;
-use fields::get_u32;
 use hash::Hash;
 use hash::hash_at;
 use hash::same_hash;
-use proofrecords::ABSENCE_HEAD;
-use proofrecords::FLAGS_AT;
+use neighbour_parts::is_lone;
+use neighbour_parts::left_part;
+use neighbour_parts::lone_part;
+use neighbour_parts::right_part;
 use proofrecords::KEY_AT;
 use proofrecords::VALUE_AT;
 use read_key::KeyRead;
@@ -55,20 +55,18 @@ fn leaf_true(store: &[u8], version: u32, p: &[u8]) -> bool
     has_value(store, version, &p[KEY_AT..VALUE_AT], value)
 }
 
-// Whether it has each neighbour that an absence proof shows. Each is read where it lies.
+// Whether it has each neighbour that an absence proof shows.
 fn neighbours_true(store: &[u8], version: u32, p: &[u8]) -> bool
     requires { ⌜ SoundVersion (now store) version × (isAbsence (now p) ≡ true) ⌝ }
     ensures { λ r. ⌜ r ≡ neighboursTrue (grantsAt (now (store .entry)) version) (absenceIn (now (p .entry))) ⌝ }
 {
-    let n = p.len();
-    if get_u16(p, FLAGS_AT) <= 2 {
-        return leaf_true(store, version, &p[ABSENCE_HEAD..n]);
+    if is_lone(p) {
+        return leaf_true(store, version, lone_part(p));
     }
-    let e = ABSENCE_HEAD + get_u32(p, ABSENCE_HEAD) as usize;
-    if !leaf_true(store, version, &p[ABSENCE_HEAD..e]) {
+    if !leaf_true(store, version, left_part(p)) {
         return false;
     }
-    leaf_true(store, version, &p[e..n])
+    leaf_true(store, version, right_part(p))
 }
 
 // Whether a presence proof tells the truth.

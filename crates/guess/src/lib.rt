@@ -1,13 +1,8 @@
 // A guess at the slot of a node: a number to keep guesses by, and the look at a slot that a guess names. Guesses are made without proof and looked
 // at before they are believed, so a wrong one costs time and never an answer.
-use lookup::holds_record;
+use agree::holds_node;
 use place::Place;
-use place::same;
-use slots::bits_of;
-use store::count_at;
 use store::slot_count;
-use store::slot_of;
-use store::version_at;
 use terms::Form;
 ghost use mathlib.Core.Path.{_≡_};
 ghost use mathlib.Core.Bool.{true};
@@ -37,7 +32,7 @@ pub fn spread(version: u32, count: usize, bits: &[u8]) -> u64
     mixed % 4294967296 * 2654435761 / 4294967296
 }
 
-// Whether slot i holds the node (version, place): the cheap fields first.
+// Whether there is a slot i and it holds the node (version, place).
 pub fn holds(store: &[u8], i: usize, version: u32, place: Place) -> bool
     requires { ⌜ (sizeRight Form.Counted (length (now store)) ≡ true) × Proper place ⌝ }
     ensures { λ r. ⌜ NodeAt (now (store .entry)) i version (placeOf place) r ⌝ }
@@ -46,16 +41,5 @@ pub fn holds(store: &[u8], i: usize, version: u32, place: Place) -> bool
     if n <= i {
         return false;
     }
-    if version_at(Form::Counted, store, i) != version {
-        return false;
-    }
-    if count_at(Form::Counted, store, i) as usize != place.count {
-        return false;
-    }
-    let bits = place.bits;
-    let s = slot_of(Form::Counted, store, i);
-    if !same(bits_of(s), &bits) {
-        return false;
-    }
-    holds_record(s)
+    holds_node(Form::Counted, store, i, version, place)
 }

@@ -1,40 +1,37 @@
 -- A slot as the node asked for, and the leaves at it. Assumes nothing.
 use Prim.Native.Nat.{ℕ, _+_, _*_, _<_, _≤_}
 use native.Mathlib.Omega.{arith}
-use mathlib.Core.Path.{_≡_, refl, ap, ap₂, sym, _∙_, subst}
+use mathlib.Core.Path.{_≡_, refl, ap, ap₂, sym, _∙_}
 use mathlib.Core.Logic.{⊎-elim}
 use mathlib.Core.Bool.{Bool, true, false}
 use mathlib.Core.List.{List}
 use mathlib.Core.Option.{Option, none, some}
-use lib.ListN.{length, getD, take}
-use lib.Seq.{take-all}
+use lib.ListN.{length, getD}
 use Rattle.terms.specs.declared.Form.the-variants.{Plain as plain}
-use Rattle.terms.specs.Bits.{Bytes, Byte, All, Place, sameBytes}
-use Rattle.terms.specs.Records.{Child, Body, leafBody, innerBody, Tally, Record, Slot, free, used, spoiled}
-use Rattle.terms.proofs.Tests.{same-bytes}
+use Rattle.terms.specs.Bits.{Bytes, Byte, All, Place}
+use Rattle.terms.specs.Records.{Body, leafBody, innerBody, Record, Slot, free, used, spoiled}
 use Rattle.meaning.specs.Store.{find}
 use Rattle.meaning.specs.Sound as sound
+use Rattle.meaning.specs.Sight.{agrees}
 use Rattle.meaning.specs.Counting.{weightBy}
-use Rattle.meaning.proofs.Finding.{found-in, at-find}
+use Rattle.meaning.proofs.Finding.{isNode-eq, found-in, at-find}
 use Rattle.moved.specs.Moving.{countsIn}
-use Rattle.nodehash.specs.Node.{leafHash, innerHash}
 use Rattle.place.specs.declared.Place as declared-place
 use Rattle.place.specs.Place.{placeOf, Proper}
-use Rattle.place.proofs.Places.{proper-whole, proper-count}
 use Rattle.layout.specs.Sizes.{roomOf}
-use Rattle.layout.specs.Slots.{leafIn, innerIn, recordIn, countIn, bitsIn, versionIn, slotOf}
-use Rattle.layout.specs.Stores.{slotIn, slotNo, Has}
+use Rattle.layout.specs.Slots.{leafIn, innerIn, recordIn, versionIn, slotOf}
+use Rattle.layout.specs.Stores.{slotIn, Has}
 use Rattle.layout.proofs.Headers.{size-says}
 use Rattle.lookup.specs.declared.Found as declared-found
 use Rattle.lookup.specs.declared.Found.the-variants.{At, Nothing}
 use Rattle.lookup.specs.Lookup.{FoundIn}
-use Rattle.lookup.proofs.Matching.{place-is}
 use Rattle.store.proofs.Slots.{slots-many, slot-is}
+use Rattle.agree.proofs.Agreeing.{agreed-version, agreed-node}
 use Rattle.check_pass.specs.Passes.{kindIn}
-use Rattle.check_pass.proofs.Records.{kind-most, record-cases, version-of, free-zero, read-long, read-bytes, read-as, stands}
+use Rattle.check_pass.proofs.Records.{kind-most, record-cases, free-zero, read-long, read-bytes, stands}
 use Rattle.move_put.specs.Put.{tallyAt}
-use Rattle.move_count.specs.Count.{Countable, plainStore, NodeIn, leavesOf, leavesAt, WeighsIn, CountsRight, CountedFrom}
-use Rattle.move_count.proofs.Leaves.{counts-found, few-counts}
+use Rattle.move_count.specs.Count.{Countable, plainStore, NodeIn, leavesOf, leavesAt, WeighsIn, CountedFrom}
+use Rattle.move_count.proofs.Leaves.{few-counts}
 
 pub slot-has : (s : Bytes) {n i : ℕ} → Countable s → n ≡ roomOf plain (length s) → i < n → Has plain s i
 slot-has s w e l = record { size = w .size; inside = omega (arith, e) }
@@ -62,19 +59,14 @@ module _ {s : Bytes} (w : Countable s) where
         go (spoiled y) e = absurd (w .sound .whole c y (omega (arith, h .inside, slots-many plain s)) (slot-is h ∙ e))
 
     -- the node, by version, count and bits
-    pub node-in : {v u n : ℕ} → u ≡ versionIn (slotIn plain c s) → u ≡ v → 1 ≤ v → {p : declared-place.Place} → Proper p → n ≡ countIn (slotIn plain c s) →
-        n ≡ p .count → {a b : Bytes} → a ≡ bitsIn (slotIn plain c s) → b ≡ take 32 (p .bits) → (t : Bool) → t ≡ sameBytes a b → NodeIn s c v (placeOf p) t
-    unfolding countIn sound.At
-    node-in {v} e f one {p} k g m {a} {b} ae be true same =
-        let (r, d) = holds (λ z. omega (arith, e, f)) in
+    pub node-in : (v : ℕ) → 1 ≤ v → (p : declared-place.Place) → Proper p → (t : Bool) → t ≡ agrees v (placeOf p) (slotIn plain c s) → NodeIn s c v (placeOf p) t
+    unfolding sound.At
+    node-in v one p k true e =
+        let (r, d) = holds (λ z. omega (arith, agreed-version v (placeOf p) (slotIn plain c s) (sym e))) in
         let here = stands h refl r d in
-        let ver : r .version ≡ v = version-of (slotIn plain c s) r d ∙ sym e ∙ f in
-        let pla : r .place ≡ placeOf p =
-        place-is plain (slotIn plain c s) (read-long h refl) (read-bytes h refl bytes) r d (placeOf p) (omega (arith, k .short, proper-count p k)) (sym g ∙ m ∙ sym (proper-count p k))
-        (sym ae ∙ same-bytes a b (sym same) ∙ be ∙ take-all 32 (p .bits) (omega (arith, proper-whole p k)) ∙ k .trimmed)
-        in
-        (here .0, (r, here .1, ap₂ (λ x y. find x y (plainStore s .slots)) (sym ver) (sym pla) ∙ at-find (plainStore s) (w .sound .unique) c r here))
-    node-in e f one k g m ae be false same = tt
+        let (a, b) = isNode-eq v (placeOf p) r (agreed-node h bytes v p k (sym e) r d) in
+        (here .0, (r, here .1, ap₂ (λ x y. find x y (plainStore s .slots)) (sym a) (sym b) ∙ at-find (plainStore s) (w .sound .unique) c r here))
+    node-in v one p k false e = tt
 
   -- the leaves at what was found
   module _ (v : ℕ) (p : Place) where

@@ -1,9 +1,8 @@
 // The leaves below the children of each inner record of a plain store, document 02, request 2026-10: the longest places first, so that what a
 // record's children have is there before it is asked for. Children are guessed, and looked at before they are believed.
+use agree::agrees;
 use check_guess::guessed;
 use check_sort::sort;
-use hash::hash_at;
-use hash::same_hash;
 use layout::sizes::LEAF_KIND;
 use lookup::Found;
 use lookup::find;
@@ -16,7 +15,7 @@ use store::count_at;
 use store::kind_at;
 use store::slot_count;
 use store::slot_of;
-use store::version_at;
+use store::wide;
 use terms::Form;
 ghost use mathlib.Core.Path.{_≡_};
 ghost use mathlib.Core.Bool.{true};
@@ -32,12 +31,6 @@ ghost use Rattle.move_count.specs.Count.{Countable, plainStore, NodeIn, 
 // The level of a slot that holds no inner record.
 const NO_LEVEL: u16 = 256;
 
-fn wide(x: u16) -> usize
-    ensures { λ r. ⌜ (r ≡ x) × (r < 65536) ⌝ }
-{
-    x as usize
-}
-
 // Whether slot c holds the node of a version at a place.
 fn is_node(store: &[u8], c: usize, version: u32, place: Place) -> bool
     requires { ⌜ Countable (now store) × (1 ≤ version) × Proper place ⌝ }
@@ -47,17 +40,7 @@ fn is_node(store: &[u8], c: usize, version: u32, place: Place) -> bool
     if n <= c {
         return false;
     }
-    if version_at(Form::Plain, store, c) != version {
-        return false;
-    }
-    if count_at(Form::Plain, store, c) as usize != place.count {
-        return false;
-    }
-    let bits = place.bits;
-    same_hash(
-        hash_at(bits_of(slot_of(Form::Plain, store, c)), 0),
-        hash_at(&bits, 0),
-    )
+    agrees(Form::Plain, store, c, version, place)
 }
 
 // The slot of the node of a version at a place: a guess that is right, or what a search finds; version 0 is no node.

@@ -3,6 +3,7 @@ use check_sort::sort;
 use order_look::names_form;
 use order_look::ordered;
 use store::slot_count;
+use store::wide;
 use terms::Form;
 ghost use mathlib.Core.Path.{_≡_};
 ghost use mathlib.Core.Bool.{true};
@@ -12,10 +13,6 @@ ghost use Rattle.layout.specs.Headers.{sizeRight};
 ghost use Rattle.layout.specs.Stores.{storeOf};
 ghost use Rattle.check_pass.specs.Passes.{Room};
 ghost use Rattle.ordered.specs.Ordered.{Guide};
-
-fn wide(x: u16) -> usize {
-    x as usize
-}
 
 // An entry put into the row behind the first `many`, where it is to stay.
 fn put(table: &mut [u16; 16384], many: usize, i: u16, stays: bool) -> usize

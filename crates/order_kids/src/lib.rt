@@ -10,6 +10,7 @@ use store::count_at;
 use store::slot_count;
 use store::slot_of;
 use store::version_at;
+use store::wide;
 use terms::Form;
 ghost use mathlib.Core.Path.{_≡_};
 ghost use mathlib.Core.Bool.{true};
@@ -25,12 +26,6 @@ ghost use Rattle.order_kids.specs.Kids.{Tabled};
 
 // A guess for each side of each slot of the largest store.
 const GUESSES: usize = 32768;
-
-fn wide(x: u16) -> usize
-    ensures { λ r. ⌜ r ≡ x ⌝ }
-{
-    x as usize
-}
 
 // Whether the node of slot i, in form, stands before that of slot j, in form.
 fn node_before(store: &[u8], i: usize, j: usize) -> bool

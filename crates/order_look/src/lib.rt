@@ -8,6 +8,7 @@ use store::count_at;
 use store::slot_count;
 use store::slot_of;
 use store::version_at;
+use store::wide;
 use terms::Form;
 ghost use mathlib.Core.Path.{_≡_};
 ghost use mathlib.Core.Bool.{true};
@@ -27,12 +28,6 @@ pub enum Look {
     Before,
     After,
     Same,
-}
-
-fn wide(x: u16) -> usize
-    ensures { λ r. ⌜ r ≡ x ⌝ }
-{
-    x as usize
 }
 
 // The number that begins at a byte, eight bytes long.

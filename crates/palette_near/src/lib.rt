@@ -11,6 +11,7 @@ use sights::Sight;
 use slots::is_leaf;
 use store::slot_count;
 use store::slot_of;
+use store::wide;
 use terms::Form;
 ghost use mathlib.Core.Path.{_≡_};
 ghost use mathlib.Core.Bool.{true};
@@ -26,12 +27,6 @@ ghost use Rattle.palette_near.specs.Near.{LedBy};
 
 // A key is 32 bytes.
 const KEY_SIZE: usize = 32;
-
-fn wide(x: u16) -> usize
-    ensures { λ r. ⌜ r ≡ x ⌝ }
-{
-    x as usize
-}
 
 // Where the guess for a side of slot i stands.
 fn guess_at(i: usize, right: bool) -> usize

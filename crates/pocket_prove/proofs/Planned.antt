@@ -12,7 +12,7 @@ use Rattle.prove_paths.specs.Paths.{pathSteps, presenceAt}
 use Rattle.prove_paths.specs.Neighbours.{wayAt, found, neighbourAt}
 use Rattle.prove_paths.specs.declared.Path as declared-path
 use Rattle.prove_paths.specs.declared.Way as declared-way
-use Rattle.prove_paths.specs.declared.Way.the-variants.{Lost, Nobody, Somebody}
+use Rattle.prove_paths.specs.declared.Way.the-variants.{Stopped, Nobody, Somebody}
 use Rattle.prove_paths.specs.declared.Sought as declared-sought
 use Rattle.prove_paths.proofs.Records.{steps-count}
 use Rattle.pocket.specs.Pocket.{shortPath, shortNeighbour, inProfile}
@@ -27,7 +27,7 @@ unfolding shortPath presenceAt pathSteps
 path-short s p = ap (λ (n : ℕ). leb n 32) (steps-count s (p .slots) (placeOf (p .place)) (p .place .count))
 
 way-short : (s : Bytes) (v : declared-way.Way) (p : declared-path.Path) → shortNeighbour (found (wayAt s v p)) ≡ wayShort v p
-way-short s (Lost t) p = refl
+way-short s (Stopped t) p = refl
 way-short s Nobody p = refl
 way-short s Somebody p = path-short s p
 

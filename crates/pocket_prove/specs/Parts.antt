@@ -3,7 +3,7 @@ use mathlib.Core.Bool.{Bool, true, false, not, _&&_}
 use lib.Dec.{leb, ltb}
 use Rattle.prove_paths.specs.declared.Path as declared-path
 use Rattle.prove_paths.specs.declared.Way as declared-way
-use Rattle.prove_paths.specs.declared.Way.the-variants.{Lost, Nobody, Somebody}
+use Rattle.prove_paths.specs.declared.Way.the-variants.{Stopped, Nobody, Somebody}
 use Rattle.prove_paths.specs.declared.Sought as declared-sought
 use Rattle.pocket.specs.Pocket.{pocketSteps}
 use Rattle.prove_plan.specs.declared.Shape as declared-shape
@@ -12,7 +12,7 @@ use Rattle.prove_plan.specs.declared.Plan as declared
 
 -- The neighbour that a search found, if any, has at most 32 steps.
 abbrev pub wayShort : declared-way.Way → declared-path.Path → Bool
-wayShort (Lost t) p = true
+wayShort (Stopped t) p = true
 wayShort Nobody p = true
 wayShort Somebody p = leb (p .place .count) pocketSteps
 

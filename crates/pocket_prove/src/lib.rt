@@ -28,7 +28,7 @@ fn is_short(n: Sought) -> bool
     match way {
         Way::Somebody => place.count <= POCKET_STEPS,
         Way::Nobody => true,
-        Way::Lost(_) => true,
+        Way::Stopped(_) => true,
     }
 }
 

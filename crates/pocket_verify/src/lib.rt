@@ -6,10 +6,11 @@ ghost use Rattle.pocket.specs.Pocket.{shortPath, small};
 ghost use Rattle.proofrecords.specs.ProofBytes.{isPresence, presenceIn, isAbsence, absenceIn};
 ghost use Rattle.verify_rules.specs.Pocket.{outside, PocketVerifies};
 use fields::get_u16;
-use fields::get_u32;
+use neighbour_parts::is_lone;
+use neighbour_parts::left_part;
+use neighbour_parts::lone_part;
+use neighbour_parts::right_part;
 use pocket::POCKET_STEPS;
-use proofrecords::ABSENCE_HEAD;
-use proofrecords::FLAGS_AT;
 use proofrecords::STEPS_AT;
 use refusal_numbers::NOT_32_BYTES;
 use refusal_numbers::OUTSIDE_POCKET;
@@ -25,20 +26,18 @@ fn short_path(p: &[u8]) -> bool
     get_u16(p, STEPS_AT) as usize <= POCKET_STEPS
 }
 
-// Whether each neighbour that an absence proof shows has at most 32 steps. Each is read where it lies.
+// Whether each neighbour that an absence proof shows has at most 32 steps.
 fn short_neighbours(p: &[u8]) -> bool
     requires { ⌜ isAbsence (now p) ≡ true ⌝ }
     ensures { λ r. ⌜ r ≡ small (absence (absenceIn (now (p .entry)))) ⌝ }
 {
-    let n = p.len();
-    if get_u16(p, FLAGS_AT) <= 2 {
-        return short_path(&p[ABSENCE_HEAD..n]);
+    if is_lone(p) {
+        return short_path(lone_part(p));
     }
-    let e = ABSENCE_HEAD + get_u32(p, ABSENCE_HEAD) as usize;
-    if !short_path(&p[ABSENCE_HEAD..e]) {
+    if !short_path(left_part(p)) {
         return false;
     }
-    short_path(&p[e..n])
+    short_path(right_part(p))
 }
 
 // Whether the bytes are a proof in form outside the profile.

@@ -15,11 +15,11 @@ use Rattle.prove_paths.specs.Paths.{PathIn}
 use Rattle.prove_paths.specs.Neighbours.{wayAt, found, neighbourAt, WayIn, NeighbourIn, wayRoom, roomFor, wayFlag, flagFor, absentOf}
 use Rattle.prove_paths.specs.declared.Path as declared-path
 use Rattle.prove_paths.specs.declared.Way as declared-way
-use Rattle.prove_paths.specs.declared.Way.the-variants.{Lost, Nobody, Somebody}
+use Rattle.prove_paths.specs.declared.Way.the-variants.{Stopped, Nobody, Somebody}
 use Rattle.prove_paths.specs.declared.Sought as declared
 
 way-flag : (v : declared-way.Way) (bit : ℕ) → wayFlag v bit ≤ bit
-way-flag (Lost t) bit = omega arith
+way-flag (Stopped t) bit = omega arith
 way-flag Nobody bit = omega arith
 way-flag Somebody bit = omega arith
 
@@ -28,7 +28,7 @@ unfolding flagFor
 flag-most n bit = way-flag (n .way) bit
 
 way-long : (s : Bytes) (v : declared-way.Way) (p : declared-path.Path) → WayIn s v p → length (neighbourBytes (found (wayAt s v p))) ≡ wayRoom v p
-way-long s (Lost t) p w = refl
+way-long s (Stopped t) p w = refl
 way-long s Nobody p w = refl
 way-long s Somebody p w = presence-long s p w
 
@@ -38,13 +38,13 @@ neighbour-long s n w = way-long s (n .way) (n .path) w
 
 flags-ways : (s : Bytes) (v w : declared-way.Way) (p q : declared-path.Path) →
     wayFlag v 1 + wayFlag w 2 ≡ flagsOf (found (wayAt s v p)) (found (wayAt s w q))
-flags-ways s (Lost t) (Lost u) p q = refl
-flags-ways s (Lost t) Nobody p q = refl
-flags-ways s (Lost t) Somebody p q = refl
-flags-ways s Nobody (Lost t) p q = refl
+flags-ways s (Stopped t) (Stopped u) p q = refl
+flags-ways s (Stopped t) Nobody p q = refl
+flags-ways s (Stopped t) Somebody p q = refl
+flags-ways s Nobody (Stopped t) p q = refl
 flags-ways s Nobody Nobody p q = refl
 flags-ways s Nobody Somebody p q = refl
-flags-ways s Somebody (Lost t) p q = refl
+flags-ways s Somebody (Stopped t) p q = refl
 flags-ways s Somebody Nobody p q = refl
 flags-ways s Somebody Somebody p q = refl
 

@@ -22,7 +22,7 @@ fn flag(n: Sought, bit: u16) -> u16
     match way {
         Way::Somebody => bit,
         Way::Nobody => 0,
-        Way::Lost(_) => 0,
+        Way::Stopped(_) => 0,
     }
 }
 
@@ -36,7 +36,7 @@ fn put_neighbour(part: &mut [u8], store: &[u8], n: Sought)
     match way {
         Way::Somebody => put_presence(part, store, path),
         Way::Nobody => {}
-        Way::Lost(_) => {}
+        Way::Stopped(_) => {}
     }
 }
 

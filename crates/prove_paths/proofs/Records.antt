@@ -26,7 +26,7 @@ use Rattle.prove_paths.specs.Paths.{stepAt, stepsOf, pathSteps, presence
 use Rattle.prove_paths.specs.Neighbours.{WayIn, NeighbourIn, wayRoom, roomFor}
 use Rattle.prove_paths.specs.declared.Path as declared-path
 use Rattle.prove_paths.specs.declared.Way as declared-way
-use Rattle.prove_paths.specs.declared.Way.the-variants.{Lost, Nobody, Somebody}
+use Rattle.prove_paths.specs.declared.Way.the-variants.{Stopped, Nobody, Somebody}
 use Rattle.prove_paths.specs.declared.Sought as declared
 
 -- what is left of a slice whose part from i to e was lent and came back as y
@@ -110,7 +110,7 @@ presence-long s p w =
 
 -- a neighbour, by the ways a search ends
 way-count : (s : Bytes) (v : declared-way.Way) (p : declared-path.Path) → WayIn s v p → p .place .count ≤ 256
-way-count s (Lost t) p w = w
+way-count s (Stopped t) p w = w
 way-count s Nobody p w = w
 way-count s Somebody p w = w .proper .short
 
@@ -118,7 +118,7 @@ pub neighbour-count : (s : Bytes) (n : declared.Sought) → NeighbourIn s n → 
 neighbour-count s n w = way-count s (n .way) (n .path) w
 
 way-most : (v : declared-way.Way) (p : declared-path.Path) → p .place .count ≤ 256 → wayRoom v p ≤ 8520
-way-most (Lost t) p h = omega arith
+way-most (Stopped t) p h = omega arith
 way-most Nobody p h = omega arith
 way-most Somebody p h = omega arith
 

@@ -9,12 +9,12 @@ use Rattle.read_step.specs.Walk.{troubleSays}
 use Rattle.prove_paths.specs.Paths.{presenceAt, PathIn}
 use Rattle.prove_paths.specs.declared.Path as declared-path
 use Rattle.prove_paths.specs.declared.Way as declared-way
-use Rattle.prove_paths.specs.declared.Way.the-variants.{Lost, Nobody, Somebody}
+use Rattle.prove_paths.specs.declared.Way.the-variants.{Stopped, Nobody, Somebody}
 use Rattle.prove_paths.specs.declared.Sought as declared
 
 -- What stopped the search, nobody was found, or the presence proof of the leaf that was found.
 abbrev pub wayAt : Bytes → declared-way.Way → declared-path.Path → Sought
-wayAt s (Lost t) p = lostWay (troubleSays t)
+wayAt s (Stopped t) p = lostWay (troubleSays t)
 wayAt s Nobody p = nobody
 wayAt s Somebody p = somebody (presenceAt s p)
 
@@ -32,7 +32,7 @@ neighbourAt s n = found (soughtAt s n)
 
 -- A neighbour's path lies within the store.
 abbrev pub WayIn : Bytes → declared-way.Way → declared-path.Path → Type 0
-WayIn s (Lost t) p = p .place .count ≤ 256
+WayIn s (Stopped t) p = p .place .count ≤ 256
 WayIn s Nobody p = p .place .count ≤ 256
 WayIn s Somebody p = PathIn s p
 
@@ -41,7 +41,7 @@ NeighbourIn s n = WayIn s (n .way) (n .path)
 
 -- How many bytes its record has; and its flag.
 abbrev pub wayRoom : declared-way.Way → declared-path.Path → ℕ
-wayRoom (Lost t) p = 0
+wayRoom (Stopped t) p = 0
 wayRoom Nobody p = 0
 wayRoom Somebody p = presenceHead + stepSize * p .place .count
 
@@ -49,7 +49,7 @@ unfoldable pub roomFor : declared.Sought → ℕ
 roomFor n = wayRoom (n .way) (n .path)
 
 abbrev pub wayFlag : declared-way.Way → ℕ → ℕ
-wayFlag (Lost t) bit = 0
+wayFlag (Stopped t) bit = 0
 wayFlag Nobody bit = 0
 wayFlag Somebody bit = bit
 

@@ -91,7 +91,7 @@ pub fn put_presence(part: &mut [u8], store: &[u8], path: Path)
 // How a search for a neighbour ended.
 pub enum Way {
     // What stopped it.
-    Lost(Trouble),
+    Stopped(Trouble),
     Nobody,
     Somebody,
 }
@@ -113,6 +113,6 @@ pub fn neighbour_length(n: Sought) -> usize
     match way {
         Way::Somebody => PRESENCE_HEAD + STEP_SIZE * place.count,
         Way::Nobody => 0,
-        Way::Lost(_) => 0,
+        Way::Stopped(_) => 0,
     }
 }

@@ -23,7 +23,7 @@ use Rattle.layout.specs.Stores.{slotIn, storeOf}
 use Rattle.read_step.specs.Walk.{troubleSays, leafAt}
 use Rattle.read_step.specs.declared.Trouble as declared-trouble
 use Rattle.read_step.specs.declared.Seen as declared-seen
-use Rattle.read_step.specs.declared.Seen.the-variants.{Gap, Lost, Leaf, Inner}
+use Rattle.read_step.specs.declared.Seen.the-variants.{Gap, Stopped, Leaf, Inner}
 use Rattle.read_step.proofs.Seen as Seen
 use Rattle.prove_paths.specs.Paths.{presenceAt, pathSteps}
 use Rattle.prove_trails.specs.Trails.{TrailIn, shownAt, shownBy, stepsBy, forkSays, forkOn, Walks}
@@ -105,18 +105,18 @@ module _ (s : Bytes) (table : List ℕ) (v : ℕ) (k : Bytes) (w : declared-walk
   at-gap e = prove-at Gap e ∙ ap₂ (absenceFrom k) (gap-neighbour left e) (gap-neighbour right e)
 
   -- the walk is stopped
-  pub ends-lost : {p : declared.Plan} {n : ℕ} (t : declared-trouble.Trouble) → w .trail .seen ≡ Lost t → n ≡ refusalOf (troubleSays t) →
+  pub ends-stopped : {p : declared.Plan} {n : ℕ} (t : declared-trouble.Trouble) → w .trail .seen ≡ Stopped t → n ≡ refusalOf (troubleSays t) →
       p ≡ ended w (shape.Refused n) 0 0 → Plans s k (proveSeen k (seen (byTable table (storeOf s)) v)) p
   unfolding planSays
-  ends-lost t e f q =
-      subst (Plans s k (proveSeen k (seen (byTable table (storeOf s)) v))) (sym q) (record { says = ap refused f ∙ sym (prove-at (Lost t) e); within = tt })
+  ends-stopped t e f q =
+      subst (Plans s k (proveSeen k (seen (byTable table (storeOf s)) v))) (sym q) (record { says = ap refused f ∙ sym (prove-at (Stopped t) e); within = tt })
 
   pub ends-at-leaf : {p : declared.Plan} (i : ℕ) → w .trail .seen ≡ Leaf i → Plans s k (provedAt s table k w i) p → Plans s k (proveSeen k (seen (byTable table (storeOf s)) v)) p
   ends-at-leaf i e g = plans-of (sym (at-leaf i e)) g
 
   gap-left : (x : declared-seen.Seen) → w .trail .seen ≡ x → OneOf (0 ∷ 3 ∷ []) (tagOf Seen.the-type x) → w .trail .seen ≡ Gap
   gap-left Gap e o = e
-  gap-left (Lost t) e o = absurd (⊎-elim (λ e. omega arith) (λ e. omega arith) o)
+  gap-left (Stopped t) e o = absurd (⊎-elim (λ e. omega arith) (λ e. omega arith) o)
   gap-left (Leaf i) e o = absurd (⊎-elim (λ e. omega arith) (λ e. omega arith) o)
   gap-left (Inner i) e o = absurd (h .ended i e)
 

@@ -5,7 +5,7 @@ use Rattle.meaning.specs.Proving.{Sought, absenceFrom}
 use Rattle.prove_paths.specs.Neighbours.{wayAt, soughtAt, neighbourAt, NeighbourIn, roomFor}
 use Rattle.prove_paths.specs.declared.Path as declared-path
 use Rattle.prove_paths.specs.declared.Way as declared-way
-use Rattle.prove_paths.specs.declared.Way.the-variants.{Lost, Nobody, Somebody}
+use Rattle.prove_paths.specs.declared.Way.the-variants.{Stopped, Nobody, Somebody}
 use Rattle.prove_paths.specs.declared.Sought as declared-sought
 use Prim.Native.Nat.{ℕ, _+_}
 use Rattle.prove_trails.specs.Searches.{Finds}
@@ -20,21 +20,21 @@ sought v p = record { way = v; path = p }
 says-searched : (s k : Bytes) (v w : declared-way.Way) (p q : declared-path.Path) →
     shapeSays s k (absenceShape v w) (sought v p) (sought w q) ≡ absenceFrom k (wayAt s v p) (wayAt s w q)
 unfolding neighbourAt
-says-searched s k (Lost t) w p q = refl
-says-searched s k Nobody (Lost t) p q = refl
+says-searched s k (Stopped t) w p q = refl
+says-searched s k Nobody (Stopped t) p q = refl
 says-searched s k Nobody Nobody p q = refl
 says-searched s k Nobody Somebody p q = refl
-says-searched s k Somebody (Lost t) p q = refl
+says-searched s k Somebody (Stopped t) p q = refl
 says-searched s k Somebody Nobody p q = refl
 says-searched s k Somebody Somebody p q = refl
 
 shape-in : {len : ℕ} (s : Bytes) (v w : declared-way.Way) (p q : declared-path.Path) → NeighbourIn s (sought v p) → NeighbourIn s (sought w q) →
     len ≡ 40 + roomFor (sought v p) + roomFor (sought w q) → ShapeIn s (absenceShape v w) (sought v p) (sought w q) len
-shape-in s (Lost t) w p q a b e = tt
-shape-in s Nobody (Lost t) p q a b e = tt
+shape-in s (Stopped t) w p q a b e = tt
+shape-in s Nobody (Stopped t) p q a b e = tt
 shape-in s Nobody Nobody p q a b e = tt
 shape-in s Nobody Somebody p q a b e = ((a, b), e)
-shape-in s Somebody (Lost t) p q a b e = tt
+shape-in s Somebody (Stopped t) p q a b e = tt
 shape-in s Somebody Nobody p q a b e = ((a, b), e)
 shape-in s Somebody Somebody p q a b e = ((a, b), e)
 

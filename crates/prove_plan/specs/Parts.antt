@@ -13,7 +13,7 @@ use Rattle.layout.specs.Stores.{slotIn}
 use Rattle.read_step.specs.Walk.{troubleSays}
 use Rattle.prove_paths.specs.Paths.{presenceAt}
 use Rattle.prove_paths.specs.declared.Way as declared-way
-use Rattle.prove_paths.specs.declared.Way.the-variants.{Lost, Nobody, Somebody}
+use Rattle.prove_paths.specs.declared.Way.the-variants.{Stopped, Nobody, Somebody}
 use Rattle.prove_trails.specs.Searches.{pathOf, soughtOf, neighbourSays}
 use Rattle.prove_trails.specs.declared.Walked as declared-walked
 use Rattle.prove_plan.specs.declared.Shape as declared-shape
@@ -22,12 +22,12 @@ use Rattle.prove_plan.specs.declared.Plan as declared
 
 -- The shape of an absence proof by how its searches ended, the left one first.
 abbrev pub rightShape : declared-way.Way → declared-shape.Shape → declared-shape.Shape
-rightShape (Lost t) alone = Refused (refusalOf (troubleSays t))
+rightShape (Stopped t) alone = Refused (refusalOf (troubleSays t))
 rightShape Nobody alone = alone
 rightShape Somebody alone = Absence
 
 abbrev pub absenceShape : declared-way.Way → declared-way.Way → declared-shape.Shape
-absenceShape (Lost t) r = Refused (refusalOf (troubleSays t))
+absenceShape (Stopped t) r = Refused (refusalOf (troubleSays t))
 absenceShape Nobody r = rightShape r (Refused 14)
 absenceShape Somebody r = rightShape r Absence
 

@@ -52,7 +52,7 @@ fn right_shape(right: Way, alone: Shape) -> Shape
     ensures { λ r. ⌜ r ≡ rightShape right alone ⌝ }
 {
     match right {
-        Way::Lost(trouble) => Shape::Refused(refusal(trouble)),
+        Way::Stopped(trouble) => Shape::Refused(refusal(trouble)),
         Way::Nobody => alone,
         Way::Somebody => Shape::Absence,
     }
@@ -63,7 +63,7 @@ fn absence_shape(left: Way, right: Way) -> Shape
     ensures { λ r. ⌜ r ≡ absenceShape left right ⌝ }
 {
     match left {
-        Way::Lost(trouble) => Shape::Refused(refusal(trouble)),
+        Way::Stopped(trouble) => Shape::Refused(refusal(trouble)),
         Way::Nobody => right_shape(right, Shape::Refused(EMPTY_VERSION)),
         Way::Somebody => right_shape(right, Shape::Absence),
     }
@@ -135,7 +135,7 @@ pub fn plan_of(store: &[u8], index: &[u32], kids: &[u16], version: u32, key: &[u
     let trail = walked.trail;
     let seen = trail.seen;
     match seen {
-        Seen::Lost(trouble) => {
+        Seen::Stopped(trouble) => {
             let number = refusal(trouble);
             at_end(walked, Shape::Refused(number), 0, 0)
         }

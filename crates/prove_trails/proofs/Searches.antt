@@ -23,7 +23,7 @@ use Rattle.layout.specs.Stores.{slotIn, storeOf, SlotWithin}
 use Rattle.read_step.specs.Walk.{troubleSays, kidIn, leafAt, forkAt}
 use Rattle.read_step.specs.declared.Trouble as declared-trouble
 use Rattle.read_step.specs.declared.Seen as declared-seen
-use Rattle.read_step.specs.declared.Seen.the-variants.{Gap, Lost, Leaf, Inner}
+use Rattle.read_step.specs.declared.Seen.the-variants.{Gap, Stopped, Leaf, Inner}
 use Rattle.read_step.proofs.Seen as Seen
 use Rattle.store.proofs.Slots.{slot-fits}
 use Rattle.prove_paths.specs.Paths.{stepAt, pathSteps, presenceAt, PathIn}
@@ -89,10 +89,10 @@ module _ {s : Bytes} {table : List ℕ} {b : Side} {t₀ t : declared.Trail} (w 
       says : somebody (presenceAt s (pathOf t i)) ≡ descentSays s table t₀ b
       says = sym (w .same ∙ ap (λ x. sought (raisedBy (stepsBy s t) (descend b (shownAt s table (placeOf (t .place)) x)))) e)
 
-  pub descent-lost : {r : declared-sought.Sought} (x : declared-seen.Seen) (u : declared-trouble.Trouble) → t .seen ≡ x →
-      descend b (shownAt s table (placeOf (t .place)) x) ≡ stuck (troubleSays u) → r ≡ soughtOf t (way.Lost u) 0 → Finds s (descentSays s table t₀ b) r
+  pub descent-stopped : {r : declared-sought.Sought} (x : declared-seen.Seen) (u : declared-trouble.Trouble) → t .seen ≡ x →
+      descend b (shownAt s table (placeOf (t .place)) x) ≡ stuck (troubleSays u) → r ≡ soughtOf t (way.Stopped u) 0 → Finds s (descentSays s table t₀ b) r
   unfolding descentSays shownBy
-  descent-lost {r} x u e n q = subst (Finds s (descentSays s table t₀ b)) (sym q) (record { says = says; within = w .trail .proper .short })
+  descent-stopped {r} x u e n q = subst (Finds s (descentSays s table t₀ b)) (sym q) (record { says = says; within = w .trail .proper .short })
     where
       says : lostWay (troubleSays u) ≡ descentSays s table t₀ b
       says = sym (w .same ∙ ap (λ y. sought (raisedBy (stepsBy s t) (descend b (shownAt s table (placeOf (t .place)) y)))) e ∙ ap (λ o. sought (raisedBy (stepsBy s t) o)) n)
@@ -140,7 +140,7 @@ fork-within s w b h e = (h .trail, subst (ForkIn (w .trail .place .count)) (sym 
 
 not-leaf : (s k : Bytes) (t : declared.Trail) (b : Side) (x : declared-seen.Seen) (y : Sought) → OneOf (0 ∷ 1 ∷ 3 ∷ []) (tagOf Seen.the-type x) → endSays s k t b x y ≡ y
 not-leaf s k t b Gap y o = refl
-not-leaf s k t b (Lost u) y o = refl
+not-leaf s k t b (Stopped u) y o = refl
 not-leaf s k t b (Leaf i) y o = absurd (⊎-elim (λ e. omega arith) (λ m. ⊎-elim (λ e. omega arith) (λ e. omega arith) m) o)
 not-leaf s k t b (Inner i) y o = refl
 

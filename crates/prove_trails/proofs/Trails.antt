@@ -25,7 +25,7 @@ use Rattle.layout.specs.Headers.{sizeRight}
 use Rattle.layout.specs.Stores.{storeOf}
 use Rattle.read_step.specs.Walk.{kidIn, seenBelow, Sees}
 use Rattle.read_step.specs.declared.Seen as declared-seen
-use Rattle.read_step.specs.declared.Seen.the-variants.{Gap, Lost, Leaf, Inner}
+use Rattle.read_step.specs.declared.Seen.the-variants.{Gap, Stopped, Leaf, Inner}
 use Rattle.prove_paths.specs.Paths.{stepAt, stepsOf}
 use Rattle.prove_trails.specs.Trails.{shownAt, SeenIn, shownBy, stepsBy, TrailIn, AtInner, Started, Further}
 use Rattle.prove_trails.specs.declared.Trail as declared
@@ -33,13 +33,13 @@ use Rattle.prove_trails.specs.declared.Trail as declared
 -- what is seen, by the case of the answer
 pub sees-shown : (s : Bytes) (table : List ℕ) (p : Place) (x : Seen) (r : declared-seen.Seen) → Sees s table p x r → shownAt s table p r ≡ x
 sees-shown s table p x Gap e = sym e
-sees-shown s table p x (Lost t) e = sym e
+sees-shown s table p x (Stopped t) e = sym e
 sees-shown s table p x (Leaf i) e = sym (e .1)
 sees-shown s table p x (Inner i) e = sym (e .2)
 
 sees-in : (s : Bytes) (table : List ℕ) (p : Place) (x : Seen) (r : declared-seen.Seen) → Sees s table p x r → SeenIn s p r
 sees-in s table p x Gap e = tt
-sees-in s table p x (Lost t) e = tt
+sees-in s table p x (Stopped t) e = tt
 sees-in s table p x (Leaf i) e = e .0
 sees-in s table p x (Inner i) e = (e .0, e .1)
 

@@ -9,7 +9,7 @@ use Rattle.meaning.specs.Proving.{raisedBy, descend, Sought, somebody, sought, 
 use Rattle.layout.specs.Slots.{keyIn}
 use Rattle.layout.specs.Stores.{slotIn}
 use Rattle.read_step.specs.declared.Seen as declared-seen
-use Rattle.read_step.specs.declared.Seen.the-variants.{Gap, Lost, Leaf, Inner}
+use Rattle.read_step.specs.declared.Seen.the-variants.{Gap, Stopped, Leaf, Inner}
 use Rattle.prove_paths.specs.declared.Path as declared-path
 use Rattle.prove_paths.specs.declared.Way as declared-way
 use Rattle.prove_paths.specs.declared.Sought as declared-sought
@@ -43,7 +43,7 @@ pub record WalkedIn (s : Bytes) (w : declared-walked.Walked) : Type 0 where
 -- The leaf at the end, if its key is on side b; else what is found from the trail.
 abbrev pub endSays : Bytes → Bytes → declared.Trail → Side → declared-seen.Seen → Sought → Sought
 endSays s k t b Gap x = x
-endSays s k t b (Lost u) x = x
+endSays s k t b (Stopped u) x = x
 endSays s k t b (Leaf i) x = cond (beyond b (keyIn (slotIn counted i s)) k) (somebody (presenceAt s (pathOf t i))) x
 endSays s k t b (Inner i) x = x
 

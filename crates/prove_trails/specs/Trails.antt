@@ -19,7 +19,7 @@ use Rattle.place.specs.Place.{placeOf, Proper, Grown}
 use Rattle.place.specs.declared.Place as declared-place
 use Rattle.read_step.specs.Walk.{troubleSays, kidIn, seenBelow, leafAt, forkAt}
 use Rattle.read_step.specs.declared.Seen as declared-seen
-use Rattle.read_step.specs.declared.Seen.the-variants.{Gap, Lost, Leaf, Inner}
+use Rattle.read_step.specs.declared.Seen.the-variants.{Gap, Stopped, Leaf, Inner}
 use Rattle.prove_paths.specs.Paths.{stepAt, stepsOf}
 use Rattle.prove_trails.specs.declared.Trail as declared
 use Rattle.prove_trails.specs.declared.Fork as declared-fork
@@ -28,14 +28,14 @@ use Rattle.prove_trails.specs.declared.Walked as declared-walked
 -- What each case of an answer says is seen at a place.
 abbrev pub shownAt : Bytes → List ℕ → Place → declared-seen.Seen → Seen
 shownAt s table p Gap = gap
-shownAt s table p (Lost t) = lost (troubleSays t)
+shownAt s table p (Stopped t) = lost (troubleSays t)
 shownAt s table p (Leaf i) = leafAt i s
 shownAt s table p (Inner i) = forkAt i s table p
 
 -- A slot that is seen is one of the store's, and an inner node's place is shorter than a key.
 abbrev pub SeenIn : Bytes → Place → declared-seen.Seen → Type 0
 SeenIn s p Gap = Unit {0}
-SeenIn s p (Lost t) = Unit {0}
+SeenIn s p (Stopped t) = Unit {0}
 SeenIn s p (Leaf i) = i < roomOf counted (length s)
 SeenIn s p (Inner i) = (i < roomOf counted (length s)) × (length p < 256)
 

@@ -158,8 +158,8 @@ fn descend(store: &[u8], index: &[u32], kids: &[u16], trail: Trail, side: bool) 
                 here = further(store, index, kids, here, i, turn);
             }
             Seen::Leaf(i) => return answer(here, Way::Somebody, i),
-            Seen::Gap => return answer(here, Way::Lost(Trouble::Lost), 0),
-            Seen::Lost(trouble) => return answer(here, Way::Lost(trouble), 0),
+            Seen::Gap => return answer(here, Way::Stopped(Trouble::Lost), 0),
+            Seen::Stopped(trouble) => return answer(here, Way::Stopped(trouble), 0),
         }
     }
 }

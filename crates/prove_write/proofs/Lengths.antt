@@ -16,7 +16,7 @@ use Rattle.prove_paths.specs.Paths.{pathSteps, presenceAt, PathIn}
 use Rattle.prove_paths.specs.Neighbours.{wayAt, found, neighbourAt, NeighbourIn, wayRoom, roomFor}
 use Rattle.prove_paths.specs.declared.Path as declared-path
 use Rattle.prove_paths.specs.declared.Way as declared-way
-use Rattle.prove_paths.specs.declared.Way.the-variants.{Lost, Nobody, Somebody}
+use Rattle.prove_paths.specs.declared.Way.the-variants.{Stopped, Nobody, Somebody}
 use Rattle.prove_paths.specs.declared.Sought as declared-sought
 use Rattle.prove_paths.proofs.Records.{room-most, steps-count}
 use Rattle.prove_plan.specs.Plans.{shapeSays, planSays, ShapeIn, PlanIn}
@@ -36,7 +36,7 @@ unfolding presenceLength presenceAt pathSteps
 presence-length s p = ap (λ (n : ℕ). 72 + 33 * n) (steps-count s (p .slots) (placeOf (p .place)) (p .place .count))
 
 way-length : (s : Bytes) (v : declared-way.Way) (p : declared-path.Path) → neighbourLength (found (wayAt s v p)) ≡ wayRoom v p
-way-length s (Lost t) p = refl
+way-length s (Stopped t) p = refl
 way-length s Nobody p = refl
 way-length s Somebody p = presence-length s p
 

@@ -21,7 +21,7 @@ use Rattle.layout.specs.Stores.{storeOf}
 use Rattle.read_step.specs.Walk.{troubleSays, kidIn, seenBelow, leafAt, forkAt, Sees, Slotted}
 use Rattle.read_step.specs.declared.Trouble as declared-trouble
 use Rattle.read_step.specs.declared.Seen as declared
-use Rattle.read_step.specs.declared.Seen.the-variants.{Gap, Lost, Leaf, Inner}
+use Rattle.read_step.specs.declared.Seen.the-variants.{Gap, Stopped, Leaf, Inner}
 use Rattle.read_step.proofs.Seeing.{kid-seen}
 use Rattle.read_key.specs.Parts.{readSays, leafRead, walkRead}
 use Rattle.read_key.specs.declared.KeyRead.the-variants as read
@@ -74,9 +74,9 @@ module _ {s : Bytes} {table : List ℕ} {v : ℕ} {k : Bytes} {p : declared-plac
   unfolding readSays
   ends-at-gap e = said (sees-as e)
 
-  pub ends-lost : {n : ℕ} (t : declared-trouble.Trouble) → r ≡ Lost t → n ≡ refusalOf (troubleSays t) → readSays (read.Refused n) ≡ walkRead s table v k
+  pub ends-stopped : {n : ℕ} (t : declared-trouble.Trouble) → r ≡ Stopped t → n ≡ refusalOf (troubleSays t) → readSays (read.Refused n) ≡ walkRead s table v k
   unfolding readSays
-  ends-lost t e f = ap refused f ∙ said (sees-as e)
+  ends-stopped t e f = ap refused f ∙ said (sees-as e)
 
   pub leaf-inside : {i : ℕ} → r ≡ Leaf i → i < roomOf counted (length s)
   leaf-inside e = sees-as e .0

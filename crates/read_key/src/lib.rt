@@ -51,7 +51,7 @@ pub fn walk_read(store: &[u8], index: &[u32], version: u32, key: &[u8]) -> KeyRe
     loop {
         match seen {
             Seen::Gap => return KeyRead::Absent,
-            Seen::Lost(trouble) => {
+            Seen::Stopped(trouble) => {
                 let number = refusal(trouble);
                 return KeyRead::Refused(number);
             }

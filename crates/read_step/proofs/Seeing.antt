@@ -36,7 +36,7 @@ use Rattle.sights.specs.declared.Sight.the-variants as sight
 use Rattle.read_step.specs.Walk.{bodyIn, kidIn, seenBelow, bodySeen, leafAt, forkAt, Sees, SeesIn, SlotHolds}
 use Rattle.read_step.specs.declared.Trouble.the-variants as trouble
 use Rattle.read_step.specs.declared.Seen as declared
-use Rattle.read_step.specs.declared.Seen.the-variants.{Lost, Leaf, Inner}
+use Rattle.read_step.specs.declared.Seen.the-variants.{Stopped, Leaf, Inner}
 
 -- the child on a side of an inner record
 pub kid-is : (b : Side) (x : Bytes) → kidOn b x ≡ childOn b (leftIn x) (rightIn x)
@@ -244,8 +244,8 @@ module _ {s : Bytes} {i : ℕ} {p : declared-place.Place} (h : SlotHolds s i p) 
     its-key : {a : Bool} → a ≡ begins (placeOf p) k → begins (placeOf p) (keyIn (slotIn counted i s)) ≡ a
     its-key f = ap (λ y. begins (placeOf p) (keyIn y)) (sym q) ∙ ap (begins (placeOf p)) (sym key) ∙ sym f
 
-    pub leaf-lost : {a : Bool} → a ≡ begins (placeOf p) k → a ≡ false → Here (Lost trouble.Stray)
-    leaf-lost f g table = rw (its-body, its-key f, g)
+    pub leaf-stray : {a : Bool} → a ≡ begins (placeOf p) k → a ≡ false → Here (Stopped trouble.Stray)
+    leaf-stray f g table = rw (its-body, its-key f, g)
 
     pub leaf-seen : {a : Bool} → a ≡ begins (placeOf p) k → a ≡ true → Here (Leaf i)
     unfolding leafAt

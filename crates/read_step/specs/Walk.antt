@@ -32,7 +32,7 @@ use Rattle.place.specs.Place.{Proper}
 use Rattle.read_step.specs.declared.Trouble as declared-trouble
 use Rattle.read_step.specs.declared.Trouble.the-variants as trouble
 use Rattle.read_step.specs.declared.Seen as declared
-use Rattle.read_step.specs.declared.Seen.the-variants.{Gap, Lost, Leaf, Inner}
+use Rattle.read_step.specs.declared.Seen.the-variants.{Gap, Stopped, Leaf, Inner}
 
 -- What a slot's bytes hold that are a record in form.
 unfoldable pub bodyIn : Bytes → Body
@@ -68,7 +68,7 @@ troubleSays trouble.Stray = strayLeaf
 -- An inner node's place is shorter than a key.
 abbrev pub Sees : Bytes → List ℕ → Place → Seen → declared.Seen → Type 0
 Sees s table p x Gap = x ≡ gap
-Sees s table p x (Lost t) = x ≡ lost (troubleSays t)
+Sees s table p x (Stopped t) = x ≡ lost (troubleSays t)
 Sees s table p x (Leaf i) = (i < roomOf counted (length s)) × (x ≡ leafAt i s)
 Sees s table p x (Inner i) = (i < roomOf counted (length s)) × (length p < 256) × (x ≡ forkAt i s table p)
 

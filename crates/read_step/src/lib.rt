@@ -52,7 +52,7 @@ pub fn refusal(trouble: Trouble) -> u64
 pub enum Seen {
     // There is no child.
     Gap,
-    Lost(Trouble),
+    Stopped(Trouble),
     Leaf(usize),
     Inner(usize),
 }
@@ -67,7 +67,7 @@ pub fn seen_in(store: &[u8], i: usize, place: Place) -> Seen
         return Seen::Inner(i);
     }
     if !begins(key_of(slot), place) {
-        return Seen::Lost(Trouble::Stray);
+        return Seen::Stopped(Trouble::Stray);
     }
     Seen::Leaf(i)
 }
@@ -84,7 +84,7 @@ pub fn root(store: &[u8], index: &[u32], version: u32) -> Seen
         Sight::Nothing => Seen::Gap,
         Sight::Spoilt(i) => {
             let slot = i as u16;
-            Seen::Lost(Trouble::Spoilt(slot))
+            Seen::Stopped(Trouble::Spoilt(slot))
         }
     }
 }
@@ -109,10 +109,10 @@ pub fn child(store: &[u8], index: &[u32], i: usize, right: bool, place: Place) -
     let sight = look_by(store, index, version, place);
     match sight {
         Sight::Matches(j) => seen_in(store, j, place),
-        Sight::Nothing => Seen::Lost(Trouble::Lost),
+        Sight::Nothing => Seen::Stopped(Trouble::Lost),
         Sight::Spoilt(j) => {
             let slot = j as u16;
-            Seen::Lost(Trouble::Spoilt(slot))
+            Seen::Stopped(Trouble::Spoilt(slot))
         }
     }
 }

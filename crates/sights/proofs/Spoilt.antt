@@ -8,14 +8,12 @@ use mathlib.Core.Option.{Option, none, some}
 use lib.ListN.{length, take, drop, length-append}
 use borrow.Author.Tests.{eq-eqb, ne-eqb}
 use Rattle.terms.specs.declared.Form.the-variants.{Counted as counted}
-use Rattle.terms.specs.Bits.{Bytes, Place, pack, sameBytes}
+use Rattle.terms.specs.Bits.{Bytes}
 use Rattle.terms.specs.Fields.{allZero, allOf}
 use Rattle.terms.specs.Records.{Record, Slot, free, used, spoiled}
 use Rattle.terms.proofs.Tests.{and-true}
 use Rattle.meaning.specs.Sight.{agrees, livesBy, agreesRoot, lowestSpoilt, sighted}
 use Rattle.place.specs.declared.Place as declared-place
-use Rattle.place.specs.Place.{placeOf, Proper}
-use Rattle.place.proofs.Places.{proper-count}
 use Rattle.layout.specs.Sizes.{roomOf}
 use Rattle.layout.specs.Headers.{sizeRight}
 use Rattle.layout.specs.Slots.{slotOf, countIn, bitsIn, versionIn, sinceIn}
@@ -62,26 +60,6 @@ module _ {s : Bytes} {i : ℕ} (has : Has counted s i) (test : Bytes → Bool) w
 
   pub agreed : test (slotIn counted i s) ≡ true → isSpoilt (slotOf (slotIn counted i s)) ≡ spoiltBy test (slotNo counted i s)
   agreed e = tested test (slotIn counted i s) true e ∙ ap (spoiltBy test) (sym (slot-is has))
-
--- a node agrees by version, bit count and bits
-module _ (v : ℕ) (p : declared-place.Place) (proper : Proper p) (x : Bytes) where
-  packed-bits : p .bits ≡ pack 32 (placeOf p)
-  unfolding placeOf
-  packed-bits = proper .trimmed
-
-  pub other-version : (versionIn x ≡ v → ⊥) → agrees v (placeOf p) x ≡ false
-  unfolding agrees allOf
-  other-version f = rw (ne-eqb (versionIn x) v f)
-
-  pub other-count : versionIn x ≡ v → (countIn x ≡ p .count → ⊥) → agrees v (placeOf p) x ≡ false
-  unfolding agrees allOf
-  other-count e f = rw (eq-eqb (versionIn x) v e, ne-eqb (countIn x) (length (placeOf p)) (λ h. f (h ∙ proper-count p proper)))
-
-  pub by-bits : {b : Bool} → versionIn x ≡ v → countIn x ≡ p .count → b ≡ sameBytes (bitsIn x) (p .bits) → agrees v (placeOf p) x ≡ b
-  unfolding agrees allOf
-  by-bits e f g =
-      rw (eq-eqb (versionIn x) v e, eq-eqb (countIn x) (length (placeOf p)) (f ∙ sym (proper-count p proper)))
-      (and-true _ ∙ ap (sameBytes (bitsIn x)) (sym packed-bits) ∙ sym g)
 
 -- a root by empty place and its lifetime
 module _ (v : ℕ) (x : Bytes) where

@@ -1,4 +1,5 @@
 // What finding a node in lent memory tells apart, document 02, 2026-07: a match, nothing, or a spoilt slot whose fields agree.
+use agree::agrees;
 use fields::all_zero;
 use lookup::Found;
 use lookup::covers;
@@ -6,7 +7,6 @@ use lookup::find;
 use lookup::find_root;
 use lookup::holds_record;
 use place::Place;
-use place::same;
 use slots::bits_of;
 use store::count_at;
 use store::retired_at;
@@ -44,24 +44,15 @@ fn is_spoilt(s: &[u8]) -> bool
     !all_zero(s)
 }
 
-// Whether slot i is spoilt and its version, bit count and bits fields agree: the cheap fields first.
+// Whether slot i is spoilt and its fields agree with the node (version, place).
 fn node_spoilt(store: &[u8], i: usize, version: u32, place: Place) -> bool
     requires { ⌜ Has Form.Counted (now store) i × Proper place ⌝ }
     ensures { λ r. ⌜ r ≡ spoiltBy (agrees version (placeOf place)) (slotNo Form.Counted i (now (store .entry))) ⌝ }
 {
-    if version_at(Form::Counted, store, i) != version {
+    if !agrees(Form::Counted, store, i, version, place) {
         return false;
     }
-    let bits = place.bits;
-    let count = place.count;
-    if count_at(Form::Counted, store, i) as usize != count {
-        return false;
-    }
-    let slot = slot_of(Form::Counted, store, i);
-    if !same(bits_of(slot), &bits) {
-        return false;
-    }
-    is_spoilt(slot)
+    is_spoilt(slot_of(Form::Counted, store, i))
 }
 
 // The lowest spoilt slot that agrees with a version and place.

@@ -8,6 +8,7 @@ use layout::slot_start;
 use terms::Form;
 ghost use mathlib.Core.Path.{_≡_};
 ghost use mathlib.Core.Bool.{true};
+ghost use Prim.Native.Nat.{_<_};
 ghost use lib.ListN.{length};
 ghost use Rattle.terms.specs.Fields.{field};
 ghost use Rattle.terms.specs.Records.{countOn};
@@ -15,6 +16,13 @@ ghost use Rattle.layout.specs.Sizes.{slotSize, kindAt, roomOf};
 ghost use Rattle.layout.specs.Headers.{sizeRight};
 ghost use Rattle.layout.specs.Slots.{countIn, versionIn, sinceIn, kidOn, countsIn, SlotLong};
 ghost use Rattle.layout.specs.Stores.{slotIn, storeOf, HeaderWithin, SlotWithin};
+
+// A number of two bytes, a bit count or that of a slot in a table, as an index.
+pub fn wide(x: u16) -> usize
+    ensures { λ r. ⌜ (r ≡ x) × (r < 65536) ⌝ }
+{
+    x as usize
+}
 
 // How many slots a store of the right size has.
 pub fn slot_count(form: Form, store: &[u8]) -> usize

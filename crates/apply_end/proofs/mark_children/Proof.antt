@@ -27,7 +27,7 @@ mark-changed-requires-2 c κs =
     let c5 = c3 .before .before in
     let c6 = c5 .before in
     let c8 = c6 .before .before in
-    right-once-there (c8 .pre) (c6 .left .ensures) (c5 .right .ensures) (c8 .args .writes) (c8 .args .since) (c8 .args .lc) (c3 .mark-changed .ensures)
+    right-once-there (c8 .pre) (c6 .left .ensures) (c5 .right .ensures) (c8 .args .writes) (c8 .args .since) (c8 .args .lchange) (c3 .mark-changed .ensures)
 
 same-length : tie.Need-same-length
 same-length c = search needs
@@ -39,7 +39,7 @@ returns c =
     let c8 = c6 .before .before in
     let c9 = c8 .before in
     let c11 = c9 .before .before in
-    both-marked-there (c11 .pre) (c9 .left .ensures) (c8 .right .ensures) (c11 .args .writes) (c11 .args .since) (c11 .args .lc) (c6 .mark-changed .ensures) (c11 .args .rc) (c2 .mark-changed2 .ensures)
+    both-marked-there (c11 .pre) (c9 .left .ensures) (c8 .right .ensures) (c11 .args .writes) (c11 .args .since) (c11 .args .lchange) (c6 .mark-changed .ensures) (c11 .args .rchange) (c2 .mark-changed2 .ensures)
 
 pub mark-children-spec : {M : Type 1} → statement M
 mark-children-spec =

@@ -56,17 +56,32 @@ grow-calls t = (
 )
 
 -- `A-from-B` is the state A as the later state B has it.
+abbrev grow-start-from-shared-slice-known : (t : ℕ) → grow-lts.After-shared-slice-known (grow-calls t) (grow-at t) grow.Post → grow-lts.Start (grow-calls t) (grow-at t) grow.Post
+grow-start-from-shared-slice-known t c = c .before .before
+
+abbrev grow-start-from-stays-at : (t : ℕ) → grow-lts.After-stays-at (grow-calls t) (grow-at t) grow.Post → grow-lts.Start (grow-calls t) (grow-at t) grow.Post
+grow-start-from-stays-at t c = grow-start-from-shared-slice-known t (c .before)
+
 abbrev grow-stays-at-from-enum-told2 : (t : ℕ) → grow-lts.After-enum-told2 (grow-calls t) (grow-at t) grow.Post → grow-lts.After-stays-at (grow-calls t) (grow-at t) grow.Post
 grow-stays-at-from-enum-told2 t c = c .before .before .before
 
 abbrev grow-to-grow-from-enum-told2 : (t : ℕ) → grow-lts.After-enum-told2 (grow-calls t) (grow-at t) grow.Post → grow-lts.After-to-grow (grow-calls t) (grow-at t) grow.Post
 grow-to-grow-from-enum-told2 t c = c .before .before
 
-abbrev grow-start-from-shared-slice-known : (t : ℕ) → grow-lts.After-shared-slice-known (grow-calls t) (grow-at t) grow.Post → grow-lts.Start (grow-calls t) (grow-at t) grow.Post
-grow-start-from-shared-slice-known t c = c .before .before
+abbrev grow-enum-told2-from-left : (t : ℕ) → grow-lts.After-left (grow-calls t) (grow-at t) grow.Post → grow-lts.After-enum-told2 (grow-calls t) (grow-at t) grow.Post
+grow-enum-told2-from-left t c = c .before .before
 
-abbrev grow-start-from-stays-at : (t : ℕ) → grow-lts.After-stays-at (grow-calls t) (grow-at t) grow.Post → grow-lts.Start (grow-calls t) (grow-at t) grow.Post
-grow-start-from-stays-at t c = grow-start-from-shared-slice-known t (c .before)
+abbrev grow-enum-told2-from-left-run : (t : ℕ) → grow-lts.After-left-run (grow-calls t) (grow-at t) grow.Post → grow-lts.After-enum-told2 (grow-calls t) (grow-at t) grow.Post
+grow-enum-told2-from-left-run t c = grow-enum-told2-from-left t (c .before)
+
+abbrev grow-enum-told2-from-grow-arg2 : (t : ℕ) → grow-lts.After-grow-arg2 (grow-calls t) (grow-at t) grow.Post → grow-lts.After-enum-told2 (grow-calls t) (grow-at t) grow.Post
+grow-enum-told2-from-grow-arg2 t c = grow-enum-told2-from-left-run t (c .before .before .before .before)
+
+abbrev grow-grow-from-right-run : (t : ℕ) → grow-lts.After-right-run (grow-calls t) (grow-at t) grow.Post → grow-lts.After-grow (grow-calls t) (grow-at t) grow.Post
+grow-grow-from-right-run t c = c .before .before .before .before .before
+
+abbrev grow-grow2-from-fork-arg : (t : ℕ) → grow-lts.After-fork-arg (grow-calls t) (grow-at t) grow.Post → grow-lts.After-grow2 (grow-calls t) (grow-at t) grow.Post
+grow-grow2-from-fork-arg t c = c .before .before .before .before
 
 grow-stays-at-requires : (t : ℕ) → grow-lts.Need-stays-at-requires (grow-calls t) (grow-at t) grow.Post
 grow-stays-at-requires t c κs = grow-start-from-shared-slice-known t c .pre .1 .proper
@@ -93,48 +108,44 @@ grow-left-requires t c κs =
 
 grow-left-run-requires : (t : ℕ) → grow-lts.Need-left-run-requires (grow-calls t) (grow-at t) grow.Post
 grow-left-run-requires t c κs =
-    let after-enum-told2 = c .before .before in
+    let after-enum-told2 = grow-enum-told2-from-left t c in
     let after-stays-at = grow-stays-at-from-enum-told2 t after-enum-told2 in
     let start = grow-start-from-stays-at t after-stays-at in
     run-at (start .args .place) (start .args .run .now) (start .pre .1 .proper) (several-short (start .pre .1) (few-is (start .pre .1) (after-stays-at .stays-at .result) (after-stays-at .stays-at .ensures) (after-enum-told2 .enum-told2 .given .1) (grow-to-grow-from-enum-told2 t after-enum-told2 .to-grow .ensures))) (start .pre .1 .run)
 
 grow-grow-requires : (t : ℕ) → grow-lts.Need-grow-requires (grow-calls t) (grow-at t) grow.Post
 grow-grow-requires t c κs =
-    let after-left = c .before in
-    let after-enum-told2 = after-left .before .before in
+    let after-enum-told2 = grow-enum-told2-from-left-run t c in
     let after-stays-at = grow-stays-at-from-enum-told2 t after-enum-told2 in
     let start = grow-start-from-stays-at t after-stays-at in
     let w = start .pre .1 in
     let h = several-short w (few-is w (after-stays-at .stays-at .result) (after-stays-at .stays-at .ensures) (after-enum-told2 .enum-told2 .given .1) (grow-to-grow-from-enum-told2 t after-enum-told2 .to-grow .ensures)) in
-    let g = after-left .left .ensures in
+    let g = c .before .left .ensures in
     (omega (arith, start .pre .0, h, g .count), side-grows w false h g (c .left-run .ensures) (w .stored) (w .starts))
 
 grow-right-requires : (t : ℕ) → grow-lts.Need-right-requires (grow-calls t) (grow-at t) grow.Post
 grow-right-requires t c κs =
-    let after-left = c .before .before .before .before .before in
-    let after-enum-told2 = after-left .before .before in
+    let after-enum-told2 = grow-enum-told2-from-grow-arg2 t c in
     let after-stays-at = grow-stays-at-from-enum-told2 t after-enum-told2 in
     let start = grow-start-from-stays-at t after-stays-at in
     (start .pre .1 .proper, several-short (start .pre .1) (few-is (start .pre .1) (after-stays-at .stays-at .result) (after-stays-at .stays-at .ensures) (after-enum-told2 .enum-told2 .given .1) (grow-to-grow-from-enum-told2 t after-enum-told2 .to-grow .ensures)))
 
 grow-right-run-requires : (t : ℕ) → grow-lts.Need-right-run-requires (grow-calls t) (grow-at t) grow.Post
 grow-right-run-requires t c κs =
-    let after-left-run = c .before .before .before .before .before in
-    let after-enum-told2 = after-left-run .before .before .before in
+    let after-enum-told2 = grow-enum-told2-from-grow-arg2 t (c .before) in
     let after-stays-at = grow-stays-at-from-enum-told2 t after-enum-told2 in
     let start = grow-start-from-stays-at t after-stays-at in
     run-at (start .args .place) (start .args .run .now) (start .pre .1 .proper) (several-short (start .pre .1) (few-is (start .pre .1) (after-stays-at .stays-at .result) (after-stays-at .stays-at .ensures) (after-enum-told2 .enum-told2 .given .1) (grow-to-grow-from-enum-told2 t after-enum-told2 .to-grow .ensures))) (start .pre .1 .run)
 
 grow-grow-requires-2 : (t : ℕ) → grow-lts.Need-grow-requires-2 (grow-calls t) (grow-at t) grow.Post
 grow-grow-requires-2 t c κs =
-    let after-right = c .before in
-    let after-grow = after-right .before .before .before .before in
-    let after-enum-told2 = after-grow .before .before .before .before in
+    let after-grow = grow-grow-from-right-run t c in
+    let after-enum-told2 = grow-enum-told2-from-left-run t (after-grow .before) in
     let after-stays-at = grow-stays-at-from-enum-told2 t after-enum-told2 in
     let start = grow-start-from-stays-at t after-stays-at in
     let w = start .pre .1 in
     let h = several-short w (few-is w (after-stays-at .stays-at .result) (after-stays-at .stays-at .ensures) (after-enum-told2 .enum-told2 .given .1) (grow-to-grow-from-enum-told2 t after-enum-told2 .to-grow .ensures)) in
-    let g = after-right .right .ensures in
+    let g = c .before .right .ensures in
     (omega (arith, start .pre .0, h, g .count), side-grows w true h g (c .right-run .ensures) (changed-stored (after-grow .grow .ensures .bytes)) (after-grow .grow .ensures .reach .starts))
 
 grow-child-of-requires : (t : ℕ) → grow-lts.Need-child-of-requires (grow-calls t) (grow-at t) grow.Post
@@ -143,19 +154,16 @@ grow-child-of-requires t c κs =
 
 grow-fork-requires : (t : ℕ) → grow-lts.Need-fork-requires (grow-calls t) (grow-at t) grow.Post
 grow-fork-requires t c κs =
-    let after-child-of = c .before in
-    let after-grow2 = after-child-of .before .before .before in
+    let after-grow2 = grow-grow2-from-fork-arg t c in
     let after-right-run = after-grow2 .before in
-    let after-right = after-right-run .before in
-    let after-grow = after-right .before .before .before .before in
+    let after-grow = grow-grow-from-right-run t after-right-run in
     let after-left-run = after-grow .before in
-    let after-left = after-left-run .before in
-    let after-enum-told2 = after-left .before .before in
+    let after-enum-told2 = grow-enum-told2-from-left-run t after-left-run in
     let after-stays-at = grow-stays-at-from-enum-told2 t after-enum-told2 in
     let start = grow-start-from-stays-at t after-stays-at in
     let w = start .pre .1 in
     let h = several-short w (few-is w (after-stays-at .stays-at .result) (after-stays-at .stays-at .ensures) (after-enum-told2 .enum-told2 .given .1) (grow-to-grow-from-enum-told2 t after-enum-told2 .to-grow .ensures)) in
-    sides-fork w (omega (arith, start .fits)) h (after-left .left .ensures) (after-right .right .ensures) (after-left-run .left-run .ensures) (after-right-run .right-run .ensures) (after-grow .grow .ensures) (after-grow2 .grow2 .ensures) (after-child-of .child-of .ensures)
+    sides-fork w (omega (arith, start .fits)) h (after-left-run .before .left .ensures) (after-right-run .before .right .ensures) (after-left-run .left-run .ensures) (after-right-run .right-run .ensures) (after-grow .grow .ensures) (after-grow2 .grow2 .ensures) (c .before .child-of .ensures)
 
 grow-returns : (t : ℕ) → grow-lts.Need-returns (grow-calls t) (grow-at t) grow.Post
 grow-returns t c =
@@ -178,18 +186,16 @@ grow-same-length t c = search needs
 grow-returns-3 : (t : ℕ) → grow-lts.Need-returns-3 (grow-calls t) (grow-at t) grow.Post
 grow-returns-3 t c =
     let after-fork = c .before .before in
-    let after-grow2 = after-fork .before .before .before .before .before in
+    let after-grow2 = grow-grow2-from-fork-arg t (after-fork .before) in
     let after-right-run = after-grow2 .before in
-    let after-right = after-right-run .before in
-    let after-grow = after-right .before .before .before .before in
+    let after-grow = grow-grow-from-right-run t after-right-run in
     let after-left-run = after-grow .before in
-    let after-left = after-left-run .before in
-    let after-enum-told2 = after-left .before .before in
+    let after-enum-told2 = grow-enum-told2-from-left-run t after-left-run in
     let after-stays-at = grow-stays-at-from-enum-told2 t after-enum-told2 in
     let start = grow-start-from-stays-at t after-stays-at in
     let w = start .pre .1 in
     let f = few-is w (after-stays-at .stays-at .result) (after-stays-at .stays-at .ensures) (after-enum-told2 .enum-told2 .given .1) (grow-to-grow-from-enum-told2 t after-enum-told2 .to-grow .ensures) in
-    several-did w (omega (arith, start .fits)) (several-short w f) (after-left .left .ensures) (after-right .right .ensures) (after-left-run .left-run .ensures) (after-right-run .right-run .ensures) (after-grow .grow .ensures) (after-grow2 .grow2 .ensures) f (after-fork .fork .ensures)
+    several-did w (omega (arith, start .fits)) (several-short w f) (after-left-run .before .left .ensures) (after-right-run .before .right .ensures) (after-left-run .left-run .ensures) (after-right-run .right-run .ensures) (after-grow .grow .ensures) (after-grow2 .grow2 .ensures) f (after-fork .fork .ensures)
 
 pub +grow-spec : {M : Type 1} → statement M
 +grow-spec = close μ-grow λ t. grow-lts.spec (grow-calls t)

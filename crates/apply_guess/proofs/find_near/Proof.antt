@@ -19,8 +19,8 @@ abbrev μ-loop : tie.MeasureT-loop
 abbrev start-from-start-of : tie.After-start-of Inv-loop μ-loop → tie.Start Inv-loop μ-loop
 start-from-start-of c = c .before .before .before .before .before
 
-abbrev start-from-slot-number : tie.After-slot-number Inv-loop μ-loop → tie.Start Inv-loop μ-loop
-start-from-slot-number c = start-from-start-of (c .before .before .before .before)
+abbrev start-from-wide : tie.After-wide Inv-loop μ-loop → tie.Start Inv-loop μ-loop
+start-from-wide c = start-from-start-of (c .before .before .before .before)
 
 returns : tie.Need-returns Inv-loop μ-loop
 returns c =
@@ -38,25 +38,25 @@ loop-holds : tie.Need-loop-holds Inv-loop μ-loop
 loop-holds c =
     (c .start-of .ensures, omega arith)
 
-add-slot-number : tie.Need-add-slot-number Inv-loop μ-loop
-add-slot-number c = omega arith
+add-wide : tie.Need-add-wide Inv-loop μ-loop
+add-wide c = omega arith
 
-mul-slot-number : tie.Need-mul-slot-number Inv-loop μ-loop
-mul-slot-number c = omega arith
+mul-wide : tie.Need-mul-wide Inv-loop μ-loop
+mul-wide c = omega arith
 
-element-copy-out-slot-number : tie.Need-element-copy-out-slot-number Inv-loop μ-loop
-element-copy-out-slot-number c = omega arith
+element-copy-out-wide : tie.Need-element-copy-out-wide Inv-loop μ-loop
+element-copy-out-wide c = omega arith
 
-slot-number-requires : tie.Need-slot-number-requires Inv-loop μ-loop
-slot-number-requires c κs = search needs
+wide-requires : tie.Need-wide-requires Inv-loop μ-loop
+wide-requires c κs = search needs
 
 holds-requires : tie.Need-holds-requires Inv-loop μ-loop
 holds-requires c κs =
-    let start = start-from-slot-number c in
+    let start = start-from-wide c in
     (stored-size (start .pre .stored), start .pre .proper)
 
 returns-2 : tie.Need-returns-2 Inv-loop μ-loop
-returns-2 c = guessed (start-from-slot-number (c .before .before) .pre) (c .if2 .taken) (c .before .holds .ensures)
+returns-2 c = guessed (start-from-wide (c .before .before) .pre) (c .if2 .taken) (c .before .holds .ensures)
 
 add-j : tie.Need-add-j Inv-loop μ-loop
 add-j c = omega arith
@@ -87,10 +87,10 @@ find-near-spec =
     slice-aggregate-start-of
     start-of-requires
     loop-holds
-    add-slot-number
-    mul-slot-number
-    element-copy-out-slot-number
-    slot-number-requires
+    add-wide
+    mul-wide
+    element-copy-out-wide
+    wide-requires
     holds-requires
     returns-2
     add-j

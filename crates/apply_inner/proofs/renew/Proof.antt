@@ -36,7 +36,7 @@ returns c =
     let at-match-keys2 = after-mark-children .before .before in
     let after-remains-of = at-match-keys2 .before in
     let start = start-from-remains-of after-remains-of in
-    is-more (start .args .new) (start .args .writes) (start .args .store .now) (start .args .place) (start .args .cl) (start .args .cr) (start .args .l) (start .args .r) (after-remains-of .remains-of .ensures) (at-match-keys2 .match .keys2) (marked-new (start .args .writes) _ (start .pre .marks) (after-mark-children .mark-children .ensures)) (after-fork .fork .ensures)
+    is-more (start .args .new) (start .args .writes) (start .args .store .now) (start .args .place) (start .args .lchild) (start .args .rchild) (start .args .l) (start .args .r) (after-remains-of .remains-of .ensures) (at-match-keys2 .match .keys2) (marked-new (start .args .writes) _ (start .pre .marks) (after-mark-children .mark-children .ensures)) (after-fork .fork .ensures)
 
 mark-children-requires-2 : tie.Need-mark-children-requires-2
 mark-children-requires-2 c κs = start-from-remains-of (c .before .before .before .before) .pre .ends
@@ -50,7 +50,7 @@ returns-2 c =
     let after-stands = after-mark-children2 .before .before .before in
     let after-remains-of = after-stands .before .before in
     let start = start-from-remains-of after-remains-of in
-    is-lone (start .args .new) (start .args .writes) (start .args .store .now) (start .args .place) (start .args .cl) (start .args .cr) (start .args .l) (start .args .r) (after-remains-of .remains-of .ensures) (after-stands .stands .given .1) (marked-new (start .args .writes) _ (start .pre .marks) (after-mark-children2 .mark-children2 .ensures))
+    is-lone (start .args .new) (start .args .writes) (start .args .store .now) (start .args .place) (start .args .lchild) (start .args .rchild) (start .args .l) (start .args .r) (after-remains-of .remains-of .ensures) (after-stands .stands .given .1) (marked-new (start .args .writes) _ (start .pre .marks) (after-mark-children2 .mark-children2 .ensures))
 
 pub renew-spec : {M : Type 1} → statement M
 renew-spec =

@@ -17,11 +17,17 @@ Inv-loop store from n i₀ i = Passed store n i
 abbrev μ-loop : tie.MeasureT-loop
 μ-loop store from n i₀ i = n - i
 
+-- `A-from-B` is the state A as the later state B has it.
+abbrev else1-from-all-zero : tie.After-all-zero Inv-loop μ-loop → tie.Else1 Inv-loop μ-loop
+else1-from-all-zero c = c .before .before
+
 slot-count-requires : tie.Need-slot-count-requires Inv-loop μ-loop
 slot-count-requires c κs = stored-size (c .before .pre .0)
 
 loop-holds : tie.Need-loop-holds Inv-loop μ-loop
-loop-holds c = search-from (c .before .before .pre .0) (c .slot-count .ensures) (c .before .before .pre .1)
+loop-holds c =
+    let start = c .before .before in
+    search-from (start .pre .0) (c .slot-count .ensures) (start .pre .1)
 
 slot-of-requires : tie.Need-slot-of-requires Inv-loop μ-loop
 slot-of-requires c κs = slot-within (scan-slot (c .before .loop .inv) (c .if1 .left))
@@ -31,11 +37,11 @@ all-zero-requires c κs = search needs
 
 add-i : tie.Need-add-i Inv-loop μ-loop
 add-i c =
-    let else1 = c .before .before .before in
+    let else1 = else1-from-all-zero (c .before) in
     omega (arith, else1 .before .loop .inv .small, else1 .if1 .left)
 
 loop-less : tie.Need-loop-less Inv-loop μ-loop
-loop-less c = omega (arith, c .before .before .before .if1 .left)
+loop-less c = omega (arith, else1-from-all-zero (c .before) .if1 .left)
 
 loop-again : tie.Need-loop-again Inv-loop μ-loop
 loop-again c =

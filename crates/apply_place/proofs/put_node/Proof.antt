@@ -15,44 +15,51 @@ enum-told c = search needs
 enum-known-node : tie.Need-enum-known-node
 enum-known-node c = search needs
 
+-- `A-from-B` is the state A as the later state B has it.
+abbrev start-from-put-inner-at-arg : tie.After-put-inner-at-arg → tie.Start
+start-from-put-inner-at-arg c = c .before .before .before .before .before
+
+abbrev start-from-put-leaf-new-arg : tie.After-put-leaf-new-arg → tie.Start
+start-from-put-leaf-new-arg c = c .before .before .before .before .before
+
 put-leaf-new-requires : tie.Need-put-leaf-new-requires
 put-leaf-new-requires c κs =
-    let c5 = c .before .before .before .before .before in
-    (slot-within (c5 .pre .stored) _ (c5 .pre .lowest .within), c5 .pre .proper)
+    let start = start-from-put-leaf-new-arg c in
+    (slot-within (start .pre .stored) _ (start .pre .lowest .within), start .pre .proper)
 
 enum-known-node-2 : tie.Need-enum-known-node-2
 enum-known-node-2 c = search needs
 
 put-inner-at-requires : tie.Need-put-inner-at-requires
 put-inner-at-requires c κs =
-    let c5 = c .before .before .before .before .before in
-    (slot-within (c5 .pre .stored) _ (c5 .pre .lowest .within), c5 .pre .proper)
+    let start = start-from-put-inner-at-arg c in
+    (slot-within (start .pre .stored) _ (start .pre .lowest .within), start .pre .proper)
 
 returns : tie.Need-returns
 returns c =
-    let c3 = c .before .before .before in
-    let m = placed (recordSays (placeOf (c3 .args .place)) (c3 .args .node)) in
-    changed-as (λ x. x) m (sym (placed-gone (placeOf (c3 .args .place)) (c3 .args .node) (c .enum-told .given .1) _)) (unchanged (c3 .pre .stored))
+    let start = c .before .before .before in
+    let m = placed (recordSays (placeOf (start .args .place)) (start .args .node)) in
+    changed-as (λ x. x) m (sym (placed-gone (placeOf (start .args .place)) (start .args .node) (c .enum-told .given .1) _)) (unchanged (start .pre .stored))
 
 same-length : tie.Need-same-length
 same-length c = search needs
 
 returns-2 : tie.Need-returns-2
 returns-2 c =
-    let c2 = c .before .before in
-    let c5 = c2 .before .before .before in
-    let c8 = c5 .before .before .before in
-    placed-leaf (placeOf (c8 .args .place)) (c8 .args .node) (c8 .pre .stored) (c5 .node .given .1) (c8 .pre .form) (c8 .pre .lowest) (c2 .put-leaf-new .ensures)
+    let after-put-leaf-new = c .before .before in
+    let after-put-leaf-new-arg = after-put-leaf-new .before in
+    let start = start-from-put-leaf-new-arg after-put-leaf-new-arg in
+    placed-leaf (placeOf (start .args .place)) (start .args .node) (start .pre .stored) (after-put-leaf-new-arg .before .before .node .given .1) (start .pre .form) (start .pre .lowest) (after-put-leaf-new .put-leaf-new .ensures)
 
 same-length-2 : tie.Need-same-length-2
 same-length-2 c = search needs
 
 returns-3 : tie.Need-returns-3
 returns-3 c =
-    let c2 = c .before .before in
-    let c5 = c2 .before .before .before in
-    let c8 = c5 .before .before .before in
-    placed-inner (placeOf (c8 .args .place)) (c8 .args .node) (c8 .pre .stored) (c5 .node2 .given .1) (c8 .pre .form) (c8 .pre .lowest) (c2 .put-inner-at .ensures)
+    let after-put-inner-at = c .before .before in
+    let after-put-inner-at-arg = after-put-inner-at .before in
+    let start = start-from-put-inner-at-arg after-put-inner-at-arg in
+    placed-inner (placeOf (start .args .place)) (start .args .node) (start .pre .stored) (after-put-inner-at-arg .before .before .node2 .given .1) (start .pre .form) (start .pre .lowest) (after-put-inner-at .put-inner-at .ensures)
 
 pub put-node-spec : {M : Type 1} → statement M
 put-node-spec =

@@ -15,11 +15,38 @@ use Rattle.apply_publish.proofs.publish.Statement.{statement}
 use Rattle.apply_publish.proofs.publish.Tie as tie
 
 -- `A-from-B` is the state A as the later state B has it.
+abbrev start-from-shared-slice-known : tie.After-shared-slice-known → tie.Start
+start-from-shared-slice-known c = c .before .before
+
+abbrev shared-slice-known-from-else1 : tie.Else1 → tie.After-shared-slice-known
+shared-slice-known-from-else1 c = c .before .before .before
+
+abbrev slice-known-from-top : tie.After-top → tie.After-slice-known
+slice-known-from-top c = c .before .before .before .before .before
+
+abbrev else1-from-root-version : tie.After-root-version → tie.Else1
+else1-from-root-version c = c .before .before .before
+
+abbrev top-from-root-version : tie.After-root-version → tie.After-top
+top-from-root-version c = c .before .before
+
+abbrev root-version-from-guesses2 : tie.After-guesses2 → tie.After-root-version
+root-version-from-guesses2 c = c .before .before .before .before .before
+
+abbrev root-version-from-at-root : tie.After-at-root → tie.After-root-version
+root-version-from-at-root c = root-version-from-guesses2 (c .before)
+
 abbrev at-root-from-count-free-arg : tie.After-count-free-arg → tie.After-at-root
 at-root-from-count-free-arg c = c .before .before .before
 
-abbrev start-from-shared-slice-known : tie.After-shared-slice-known → tie.Start
-start-from-shared-slice-known c = c .before .before
+abbrev at-root-from-count-free : tie.After-count-free → tie.After-at-root
+at-root-from-count-free c = at-root-from-count-free-arg (c .before)
+
+abbrev at-root-from-guesses3 : tie.After-guesses3 → tie.After-at-root
+at-root-from-guesses3 c = at-root-from-count-free (c .before .before .before .before)
+
+abbrev at-root2-from-put-latest-arg : tie.After-put-latest-arg → tie.After-at-root2
+at-root2-from-put-latest-arg c = c .before .before .before
 
 latest-of-requires : tie.Need-latest-of-requires
 latest-of-requires c κs = omega (arith, sound-long (start-from-shared-slice-known (c .before) .pre .sound))
@@ -39,32 +66,27 @@ top-requires c κs = search needs
 
 root-version-requires : tie.Need-root-version-requires
 root-version-requires c κs =
-    let c1 = c .before in
-    let c6 = c1 .before .before .before .before .before in
-    let c7 = c6 .before in
-    let b = all-of Byte (c7 .args .store .now) 0 (λ i _. omega (arith, c6 .slice-known .given i)) in
-    stored (c7 .pre) b
+    let after-slice-known = slice-known-from-top (c .before) in
+    let start = after-slice-known .before in
+    let b = all-of Byte (start .args .store .now) 0 (λ i _. omega (arith, after-slice-known .slice-known .given i)) in
+    stored (start .pre) b
 
 guess-all-requires : tie.Need-guess-all-requires
 guess-all-requires c κs =
-    let else1 = c .before .before .before .before .before in
-    let after-shared-slice-known = else1 .before .before .before in
-    let start = start-from-shared-slice-known after-shared-slice-known in
-    let b = all-of Byte (start .args .store .now) 0 (λ i _. omega (arith, after-shared-slice-known .before .slice-known .given i)) in
+    let after-slice-known = slice-known-from-top (c .before .before .before .before) in
+    let start = after-slice-known .before in
+    let b = all-of Byte (start .args .store .now) 0 (λ i _. omega (arith, after-slice-known .slice-known .given i)) in
     stored (start .pre) b
 
 at-root-requires : tie.Need-at-root-requires
 at-root-requires c κs =
-    let c5 = c .before .before .before .before .before in
-    let c7 = c5 .before .before in
-    let c8 = c7 .before in
-    let c9 = c8 .before in
-    let c11 = c9 .before .before in
-    let c12 = c11 .before in
-    let c13 = c12 .before in
-    let b = all-of Byte (c13 .args .store .now) 0 (λ i _. omega (arith, c12 .slice-known .given i)) in
-    let d = all-of Byte (c13 .args .batch .now) 0 (λ i _. omega (arith, c11 .shared-slice-known .given i)) in
-    first-time (c13 .pre) b d (c9 .latest-of .ensures) (c8 .if1 .left) (c7 .top .ensures) (c5 .root-version .ensures) false
+    let after-root-version = root-version-from-guesses2 c in
+    let else1 = else1-from-root-version after-root-version in
+    let after-shared-slice-known = shared-slice-known-from-else1 else1 in
+    let start = start-from-shared-slice-known after-shared-slice-known in
+    let b = all-of Byte (start .args .store .now) 0 (λ i _. omega (arith, after-shared-slice-known .before .slice-known .given i)) in
+    let d = all-of Byte (start .args .batch .now) 0 (λ i _. omega (arith, after-shared-slice-known .shared-slice-known .given i)) in
+    first-time (start .pre) b d (else1 .before .latest-of .ensures) (else1 .if1 .left) (top-from-root-version after-root-version .top .ensures) (after-root-version .root-version .ensures) false
 
 count-free-requires : tie.Need-count-free-requires
 count-free-requires c κs = changed-stored (at-root-from-count-free-arg c .at-root .ensures .bytes)
@@ -76,36 +98,28 @@ returns-2 : tie.Need-returns-2
 unfolding appliedSays
 returns-2 c =
     let after-count-free = c .before .before in
-    let after-at-root = after-count-free .before .before .before .before in
-    let after-guesses = after-at-root .before .before .before .before in
-    let after-root-version = after-guesses .before .before in
-    let after-top = after-root-version .before .before in
-    let else1 = after-top .before in
-    let after-latest-of = else1 .before in
-    let after-shared-slice-known = after-latest-of .before .before in
+    let after-at-root = at-root-from-count-free after-count-free in
+    let after-root-version = root-version-from-at-root after-at-root in
+    let else1 = else1-from-root-version after-root-version in
+    let after-shared-slice-known = shared-slice-known-from-else1 else1 in
     let start = start-from-shared-slice-known after-shared-slice-known in
     let b = all-of Byte (start .args .store .now) 0 (λ i _. omega (arith, after-shared-slice-known .before .slice-known .given i)) in
     let d = all-of Byte (start .args .batch .now) 0 (λ i _. omega (arith, after-shared-slice-known .shared-slice-known .given i)) in
-    no-room (start .pre) b d (after-latest-of .latest-of .ensures) (else1 .if1 .left) (after-top .top .ensures) (after-root-version .root-version .ensures) (after-at-root .at-root .ensures) (after-count-free .count-free .ensures) (c .if2 .taken)
+    no-room (start .pre) b d (else1 .before .latest-of .ensures) (else1 .if1 .left) (top-from-root-version after-root-version .top .ensures) (after-root-version .root-version .ensures) (after-at-root .at-root .ensures) (after-count-free .count-free .ensures) (c .if2 .taken)
 
 at-root-requires-2 : tie.Need-at-root-requires-2
 at-root-requires-2 c κs =
-    let after-count-free-arg = c .before .before .before .before .before in
-    let after-guesses2 = after-count-free-arg .before .before .before .before in
-    let after-root-version = after-guesses2 .before .before .before .before .before in
-    let after-top = after-root-version .before .before in
-    let else1 = after-top .before in
-    let after-latest-of = else1 .before in
-    let after-shared-slice-known = after-latest-of .before .before in
+    let after-at-root = at-root-from-guesses3 c in
+    let after-root-version = root-version-from-at-root after-at-root in
+    let else1 = else1-from-root-version after-root-version in
+    let after-shared-slice-known = shared-slice-known-from-else1 else1 in
     let start = start-from-shared-slice-known after-shared-slice-known in
     let b = all-of Byte (start .args .store .now) 0 (λ i _. omega (arith, after-shared-slice-known .before .slice-known .given i)) in
     let d = all-of Byte (start .args .batch .now) 0 (λ i _. omega (arith, after-shared-slice-known .shared-slice-known .given i)) in
-    second-time (start .pre) b d (after-latest-of .latest-of .ensures) (else1 .if1 .left) (after-top .top .ensures) (after-root-version .root-version .ensures) (at-root-from-count-free-arg after-count-free-arg .at-root .ensures)
+    second-time (start .pre) b d (else1 .before .latest-of .ensures) (else1 .if1 .left) (top-from-root-version after-root-version .top .ensures) (after-root-version .root-version .ensures) (after-at-root .at-root .ensures)
 
 put-latest-requires : tie.Need-put-latest-requires
-put-latest-requires c κs =
-    let c3 = c .before .before .before in
-    omega (arith, stored-accepted (changed-stored (c3 .at-root2 .ensures .bytes)))
+put-latest-requires c κs = omega (arith, stored-accepted (changed-stored (at-root2-from-put-latest-arg c .at-root2 .ensures .bytes)))
 
 child-of-requires : tie.Need-child-of-requires
 child-of-requires c κs = search needs
@@ -113,8 +127,7 @@ child-of-requires c κs = search needs
 cast-count : tie.Need-cast-count
 cast-count c =
     let after-put-latest = c .before .before .before .before .before in
-    let after-guesses3 = after-put-latest .before .before .before .before .before in
-    omega (arith, at-root-from-count-free-arg (after-guesses3 .before .before .before .before .before) .at-root .ensures .reach .starts .few)
+    omega (arith, at-root-from-guesses3 (after-put-latest .before .before .before .before .before) .at-root .ensures .reach .starts .few)
 
 same-length-3 : tie.Need-same-length-3
 same-length-3 c = search needs
@@ -124,20 +137,17 @@ unfolding appliedSays
 returns-3 c =
     let after-child-of = c .before .before in
     let after-put-latest = after-child-of .before .before .before in
-    let after-at-root2 = after-put-latest .before .before .before .before in
+    let after-at-root2 = at-root2-from-put-latest-arg (after-put-latest .before) in
     let else2 = after-at-root2 .before .before .before in
     let after-count-free = else2 .before .before in
-    let after-at-root = after-count-free .before .before .before .before in
-    let after-guesses = after-at-root .before .before .before .before in
-    let after-root-version = after-guesses .before .before in
-    let after-top = after-root-version .before .before in
-    let else1 = after-top .before in
-    let after-latest-of = else1 .before in
-    let after-shared-slice-known = after-latest-of .before .before in
+    let after-at-root = at-root-from-count-free after-count-free in
+    let after-root-version = root-version-from-at-root after-at-root in
+    let else1 = else1-from-root-version after-root-version in
+    let after-shared-slice-known = shared-slice-known-from-else1 else1 in
     let start = start-from-shared-slice-known after-shared-slice-known in
     let b = all-of Byte (start .args .store .now) 0 (λ i _. omega (arith, after-shared-slice-known .before .slice-known .given i)) in
     let d = all-of Byte (start .args .batch .now) 0 (λ i _. omega (arith, after-shared-slice-known .shared-slice-known .given i)) in
-    published (start .pre) b d (after-latest-of .latest-of .ensures) (else1 .if1 .left) (after-top .top .ensures) (after-root-version .root-version .ensures) (after-at-root .at-root .ensures) (after-count-free .count-free .ensures) (else2 .if2 .left) (after-child-of .child-of .result) (after-at-root2 .at-root2 .ensures) (after-put-latest .put-latest .ensures) (after-child-of .child-of .ensures)
+    published (start .pre) b d (else1 .before .latest-of .ensures) (else1 .if1 .left) (top-from-root-version after-root-version .top .ensures) (after-root-version .root-version .ensures) (after-at-root .at-root .ensures) (after-count-free .count-free .ensures) (else2 .if2 .left) (after-child-of .child-of .result) (after-at-root2 .at-root2 .ensures) (after-put-latest .put-latest .ensures) (after-child-of .child-of .ensures)
 
 pub publish-spec : {M : Type 1} → statement M
 publish-spec =

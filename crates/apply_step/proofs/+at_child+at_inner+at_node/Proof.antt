@@ -99,35 +99,53 @@ at-node-calls t = (
 )
 
 -- `A-from-B` is the state A as the later state B has it.
-abbrev at-inner-start-from-left : (t : ℕ) → at-inner-lts.After-left (at-inner-calls t) (at-inner-at t) at-inner.Post → at-inner-lts.Start (at-inner-calls t) (at-inner-at t) at-inner.Post
-at-inner-start-from-left t c = c .before .before .before .before
+abbrev at-child-start-from-at-node-arg : (t : ℕ) → at-child-lts.After-at-node-arg (at-child-calls t) (at-child-at t) at-child.Post → at-child-lts.Start (at-child-calls t) (at-child-at t) at-child.Post
+at-child-start-from-at-node-arg t c = c .before .before .before .before
 
 abbrev at-child-start-from-unchanged-at-arg : (t : ℕ) → at-child-lts.After-unchanged-at-arg (at-child-calls t) (at-child-at t) at-child.Post → at-child-lts.Start (at-child-calls t) (at-child-at t) at-child.Post
 at-child-start-from-unchanged-at-arg t c = c .before .before .before .before
 
-abbrev at-child-start-from-at-node-arg : (t : ℕ) → at-child-lts.After-at-node-arg (at-child-calls t) (at-child-at t) at-child.Post → at-child-lts.Start (at-child-calls t) (at-child-at t) at-child.Post
-at-child-start-from-at-node-arg t c = c .before .before .before .before
-
 abbrev at-inner-start-from-at-child-arg : (t : ℕ) → at-inner-lts.After-at-child-arg (at-inner-calls t) (at-inner-at t) at-inner.Post → at-inner-lts.Start (at-inner-calls t) (at-inner-at t) at-inner.Post
 at-inner-start-from-at-child-arg t c = c .before .before .before
 
-abbrev at-node-find-near-from-onward-from : (t : ℕ) → at-node-lts.After-onward-from (at-node-calls t) (at-node-at t) at-node.Post → at-node-lts.After-find-near (at-node-calls t) (at-node-at t) at-node.Post
-at-node-find-near-from-onward-from t c = c .before .before
-
-abbrev at-node-start-from-find-near-arg : (t : ℕ) → at-node-lts.After-find-near-arg (at-node-calls t) (at-node-at t) at-node.Post → at-node-lts.Start (at-node-calls t) (at-node-at t) at-node.Post
-at-node-start-from-find-near-arg t c = c .before .before .before
+abbrev at-inner-start-from-left : (t : ℕ) → at-inner-lts.After-left (at-inner-calls t) (at-inner-at t) at-inner.Post → at-inner-lts.Start (at-inner-calls t) (at-inner-at t) at-inner.Post
+at-inner-start-from-left t c = at-inner-start-from-at-child-arg t (c .before)
 
 abbrev at-inner-start-from-left-run : (t : ℕ) → at-inner-lts.After-left-run (at-inner-calls t) (at-inner-at t) at-inner.Post → at-inner-lts.Start (at-inner-calls t) (at-inner-at t) at-inner.Post
-at-inner-start-from-left-run t c = at-inner-start-from-at-child-arg t (c .before .before)
-
-abbrev at-node-start-from-find-near : (t : ℕ) → at-node-lts.After-find-near (at-node-calls t) (at-node-at t) at-node.Post → at-node-lts.Start (at-node-calls t) (at-node-at t) at-node.Post
-at-node-start-from-find-near t c = at-node-start-from-find-near-arg t (c .before)
+at-inner-start-from-left-run t c = at-inner-start-from-left t (c .before)
 
 abbrev at-inner-start-from-at-child-arg2 : (t : ℕ) → at-inner-lts.After-at-child-arg2 (at-inner-calls t) (at-inner-at t) at-inner.Post → at-inner-lts.Start (at-inner-calls t) (at-inner-at t) at-inner.Post
 at-inner-start-from-at-child-arg2 t c = at-inner-start-from-left-run t (c .before .before .before .before)
 
+abbrev at-inner-at-child-from-right-run : (t : ℕ) → at-inner-lts.After-right-run (at-inner-calls t) (at-inner-at t) at-inner.Post → at-inner-lts.After-at-child (at-inner-calls t) (at-inner-at t) at-inner.Post
+at-inner-at-child-from-right-run t c = c .before .before .before .before .before
+
+abbrev at-inner-at-child2-from-else1 : (t : ℕ) → at-inner-lts.Else1 (at-inner-calls t) (at-inner-at t) at-inner.Post → at-inner-lts.After-at-child2 (at-inner-calls t) (at-inner-at t) at-inner.Post
+at-inner-at-child2-from-else1 t c = c .before .before .before
+
+abbrev at-inner-at-child2-from-settle-in-arg : (t : ℕ) → at-inner-lts.After-settle-in-arg (at-inner-calls t) (at-inner-at t) at-inner.Post → at-inner-lts.After-at-child2 (at-inner-calls t) (at-inner-at t) at-inner.Post
+at-inner-at-child2-from-settle-in-arg t c = c .before .before .before .before
+
+abbrev at-node-start-from-find-near-arg : (t : ℕ) → at-node-lts.After-find-near-arg (at-node-calls t) (at-node-at t) at-node.Post → at-node-lts.Start (at-node-calls t) (at-node-at t) at-node.Post
+at-node-start-from-find-near-arg t c = c .before .before .before
+
+abbrev at-node-start-from-find-near : (t : ℕ) → at-node-lts.After-find-near (at-node-calls t) (at-node-at t) at-node.Post → at-node-lts.Start (at-node-calls t) (at-node-at t) at-node.Post
+at-node-start-from-find-near t c = at-node-start-from-find-near-arg t (c .before)
+
+abbrev at-node-find-near-from-onward-from : (t : ℕ) → at-node-lts.After-onward-from (at-node-calls t) (at-node-at t) at-node.Post → at-node-lts.After-find-near (at-node-calls t) (at-node-at t) at-node.Post
+at-node-find-near-from-onward-from t c = c .before .before
+
 abbrev at-node-start-from-enum-told : (t : ℕ) → at-node-lts.After-enum-told (at-node-calls t) (at-node-at t) at-node.Post → at-node-lts.Start (at-node-calls t) (at-node-at t) at-node.Post
 at-node-start-from-enum-told t c = at-node-start-from-find-near t (c .before .before .before .before)
+
+abbrev at-node-onward-from-from-enum-told : (t : ℕ) → at-node-lts.After-enum-told (at-node-calls t) (at-node-at t) at-node.Post → at-node-lts.After-onward-from (at-node-calls t) (at-node-at t) at-node.Post
+at-node-onward-from-from-enum-told t c = c .before .before
+
+abbrev at-node-onward-from-from-onward : (t : ℕ) → at-node-lts.After-onward (at-node-calls t) (at-node-at t) at-node.Post → at-node-lts.After-onward-from (at-node-calls t) (at-node-at t) at-node.Post
+at-node-onward-from-from-onward t c = c .before .before
+
+abbrev at-node-onward-from-at-inner-arg : (t : ℕ) → at-node-lts.After-at-inner-arg (at-node-calls t) (at-node-at t) at-node.Post → at-node-lts.After-onward (at-node-calls t) (at-node-at t) at-node.Post
+at-node-onward-from-at-inner-arg t c = c .before .before
 
 at-child-unchanged-at-requires : (t : ℕ) → at-child-lts.Need-unchanged-at-requires (at-child-calls t) (at-child-at t) at-child.Post
 at-child-unchanged-at-requires t c κs =
@@ -180,22 +198,19 @@ at-inner-right-run-requires t c κs =
 
 at-inner-at-child-requires-2 : (t : ℕ) → at-inner-lts.Need-at-child-requires-2 (at-inner-calls t) (at-inner-at t) at-inner.Post
 at-inner-at-child-requires-2 t c κs =
-    let after-right = c .before in
-    let after-at-child = after-right .before .before .before .before in
+    let after-at-child = at-inner-at-child-from-right-run t c in
     let after-left-run = after-at-child .before in
     let start = at-inner-start-from-left-run t after-left-run in
-    (omega (arith, start .pre .0, is-short (start .pre .1), after-right .right .ensures .count), right-here (start .pre .1) (after-left-run .before .left .ensures) (after-left-run .left-run .ensures) (after-at-child .at-child .ensures) (after-right .right .ensures) (c .right-run .ensures))
+    (omega (arith, start .pre .0, is-short (start .pre .1), c .before .right .ensures .count), right-here (start .pre .1) (after-left-run .before .left .ensures) (after-left-run .left-run .ensures) (after-at-child .at-child .ensures) (c .before .right .ensures) (c .right-run .ensures))
 
 at-inner-settle-in-requires : (t : ℕ) → at-inner-lts.Need-settle-in-requires (at-inner-calls t) (at-inner-at t) at-inner.Post
 at-inner-settle-in-requires t c κs =
-    let then1 = c .before in
-    let after-at-child2 = then1 .before .before .before in
+    let after-at-child2 = at-inner-at-child2-from-settle-in-arg t c in
     let after-right-run = after-at-child2 .before in
-    let after-right = after-right-run .before in
-    let after-at-child = after-right .before .before .before .before in
+    let after-at-child = at-inner-at-child-from-right-run t after-right-run in
     let after-left-run = after-at-child .before in
     let start = at-inner-start-from-left-run t after-left-run in
-    settles-when (start .args .writes) true (then1 .if1 .taken) (may-settle (start .pre .1) (after-left-run .before .left .ensures) (after-left-run .left-run .ensures) (after-at-child .at-child .ensures) (after-right .right .ensures) (after-right-run .right-run .ensures) (after-at-child2 .at-child2 .ensures) (λ e. refl) (omega (arith, start .fits)))
+    settles-when (start .args .writes) true (c .before .if1 .taken) (may-settle (start .pre .1) (after-left-run .before .left .ensures) (after-left-run .left-run .ensures) (after-at-child .at-child .ensures) (after-right-run .before .right .ensures) (after-right-run .right-run .ensures) (after-at-child2 .at-child2 .ensures) (λ e. refl) (omega (arith, start .fits)))
 
 at-inner-same-length : (t : ℕ) → at-inner-lts.Need-same-length (at-inner-calls t) (at-inner-at t) at-inner.Post
 at-inner-same-length t c = search needs
@@ -203,24 +218,22 @@ at-inner-same-length t c = search needs
 at-inner-returns : (t : ℕ) → at-inner-lts.Need-returns (at-inner-calls t) (at-inner-at t) at-inner.Post
 at-inner-returns t c =
     let after-settle-in = c .before .before in
-    let then1 = after-settle-in .before .before in
-    let after-at-child2 = then1 .before .before .before in
+    let after-settle-in-arg = after-settle-in .before in
+    let after-at-child2 = at-inner-at-child2-from-settle-in-arg t after-settle-in-arg in
     let after-right-run = after-at-child2 .before in
-    let after-right = after-right-run .before in
-    let after-at-child = after-right .before .before .before .before in
+    let after-at-child = at-inner-at-child-from-right-run t after-right-run in
     let after-left-run = after-at-child .before in
-    inner-did (at-inner-start-from-left-run t after-left-run .pre .1) (after-left-run .before .left .ensures) (after-left-run .left-run .ensures) (after-at-child .at-child .ensures) (after-right .right .ensures) (after-right-run .right-run .ensures) (after-at-child2 .at-child2 .ensures) true (then1 .if1 .taken) (after-settle-in .settle-in .ensures)
+    inner-did (at-inner-start-from-left-run t after-left-run .pre .1) (after-left-run .before .left .ensures) (after-left-run .left-run .ensures) (after-at-child .at-child .ensures) (after-right-run .before .right .ensures) (after-right-run .right-run .ensures) (after-at-child2 .at-child2 .ensures) true (after-settle-in-arg .before .if1 .taken) (after-settle-in .settle-in .ensures)
 
 at-inner-settle-in-requires-2 : (t : ℕ) → at-inner-lts.Need-settle-in-requires-2 (at-inner-calls t) (at-inner-at t) at-inner.Post
 at-inner-settle-in-requires-2 t c κs =
     let else1 = c .before in
-    let after-at-child2 = else1 .before .before .before in
+    let after-at-child2 = at-inner-at-child2-from-else1 t else1 in
     let after-right-run = after-at-child2 .before in
-    let after-right = after-right-run .before in
-    let after-at-child = after-right .before .before .before .before in
+    let after-at-child = at-inner-at-child-from-right-run t after-right-run in
     let after-left-run = after-at-child .before in
     let start = at-inner-start-from-left-run t after-left-run in
-    settles-when (start .args .writes) false (else1 .if1 .left) (may-settle (start .pre .1) (after-left-run .before .left .ensures) (after-left-run .left-run .ensures) (after-at-child .at-child .ensures) (after-right .right .ensures) (after-right-run .right-run .ensures) (after-at-child2 .at-child2 .ensures) (λ e. absurd (true≢false (sym e ∙ else1 .if1 .left))) (omega (arith, start .fits)))
+    settles-when (start .args .writes) false (else1 .if1 .left) (may-settle (start .pre .1) (after-left-run .before .left .ensures) (after-left-run .left-run .ensures) (after-at-child .at-child .ensures) (after-right-run .before .right .ensures) (after-right-run .right-run .ensures) (after-at-child2 .at-child2 .ensures) (λ e. absurd (true≢false (sym e ∙ else1 .if1 .left))) (omega (arith, start .fits)))
 
 at-inner-same-length-2 : (t : ℕ) → at-inner-lts.Need-same-length-2 (at-inner-calls t) (at-inner-at t) at-inner.Post
 at-inner-same-length-2 t c = search needs
@@ -229,12 +242,11 @@ at-inner-returns-2 : (t : ℕ) → at-inner-lts.Need-returns-2 (at-inner-calls t
 at-inner-returns-2 t c =
     let after-settle-in2 = c .before .before in
     let else1 = after-settle-in2 .before .before in
-    let after-at-child2 = else1 .before .before .before in
+    let after-at-child2 = at-inner-at-child2-from-else1 t else1 in
     let after-right-run = after-at-child2 .before in
-    let after-right = after-right-run .before in
-    let after-at-child = after-right .before .before .before .before in
+    let after-at-child = at-inner-at-child-from-right-run t after-right-run in
     let after-left-run = after-at-child .before in
-    inner-did (at-inner-start-from-left-run t after-left-run .pre .1) (after-left-run .before .left .ensures) (after-left-run .left-run .ensures) (after-at-child .at-child .ensures) (after-right .right .ensures) (after-right-run .right-run .ensures) (after-at-child2 .at-child2 .ensures) false (else1 .if1 .left) (after-settle-in2 .settle-in2 .ensures)
+    inner-did (at-inner-start-from-left-run t after-left-run .pre .1) (after-left-run .before .left .ensures) (after-left-run .left-run .ensures) (after-at-child .at-child .ensures) (after-right-run .before .right .ensures) (after-right-run .right-run .ensures) (after-at-child2 .at-child2 .ensures) false (else1 .if1 .left) (after-settle-in2 .settle-in2 .ensures)
 
 at-node-find-near-requires : (t : ℕ) → at-node-lts.Need-find-near-requires (at-node-calls t) (at-node-at t) at-node.Post
 at-node-find-near-requires t c κs = is-once (at-node-start-from-find-near-arg t c .pre .1)
@@ -254,7 +266,7 @@ at-node-at-tip-requires : (t : ℕ) → at-node-lts.Need-at-tip-requires (at-nod
 at-node-at-tip-requires t c κs =
     let then1 = c .before in
     let after-enum-told = then1 .before in
-    let after-onward-from = after-enum-told .before .before in
+    let after-onward-from = at-node-onward-from-from-enum-told t after-enum-told in
     let after-find-near = at-node-find-near-from-onward-from t after-onward-from in
     let start = at-node-start-from-find-near t after-find-near in
     tip-when (start .args .writes) true (then1 .if1 .taken) (at-tip-here (start .pre .1) (after-find-near .find-near .result) (after-find-near .find-near .ensures) (after-enum-told .enum-told .given .1) (after-onward-from .onward-from .ensures))
@@ -272,7 +284,7 @@ at-node-at-tip-requires-2 : (t : ℕ) → at-node-lts.Need-at-tip-requires-2 (at
 at-node-at-tip-requires-2 t c κs =
     let else1 = c .before in
     let after-enum-told = else1 .before in
-    let after-onward-from = after-enum-told .before .before in
+    let after-onward-from = at-node-onward-from-from-enum-told t after-enum-told in
     let after-find-near = at-node-find-near-from-onward-from t after-onward-from in
     let start = at-node-start-from-find-near t after-find-near in
     tip-when (start .args .writes) false (else1 .if1 .left) (at-tip-here (start .pre .1) (after-find-near .find-near .result) (after-find-near .find-near .ensures) (after-enum-told .enum-told .given .1) (after-onward-from .onward-from .ensures))
@@ -288,8 +300,8 @@ at-node-returns-2 t c =
 
 at-node-at-inner-requires : (t : ℕ) → at-node-lts.Need-at-inner-requires (at-node-calls t) (at-node-at t) at-node.Post
 at-node-at-inner-requires t c κs =
-    let after-onward = c .before .before in
-    let after-onward-from = after-onward .before .before in
+    let after-onward = at-node-onward-from-at-inner-arg t c in
+    let after-onward-from = at-node-onward-from-from-onward t after-onward in
     let after-find-near = at-node-find-near-from-onward-from t after-onward-from in
     let start = at-node-start-from-find-near t after-find-near in
     (omega (arith, start .pre .0), goes-on (start .pre .1) (after-find-near .find-near .result) (after-find-near .find-near .ensures) (after-onward .onward .given .1) (after-onward-from .onward-from .ensures))
@@ -300,8 +312,8 @@ at-node-same-length-3 t c = search needs
 at-node-returns-3 : (t : ℕ) → at-node-lts.Need-returns-3 (at-node-calls t) (at-node-at t) at-node.Post
 at-node-returns-3 t c =
     let after-at-inner = c .before .before in
-    let after-onward = after-at-inner .before .before .before in
-    let after-onward-from = after-onward .before .before in
+    let after-onward = at-node-onward-from-at-inner-arg t (after-at-inner .before) in
+    let after-onward-from = at-node-onward-from-from-onward t after-onward in
     let after-find-near = at-node-find-near-from-onward-from t after-onward-from in
     went-on (at-node-start-from-find-near t after-find-near .pre .1) (after-find-near .find-near .result) (after-find-near .find-near .ensures) (after-onward .onward .given .1) (after-onward-from .onward-from .ensures) (after-at-inner .at-inner .ensures)
 

@@ -17,8 +17,14 @@ abbrev μ-loop : tie.MeasureT-loop
 μ-loop b n i₀ i = n - i
 
 -- `A-from-B` is the state A as the later state B has it.
+abbrev start-from-else2 : tie.Else2 Inv-loop μ-loop → tie.Start Inv-loop μ-loop
+start-from-else2 c = c .before .before .before
+
 abbrev start-from-at-loop : tie.At-loop Inv-loop μ-loop → tie.Start Inv-loop μ-loop
-start-from-at-loop c = c .before .before .before .before
+start-from-at-loop c = start-from-else2 (c .before)
+
+abbrev at-loop-from-record-form : tie.After-record-form Inv-loop μ-loop → tie.At-loop Inv-loop μ-loop
+at-loop-from-record-form c = c .before .before .before
 
 returns : tie.Need-returns Inv-loop μ-loop
 returns c = sym (form-torn (c .before .before .args .b .now) (c .if1 .taken))
@@ -27,7 +33,7 @@ returns-2 : tie.Need-returns-2 Inv-loop μ-loop
 returns-2 c = sym (form-many (c .before .before .before .args .b .now) (c .before .if1 .left) (c .if2 .taken))
 
 loop-holds : tie.Need-loop-holds Inv-loop μ-loop
-loop-holds c = (omega arith, form-records (c .before .before .before .args .b .now) (c .before .if1 .left) (c .if2 .left))
+loop-holds c = (omega arith, form-records (start-from-else2 c .args .b .now) (c .before .if1 .left) (c .if2 .left))
 
 record-at-requires : tie.Need-record-at-requires Inv-loop μ-loop
 record-at-requires c κs = omega arith
@@ -38,9 +44,8 @@ record-form-requires c κs = c .record-at .ensures .1
 returns-3 : tie.Need-returns-3 Inv-loop μ-loop
 returns-3 c =
     let after-record-form = c .before in
-    let after-record-at = after-record-form .before in
-    let at-loop = after-record-at .before .before in
-    sym (at-loop .loop .inv .1 ∙ form-off (start-from-at-loop at-loop .args .b .now) (at-loop .loop .i) (omega arith) (sym (ap askForm (after-record-at .record-at .ensures .0)) ∙ sym (after-record-form .record-form .ensures) ∙ not-true _ (c .if3 .taken)))
+    let at-loop = at-loop-from-record-form after-record-form in
+    sym (at-loop .loop .inv .1 ∙ form-off (start-from-at-loop at-loop .args .b .now) (at-loop .loop .i) (omega arith) (sym (ap askForm (after-record-form .before .record-at .ensures .0)) ∙ sym (after-record-form .record-form .ensures) ∙ not-true _ (c .if3 .taken)))
 
 add-i : tie.Need-add-i Inv-loop μ-loop
 add-i c = omega arith
@@ -51,9 +56,8 @@ loop-less c = omega arith
 loop-again : tie.Need-loop-again Inv-loop μ-loop
 loop-again c =
     let after-record-form = c .before in
-    let after-record-at = after-record-form .before in
-    let at-loop = after-record-at .before .before in
-    (omega arith, at-loop .loop .inv .1 ∙ form-next (start-from-at-loop at-loop .args .b .now) (at-loop .loop .i) (omega arith) (sym (ap askForm (after-record-at .record-at .ensures .0)) ∙ sym (after-record-form .record-form .ensures) ∙ not-false _ (c .if3 .left)))
+    let at-loop = at-loop-from-record-form after-record-form in
+    (omega arith, at-loop .loop .inv .1 ∙ form-next (start-from-at-loop at-loop .args .b .now) (at-loop .loop .i) (omega arith) (sym (ap askForm (after-record-form .before .record-at .ensures .0)) ∙ sym (after-record-form .record-form .ensures) ∙ not-false _ (c .if3 .left)))
 
 returns-4 : tie.Need-returns-4 Inv-loop μ-loop
 returns-4 c =

@@ -37,6 +37,9 @@ before-requires : tie.Need-before-requires Inv-loop μ-loop
 before-requires c κs = tt
 
 -- `A-from-B` is the state A as the later state B has it.
+abbrev start-from-at-loop : tie.At-loop Inv-loop μ-loop → tie.Start Inv-loop μ-loop
+start-from-at-loop c = c .before .before
+
 abbrev at-loop-from-before2 : tie.After-before2 Inv-loop μ-loop → tie.At-loop Inv-loop μ-loop
 at-loop-from-before2 c = c .before .before .before .before
 
@@ -44,7 +47,7 @@ returns : tie.Need-returns Inv-loop μ-loop
 returns c =
     let after-before2 = c .before in
     let at-loop = at-loop-from-before2 after-before2 in
-    sym (at-loop .loop .inv .1 ∙ order-off (at-loop .before .before .args .b .now) (at-loop .loop .i) (omega arith) (sym (ap₂ before (after-before2 .before .before .key .ensures .0) (after-before2 .before .key2 .ensures .0)) ∙ sym (after-before2 .before2 .ensures) ∙ not-true _ (c .if1 .taken)))
+    sym (at-loop .loop .inv .1 ∙ order-off (start-from-at-loop at-loop .args .b .now) (at-loop .loop .i) (omega arith) (sym (ap₂ before (after-before2 .before .before .key .ensures .0) (after-before2 .before .key2 .ensures .0)) ∙ sym (after-before2 .before2 .ensures) ∙ not-true _ (c .if1 .taken)))
 
 add-i : tie.Need-add-i Inv-loop μ-loop
 add-i c = omega arith
@@ -56,10 +59,12 @@ loop-again : tie.Need-loop-again Inv-loop μ-loop
 loop-again c =
     let after-before2 = c .before in
     let at-loop = at-loop-from-before2 after-before2 in
-    (omega arith, at-loop .loop .inv .1 ∙ order-next (at-loop .before .before .args .b .now) (at-loop .loop .i) (omega arith) (sym (ap₂ before (after-before2 .before .before .key .ensures .0) (after-before2 .before .key2 .ensures .0)) ∙ sym (after-before2 .before2 .ensures) ∙ not-false _ (c .if1 .left)))
+    (omega arith, at-loop .loop .inv .1 ∙ order-next (start-from-at-loop at-loop .args .b .now) (at-loop .loop .i) (omega arith) (sym (ap₂ before (after-before2 .before .before .key .ensures .0) (after-before2 .before .key2 .ensures .0)) ∙ sym (after-before2 .before2 .ensures) ∙ not-false _ (c .if1 .left)))
 
 returns-2 : tie.Need-returns-2 Inv-loop μ-loop
-returns-2 c = sym (c .before .loop .inv .1 ∙ order-end (c .before .before .before .args .b .now) (c .before .loop .i) (c .loop-test .left))
+returns-2 c =
+    let at-loop = c .before in
+    sym (at-loop .loop .inv .1 ∙ order-end (start-from-at-loop at-loop .args .b .now) (at-loop .loop .i) (c .loop-test .left))
 
 pub batch-order-spec : {M : Type 1} → statement M
 batch-order-spec =

@@ -16,6 +16,13 @@ Inv-loop run i low₀ high₀ low high = (low ≤ lefts i run) × (lefts i run �
 abbrev μ-loop : tie.MeasureT-loop
 μ-loop run i low₀ high₀ low high = high - low
 
+-- `A-from-B` is the state A as the later state B has it.
+abbrev start-from-at-loop : tie.At-loop Inv-loop μ-loop → tie.Start Inv-loop μ-loop
+start-from-at-loop c = c .before .before
+
+abbrev at-loop-from-key-bit : tie.After-key-bit Inv-loop μ-loop → tie.At-loop Inv-loop μ-loop
+at-loop-from-key-bit c = c .before .before .before
+
 loop-holds : tie.Need-loop-holds Inv-loop μ-loop
 loop-holds c = (omega arith, lefts-within (c .before .args .i) (c .before .args .run .now), omega arith)
 
@@ -29,7 +36,7 @@ key-requires : tie.Need-key-requires Inv-loop μ-loop
 key-requires c κs = omega arith
 
 key-bit-requires : tie.Need-key-bit-requires Inv-loop μ-loop
-key-bit-requires c κs = let h = c .before .before .before .before .pre .short in omega (arith, c .key .ensures .1)
+key-bit-requires c κs = let h = start-from-at-loop (c .before .before) .pre .short in omega (arith, c .key .ensures .1)
 
 loop-less : tie.Need-loop-less Inv-loop μ-loop
 loop-less c = omega arith
@@ -37,13 +44,12 @@ loop-less c = omega arith
 loop-again : tie.Need-loop-again Inv-loop μ-loop
 loop-again c =
     let after-key-bit = c .before in
-    let after-key = after-key-bit .before in
-    let at-loop = after-key .before .before in
-    let start = at-loop .before .before in
+    let at-loop = at-loop-from-key-bit after-key-bit in
+    let start = start-from-at-loop at-loop in
     let a = start .args in
     let l = at-loop .loop .low in
     let m = l + (at-loop .loop .high - l) / 2 in
-    (at-loop .loop .inv .0, cut-right (a .i) (a .run .now) (start .pre) m (omega arith) (sym (ap (bit (a .i)) (after-key .key .ensures .0)) ∙ sym (after-key-bit .key-bit .ensures) ∙ c .if1 .taken), omega arith)
+    (at-loop .loop .inv .0, cut-right (a .i) (a .run .now) (start .pre) m (omega arith) (sym (ap (bit (a .i)) (after-key-bit .before .key .ensures .0)) ∙ sym (after-key-bit .key-bit .ensures) ∙ c .if1 .taken), omega arith)
 
 add-low : tie.Need-add-low Inv-loop μ-loop
 add-low c = omega arith
@@ -54,13 +60,12 @@ loop-less-2 c = omega arith
 loop-again-2 : tie.Need-loop-again-2 Inv-loop μ-loop
 loop-again-2 c =
     let after-key-bit = c .before in
-    let after-key = after-key-bit .before in
-    let at-loop = after-key .before .before in
-    let start = at-loop .before .before in
+    let at-loop = at-loop-from-key-bit after-key-bit in
+    let start = start-from-at-loop at-loop in
     let a = start .args in
     let l = at-loop .loop .low in
     let m = l + (at-loop .loop .high - l) / 2 in
-    let h = cut-left (a .i) (a .run .now) (start .pre) m (omega arith) (sym (ap (bit (a .i)) (after-key .key .ensures .0)) ∙ sym (after-key-bit .key-bit .ensures) ∙ c .if1 .left) in
+    let h = cut-left (a .i) (a .run .now) (start .pre) m (omega arith) (sym (ap (bit (a .i)) (after-key-bit .before .key .ensures .0)) ∙ sym (after-key-bit .key-bit .ensures) ∙ c .if1 .left) in
     (omega arith, at-loop .loop .inv .1, at-loop .loop .inv .2)
 
 returns : tie.Need-returns Inv-loop μ-loop

@@ -20,29 +20,32 @@ enum-told-2 : tie.Need-enum-told-2
 enum-told-2 c = search needs
 
 -- `A-from-B` is the state A as the later state B has it.
-abbrev n-from-walk-arg2 : tie.After-walk-arg2 → tie.After-n
-n-from-walk-arg2 c = c .before .before .before
-
-abbrev open-from-open2 : tie.After-open2 → tie.After-open
-open-from-open2 c = c .before .before .before
-
-abbrev open2-from-top : tie.After-top → tie.After-open2
-open2-from-top c = c .before .before .before
-
-abbrev root-top2-from-walk : tie.After-walk → tie.After-root-top2
-root-top2-from-walk c = c .before .before
-
-abbrev top-from-root-top2 : tie.After-root-top2 → tie.After-top
-top-from-root-top2 c = c .before .before
-
-abbrev walk-from-n : tie.After-n → tie.After-walk
-walk-from-n c = c .before .before .before .before
-
 abbrev start-from-open : tie.After-open → tie.Start
 start-from-open c = c .before .before .before
 
 abbrev start-from-open2 : tie.After-open2 → tie.Start
 start-from-open2 c = start-from-open (c .before .before .before)
+
+abbrev open-from-open2 : tie.After-open2 → tie.After-open
+open-from-open2 c = c .before .before .before
+
+abbrev start-from-top : tie.After-top → tie.Start
+start-from-top c = start-from-open2 (c .before .before .before)
+
+abbrev open2-from-top : tie.After-top → tie.After-open2
+open2-from-top c = c .before .before .before
+
+abbrev top-from-root-top2 : tie.After-root-top2 → tie.After-top
+top-from-root-top2 c = c .before .before
+
+abbrev root-top2-from-walk : tie.After-walk → tie.After-root-top2
+root-top2-from-walk c = c .before .before
+
+abbrev walk-from-n : tie.After-n → tie.After-walk
+walk-from-n c = c .before .before .before .before
+
+abbrev n-from-walk-arg2 : tie.After-walk-arg2 → tie.After-n
+n-from-walk-arg2 c = c .before .before .before
 
 returns : tie.Need-returns
 returns c =
@@ -77,13 +80,10 @@ top-requires : tie.Need-top-requires
 top-requires c κs = search needs
 
 root-top-requires : tie.Need-root-top-requires
-root-top-requires c κs =
-    let tp = c in
-    let start = tp .before .before .before .before .before .before .before .before .before in
-    (sound-size (start .pre), tp .top .ensures)
+root-top-requires c κs = (sound-size (start-from-top c .pre), c .top .ensures)
 
 root-top-requires-2 : tie.Need-root-top-requires-2
-root-top-requires-2 c κs = (sound-size (start-from-open2 (c .before .before .before .before) .pre), c .before .top .ensures)
+root-top-requires-2 c κs = (sound-size (start-from-top (c .before) .pre), c .before .top .ensures)
 
 walk-requires : tie.Need-walk-requires
 walk-requires c κs =

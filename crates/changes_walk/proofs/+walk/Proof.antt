@@ -45,26 +45,35 @@ walk-calls t = (
 )
 
 -- `A-from-B` is the state A as the later state B has it.
-abbrev walk-below2-from-walk : (t : ℕ) → walk-lts.After-walk (walk-calls t) (walk-at t) walk.Post → walk-lts.After-below2 (walk-calls t) (walk-at t) walk.Post
-walk-below2-from-walk t c = c .before .before
-
-abbrev walk-done-from-right : (t : ℕ) → walk-lts.After-right (walk-calls t) (walk-at t) walk.Post → walk-lts.After-done (walk-calls t) (walk-at t) walk.Post
-walk-done-from-right t c = c .before .before
-
-abbrev walk-left-from-below2 : (t : ℕ) → walk-lts.After-below2 (walk-calls t) (walk-at t) walk.Post → walk-lts.After-left (walk-calls t) (walk-at t) walk.Post
-walk-left-from-below2 t c = c .before .before
-
-abbrev walk-walk-from-done : (t : ℕ) → walk-lts.After-done (walk-calls t) (walk-at t) walk.Post → walk-lts.After-walk (walk-calls t) (walk-at t) walk.Post
-walk-walk-from-done t c = c .before .before .before .before
-
-abbrev walk-else1-from-else2 : (t : ℕ) → walk-lts.Else2 (walk-calls t) (walk-at t) walk.Post → walk-lts.Else1 (walk-calls t) (walk-at t) walk.Post
-walk-else1-from-else2 t c = c .before .before
-
 abbrev walk-start-from-no-deeper : (t : ℕ) → walk-lts.After-no-deeper (walk-calls t) (walk-at t) walk.Post → walk-lts.Start (walk-calls t) (walk-at t) walk.Post
 walk-start-from-no-deeper t c = c .before .before .before .before
 
 abbrev walk-start-from-else2 : (t : ℕ) → walk-lts.Else2 (walk-calls t) (walk-at t) walk.Post → walk-lts.Start (walk-calls t) (walk-at t) walk.Post
 walk-start-from-else2 t c = walk-start-from-no-deeper t (c .before)
+
+abbrev walk-no-deeper-from-left : (t : ℕ) → walk-lts.After-left (walk-calls t) (walk-at t) walk.Post → walk-lts.After-no-deeper (walk-calls t) (walk-at t) walk.Post
+walk-no-deeper-from-left t c = c .before .before
+
+abbrev walk-left-from-below2 : (t : ℕ) → walk-lts.After-below2 (walk-calls t) (walk-at t) walk.Post → walk-lts.After-left (walk-calls t) (walk-at t) walk.Post
+walk-left-from-below2 t c = c .before .before
+
+abbrev walk-else2-from-walk : (t : ℕ) → walk-lts.After-walk (walk-calls t) (walk-at t) walk.Post → walk-lts.Else2 (walk-calls t) (walk-at t) walk.Post
+walk-else2-from-walk t c = c .before .before .before .before .before
+
+abbrev walk-below2-from-walk : (t : ℕ) → walk-lts.After-walk (walk-calls t) (walk-at t) walk.Post → walk-lts.After-below2 (walk-calls t) (walk-at t) walk.Post
+walk-below2-from-walk t c = c .before .before
+
+abbrev walk-walk-from-done : (t : ℕ) → walk-lts.After-done (walk-calls t) (walk-at t) walk.Post → walk-lts.After-walk (walk-calls t) (walk-at t) walk.Post
+walk-walk-from-done t c = c .before .before .before .before
+
+abbrev walk-else2-from-known-told : (t : ℕ) → walk-lts.After-known-told (walk-calls t) (walk-at t) walk.Post → walk-lts.Else2 (walk-calls t) (walk-at t) walk.Post
+walk-else2-from-known-told t c = walk-else2-from-walk t (c .before .before .before .before .before)
+
+abbrev walk-done-from-right : (t : ℕ) → walk-lts.After-right (walk-calls t) (walk-at t) walk.Post → walk-lts.After-done (walk-calls t) (walk-at t) walk.Post
+walk-done-from-right t c = c .before .before
+
+abbrev walk-right-from-below4 : (t : ℕ) → walk-lts.After-below4 (walk-calls t) (walk-at t) walk.Post → walk-lts.After-right (walk-calls t) (walk-at t) walk.Post
+walk-right-from-below4 t c = c .before .before
 
 walk-returns : (t : ℕ) → walk-lts.Need-returns (walk-calls t) (walk-at t) walk.Post
 walk-returns t c =
@@ -118,15 +127,13 @@ walk-left-requires t c κs =
 
 walk-below-requires : (t : ℕ) → walk-lts.Need-below-requires (walk-calls t) (walk-at t) walk.Post
 walk-below-requires t c κs =
-    let lf = c in
-    let i2 = lf .before in
-    let nd = i2 .before in
-    let start = nd .before .before .before .before in
+    let after-no-deeper = walk-no-deeper-from-left t c in
+    let start = walk-start-from-no-deeper t after-no-deeper in
     let a = start .args in
     let s = a .store .now in
     let g = start .pre .1 in
-    let on = sym (nd .no-deeper .ensures s (a .place)) ∙ i2 .if2 .left in
-    ((g .here .size, g .here .apart), (g .here .proper, goes-short s (a .place) (a .first) (a .second) (g .here) on), g .here .old, lf .left .ensures)
+    let on = sym (after-no-deeper .no-deeper .ensures s (a .place)) ∙ c .before .if2 .left in
+    ((g .here .size, g .here .apart), (g .here .proper, goes-short s (a .place) (a .first) (a .second) (g .here) on), g .here .old, c .left .ensures)
 
 walk-below-requires-2 : (t : ℕ) → walk-lts.Need-below-requires-2 (walk-calls t) (walk-at t) walk.Post
 walk-below-requires-2 t c κs =
@@ -143,14 +150,14 @@ walk-walk-requires : (t : ℕ) → walk-lts.Need-walk-requires (walk-calls t) (w
 walk-walk-requires t c κs =
     let after-below2 = c .before in
     let after-left = walk-left-from-below2 t after-below2 in
-    let else2 = after-left .before in
-    let start = walk-start-from-else2 t else2 in
+    let after-no-deeper = walk-no-deeper-from-left t after-left in
+    let start = walk-start-from-no-deeper t after-no-deeper in
     let a = start .args in
     let s = a .store .now in
     let g = start .pre .1 in
-    let on = sym (else2 .before .no-deeper .ensures s (a .place)) ∙ else2 .if2 .left in (
+    let on = sym (after-no-deeper .no-deeper .ensures s (a .place)) ∙ after-left .before .if2 .left in (
       omega (arith, start .pre .0, after-left .left .ensures .count, goes-short s (a .place) (a .first) (a .second) (g .here) on),
-      goes-left s (a .place) (a .first) (a .second) (g .here) on g (walk-else1-from-else2 t else2 .if1 .left) (after-left .left .ensures) (after-below2 .before .below .ensures) (after-below2 .below2 .ensures),
+      goes-left s (a .place) (a .first) (a .second) (g .here) on g (after-no-deeper .before .if1 .left) (after-left .left .ensures) (after-below2 .before .below .ensures) (after-below2 .below2 .ensures),
     )
 
 walk-enum-known-done : (t : ℕ) → walk-lts.Need-enum-known-done (walk-calls t) (walk-at t) walk.Post
@@ -167,20 +174,19 @@ walk-returns-3 t c =
     let after-walk = c .before .before .before .before in
     let after-below2 = walk-below2-from-walk t after-walk in
     let after-left = walk-left-from-below2 t after-below2 in
-    let else2 = after-left .before in
-    let start = walk-start-from-else2 t else2 in
+    let after-no-deeper = walk-no-deeper-from-left t after-left in
+    let start = walk-start-from-no-deeper t after-no-deeper in
     let a = start .args in
     let s = a .store .now in
     let g = start .pre .1 in
-    let on = sym (else2 .before .no-deeper .ensures s (a .place)) ∙ else2 .if2 .left in
+    let on = sym (after-no-deeper .no-deeper .ensures s (a .place)) ∙ after-left .before .if2 .left in
     let x = after-walk .walk .last .1 .1 .1 .1 .1 .1 .1 .0 in
     let q = subst (λ z. WalkSays s (after-left .left .result) (after-below2 .before .below .result) (after-below2 .below2 .result) (a .budget - 1) (a .writes) (a .room .now) (a .at) z x) (c .enum-told .given .1) (after-walk .walk .ensures) in
-    passed-left s (a .place) (a .first) (a .second) (g .here) on g (walk-else1-from-else2 t else2 .if1 .left) (after-left .left .ensures) (after-below2 .before .below .ensures) (after-below2 .below2 .ensures) x q
+    passed-left s (a .place) (a .first) (a .second) (g .here) on g (after-no-deeper .before .if1 .left) (after-left .left .ensures) (after-below2 .before .below .ensures) (after-below2 .below2 .ensures) x q
 
 walk-right-requires : (t : ℕ) → walk-lts.Need-right-requires (walk-calls t) (walk-at t) walk.Post
 walk-right-requires t c κs =
-    let after-walk = c .before .before .before .before .before in
-    let else2 = after-walk .before .before .before .before .before in
+    let else2 = walk-else2-from-known-told t c in
     let start = walk-start-from-else2 t else2 in
     let a = start .args in
     let s = a .store .now in
@@ -190,49 +196,43 @@ walk-right-requires t c κs =
 
 walk-below-requires-3 : (t : ℕ) → walk-lts.Need-below-requires-3 (walk-calls t) (walk-at t) walk.Post
 walk-below-requires-3 t c κs =
-    let rt = c in
-    let i2 = rt .before .before .before .before .before .before .before .before .before .before .before in
-    let nd = i2 .before in
-    let start = nd .before .before .before .before in
-    let a = start .args in
-    let s = a .store .now in
-    let g = start .pre .1 in
-    let on = sym (nd .no-deeper .ensures s (a .place)) ∙ i2 .if2 .left in
-    ((g .here .size, g .here .apart), (g .here .proper, goes-short s (a .place) (a .first) (a .second) (g .here) on), g .here .old, rt .right .ensures)
-
-walk-below-requires-4 : (t : ℕ) → walk-lts.Need-below-requires-4 (walk-calls t) (walk-at t) walk.Post
-walk-below-requires-4 t c κs =
-    let after-right = c .before in
-    let after-done = after-right .before .before in
-    let after-walk-arg = after-done .before .before .before .before .before in
-    let else2 = after-walk-arg .before .before .before .before in
+    let else2 = walk-else2-from-known-told t (c .before) in
     let start = walk-start-from-else2 t else2 in
     let a = start .args in
     let s = a .store .now in
     let g = start .pre .1 in
     let on = sym (else2 .before .no-deeper .ensures s (a .place)) ∙ else2 .if2 .left in
-    ((g .here .size, g .here .apart), (g .here .proper, goes-short s (a .place) (a .first) (a .second) (g .here) on), g .here .new, after-right .right .ensures)
+    ((g .here .size, g .here .apart), (g .here .proper, goes-short s (a .place) (a .first) (a .second) (g .here) on), g .here .old, c .right .ensures)
+
+walk-below-requires-4 : (t : ℕ) → walk-lts.Need-below-requires-4 (walk-calls t) (walk-at t) walk.Post
+walk-below-requires-4 t c κs =
+    let else2 = walk-else2-from-known-told t (c .before .before) in
+    let start = walk-start-from-else2 t else2 in
+    let a = start .args in
+    let s = a .store .now in
+    let g = start .pre .1 in
+    let on = sym (else2 .before .no-deeper .ensures s (a .place)) ∙ else2 .if2 .left in
+    ((g .here .size, g .here .apart), (g .here .proper, goes-short s (a .place) (a .first) (a .second) (g .here) on), g .here .new, c .before .right .ensures)
 
 walk-walk-requires-2 : (t : ℕ) → walk-lts.Need-walk-requires-2 (walk-calls t) (walk-at t) walk.Post
 walk-walk-requires-2 t c κs =
     let after-below4 = c .before in
-    let after-below3 = after-below4 .before in
-    let after-right = after-below3 .before in
+    let after-right = walk-right-from-below4 t after-below4 in
     let after-done = walk-done-from-right t after-right in
     let after-walk = walk-walk-from-done t after-done in
     let after-below2 = walk-below2-from-walk t after-walk in
     let after-left = walk-left-from-below2 t after-below2 in
-    let else2 = after-left .before in
-    let start = walk-start-from-else2 t else2 in
+    let after-no-deeper = walk-no-deeper-from-left t after-left in
+    let start = walk-start-from-no-deeper t after-no-deeper in
     let a = start .args in
     let s = a .store .now in
     let g = start .pre .1 in
-    let on = sym (else2 .before .no-deeper .ensures s (a .place)) ∙ else2 .if2 .left in
+    let on = sym (after-no-deeper .no-deeper .ensures s (a .place)) ∙ after-left .before .if2 .left in
     let x = after-walk .walk .last .1 .1 .1 .1 .1 .1 .1 .0 in
     let q = subst (λ z. WalkSays s (after-left .left .result) (after-below2 .before .below .result) (after-below2 .below2 .result) (a .budget - 1) (a .writes) (a .room .now) (a .at) z x) (after-done .done .given .1) (after-walk .walk .ensures) in (
       omega (arith, start .pre .0, after-right .right .ensures .count, goes-short s (a .place) (a .first) (a .second) (g .here) on),
-      goes-right s (a .place) (a .first) (a .second) (g .here) on g (walk-else1-from-else2 t else2 .if1 .left) (after-left .left .ensures) (after-below2 .before .below .ensures) (after-below2 .below2 .ensures) (after-done .done .given .0 .0) (after-done .done .given .0 .1 .0) x q (after-walk .walk .kept .1 .1 .1 .1 .1 .1 .1 .0)
-          (after-right .right .ensures) (after-below3 .below3 .ensures) (after-below4 .below4 .ensures),
+      goes-right s (a .place) (a .first) (a .second) (g .here) on g (after-no-deeper .before .if1 .left) (after-left .left .ensures) (after-below2 .before .below .ensures) (after-below2 .below2 .ensures) (after-done .done .given .0 .0) (after-done .done .given .0 .1 .0) x q (after-walk .walk .kept .1 .1 .1 .1 .1 .1 .1 .0)
+          (after-right .right .ensures) (after-below4 .before .below3 .ensures) (after-below4 .below4 .ensures),
     )
 
 walk-same-length-3 : (t : ℕ) → walk-lts.Need-same-length-3 (walk-calls t) (walk-at t) walk.Post
@@ -242,22 +242,21 @@ walk-returns-4 : (t : ℕ) → walk-lts.Need-returns-4 (walk-calls t) (walk-at t
 walk-returns-4 t c =
     let after-walk2 = c .before .before in
     let after-below4 = after-walk2 .before .before in
-    let after-below3 = after-below4 .before in
-    let after-right = after-below3 .before in
+    let after-right = walk-right-from-below4 t after-below4 in
     let after-done = walk-done-from-right t after-right in
     let after-walk = walk-walk-from-done t after-done in
     let after-below2 = walk-below2-from-walk t after-walk in
     let after-left = walk-left-from-below2 t after-below2 in
-    let else2 = after-left .before in
-    let start = walk-start-from-else2 t else2 in
+    let after-no-deeper = walk-no-deeper-from-left t after-left in
+    let start = walk-start-from-no-deeper t after-no-deeper in
     let a = start .args in
     let s = a .store .now in
     let g = start .pre .1 in
-    let on = sym (else2 .before .no-deeper .ensures s (a .place)) ∙ else2 .if2 .left in
+    let on = sym (after-no-deeper .no-deeper .ensures s (a .place)) ∙ after-left .before .if2 .left in
     let x = after-walk .walk .last .1 .1 .1 .1 .1 .1 .1 .0 in
     let q = subst (λ z. WalkSays s (after-left .left .result) (after-below2 .before .below .result) (after-below2 .below2 .result) (a .budget - 1) (a .writes) (a .room .now) (a .at) z x) (after-done .done .given .1) (after-walk .walk .ensures) in
-    went-on s (a .place) (a .first) (a .second) (g .here) on g (walk-else1-from-else2 t else2 .if1 .left) (after-left .left .ensures) (after-below2 .before .below .ensures) (after-below2 .below2 .ensures) (after-done .done .given .0 .0) (after-done .done .given .0 .1 .0) x q (after-walk .walk .kept .1 .1 .1 .1 .1 .1 .1 .0)
-    (after-right .right .ensures) (after-below3 .below3 .ensures) (after-below4 .below4 .ensures) (after-walk2 .walk2 .result) _ (after-walk2 .walk2 .ensures)
+    went-on s (a .place) (a .first) (a .second) (g .here) on g (after-no-deeper .before .if1 .left) (after-left .left .ensures) (after-below2 .before .below .ensures) (after-below2 .below2 .ensures) (after-done .done .given .0 .0) (after-done .done .given .0 .1 .0) x q (after-walk .walk .kept .1 .1 .1 .1 .1 .1 .1 .0)
+    (after-right .right .ensures) (after-below4 .before .below3 .ensures) (after-below4 .below4 .ensures) (after-walk2 .walk2 .result) _ (after-walk2 .walk2 .ensures)
 
 pub +walk-spec : {M : Type 1} → statement M
 +walk-spec = close μ-walk λ t. walk-lts.spec (walk-calls t) (walk-at t)

@@ -9,16 +9,22 @@ use Rattle.check_above.proofs.above_right.Tie as tie
 ends-before-requires : tie.Need-ends-before-requires
 ends-before-requires c κs = search needs
 
+-- `A-from-B` is the state A as the later state B has it.
+abbrev start-from-ends-before : tie.After-ends-before → tie.Start
+start-from-ends-before c = c .before .before .before
+
+abbrev else1-from-front : tie.After-front → tie.Else1
+else1-from-front c = c .before .before .before
+
 roots-apart-requires : tie.Need-roots-apart-requires
-roots-apart-requires c κs =
-    let c4 = c .before .before .before .before in
-    c4 .pre .keeps
+roots-apart-requires c κs = start-from-ends-before (c .before) .pre .keeps
 
 returns : tie.Need-returns
 returns c =
-    let c2 = c .before .before in
-    let c5 = c2 .before .before .before in
-    root-says (c5 .pre) (c .before .if1 .taken) (c5 .args .leaf) (c5 .args .hash) (c2 .ends-before .ensures .0)
+    let then1 = c .before in
+    let after-ends-before = then1 .before in
+    let start = start-from-ends-before after-ends-before in
+    root-says (start .pre) (then1 .if1 .taken) (start .args .leaf) (start .args .hash) (after-ends-before .ends-before .ensures .0)
     (c .roots-apart .ensures)
 
 slice-aggregate-front : tie.Need-slice-aggregate-front
@@ -38,9 +44,9 @@ sub-key-bit c = search needs
 
 key-bit-requires : tie.Need-key-bit-requires
 key-bit-requires c κs =
-    let c4 = c .before .before .before .before in
-    let c8 = c4 .before .before .before .before in
-    omega (arith, proper-whole (c8 .args .head .place) (c8 .pre .proper), c8 .pre .proper .short, c4 .if1 .left)
+    let else1 = else1-from-front (c .before) in
+    let start = start-from-ends-before (else1 .before) in
+    omega (arith, proper-whole (start .args .head .place) (start .pre .proper), start .pre .proper .short, else1 .if1 .left)
 
 kept-life-requires : tie.Need-kept-life-requires
 kept-life-requires c κs = search needs
@@ -50,14 +56,15 @@ parents-right-requires c κs = search needs
 
 returns-2 : tie.Need-returns-2
 returns-2 c =
-    let c2 = c .before .before in
-    let c4 = c2 .before .before in
-    let c7 = c4 .before .before .before in
-    let c8 = c7 .before in
-    let c11 = c8 .before .before .before in
-    below-says (c11 .pre) (c7 .if1 .left) (c4 .front .result) (c2 .key-bit .result) (c4 .front .ensures) (c2 .key-bit .ensures)
-    (c11 .args .leaf) (c11 .args .hash) (c8 .ends-before .result) (c8 .ends-before .ensures .0) (c .before .kept-life .result)
-    (c .before .kept-life .ensures) (c .parents-right .result) (c .parents-right .ensures)
+    let after-kept-life = c .before in
+    let after-key-bit = after-kept-life .before in
+    let after-front = after-key-bit .before .before in
+    let else1 = else1-from-front after-front in
+    let after-ends-before = else1 .before in
+    let start = start-from-ends-before after-ends-before in
+    below-says (start .pre) (else1 .if1 .left) (after-front .front .result) (after-key-bit .key-bit .result) (after-front .front .ensures) (after-key-bit .key-bit .ensures)
+    (start .args .leaf) (start .args .hash) (after-ends-before .ends-before .result) (after-ends-before .ends-before .ensures .0) (after-kept-life .kept-life .result)
+    (after-kept-life .kept-life .ensures) (c .parents-right .result) (c .parents-right .ensures)
 
 pub above-right-spec : {M : Type 1} → statement M
 above-right-spec =

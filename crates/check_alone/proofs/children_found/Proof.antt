@@ -13,12 +13,17 @@ left-requires c κs = search needs
 child-found-requires : tie.Need-child-found-requires
 child-found-requires c κs = search needs
 
+-- `A-from-B` is the state A as the later state B has it.
+abbrev start-from-left : tie.After-left → tie.Start
+start-from-left c = c .before .before
+
 returns : tie.Need-returns
 returns c =
-    let c2 = c .before .before in
-    let c4 = c2 .before .before in
-    sym (rw (found-as _ (c4 .args .store .now) (c4 .args .place) (c2 .left .result) false (c4 .args .a) (c2 .left .ensures)
-    (c .before .child-found .ensures) ∙ not-true _ (c .if1 .taken)))
+    let after-child-found = c .before in
+    let after-left = after-child-found .before in
+    let start = start-from-left after-left in
+    sym (rw (found-as _ (start .args .store .now) (start .args .place) (after-left .left .result) false (start .args .a) (after-left .left .ensures)
+    (after-child-found .child-found .ensures) ∙ not-true _ (c .if1 .taken)))
 
 right-requires : tie.Need-right-requires
 right-requires c κs = search needs
@@ -28,13 +33,14 @@ child-found-requires-2 c κs = search needs
 
 returns-2 : tie.Need-returns-2
 returns-2 c =
-    let c2 = c .before .before in
-    let c3 = c2 .before in
-    let c4 = c3 .before in
-    let c6 = c4 .before .before in
-    sym (rw (found-as _ (c6 .args .store .now) (c6 .args .place) (c4 .left .result) false (c6 .args .a) (c4 .left .ensures)
-    (c3 .child-found .ensures) ∙ not-false _ (c2 .if1 .left))
-    (found-as _ (c6 .args .store .now) (c6 .args .place) (c .before .right .result) true (c6 .args .b) (c .before .right .ensures)
+    let after-right = c .before in
+    let else1 = after-right .before in
+    let after-child-found = else1 .before in
+    let after-left = after-child-found .before in
+    let start = start-from-left after-left in
+    sym (rw (found-as _ (start .args .store .now) (start .args .place) (after-left .left .result) false (start .args .a) (after-left .left .ensures)
+    (after-child-found .child-found .ensures) ∙ not-false _ (else1 .if1 .left))
+    (found-as _ (start .args .store .now) (start .args .place) (after-right .right .result) true (start .args .b) (after-right .right .ensures)
     (c .child-found2 .ensures)))
 
 pub children-found-spec : {M : Type 1} → statement M

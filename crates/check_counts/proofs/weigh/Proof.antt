@@ -14,28 +14,34 @@ find-requires c κs = search needs
 enum-known-i : tie.Need-enum-known-i
 enum-known-i c = search needs
 
+-- `A-from-B` is the state A as the later state B has it.
+abbrev start-from-find : tie.After-find → tie.Start
+start-from-find c = c .before .before
+
+abbrev find-from-known-told : tie.After-known-told → tie.After-find
+find-from-known-told c = c .before .before .before
+
 weight-at-requires : tie.Need-weight-at-requires
 weight-at-requires c κs =
-    let found = c .before .before .before in
-    let start = found .before .before in
+    let after-find = find-from-known-told c in
+    let start = start-from-find after-find in
     let a = start .args in
-    found-has (a .form) (a .store .now) (a .version) (placeOf (a .place)) _ (start .pre .0) (subst (FoundIn (storeIn (a .form) (a .store .now) .slots) (a .version) (placeOf (a .place))) (c .before .i .given .1) (found .find .ensures))
+    found-has (a .form) (a .store .now) (a .version) (placeOf (a .place)) _ (start .pre .0) (subst (FoundIn (storeIn (a .form) (a .store .now) .slots) (a .version) (placeOf (a .place))) (c .before .i .given .1) (after-find .find .ensures))
 
 enum-told : tie.Need-enum-told
 enum-told c = search needs
 
 returns : tie.Need-returns
 returns c =
-    let told = c .before in
-    let found = told .before .before .before in
-    let a = found .before .before .args in
-    found-weighs (a .form) (a .store .now) (a .version) (placeOf (a .place)) _ (subst (FoundIn (storeIn (a .form) (a .store .now) .slots) (a .version) (placeOf (a .place))) (told .before .i .given .1) (found .find .ensures)) (c .weight-at .ensures .0)
+    let after-find = find-from-known-told (c .before) in
+    let a = start-from-find after-find .args in
+    found-weighs (a .form) (a .store .now) (a .version) (placeOf (a .place)) _ (subst (FoundIn (storeIn (a .form) (a .store .now) .slots) (a .version) (placeOf (a .place))) (c .before .before .i .given .1) (after-find .find .ensures)) (c .weight-at .ensures .0)
 
 returns-2 : tie.Need-returns-2
 returns-2 c =
-    let found = c .before .before in
-    let a = found .before .before .args in
-    nothing-weighs (a .form) (a .store .now) (a .version) (placeOf (a .place)) (subst (FoundIn (storeIn (a .form) (a .store .now) .slots) (a .version) (placeOf (a .place))) (c .enum-told .given .1) (found .find .ensures))
+    let after-find = c .before .before in
+    let a = start-from-find after-find .args in
+    nothing-weighs (a .form) (a .store .now) (a .version) (placeOf (a .place)) (subst (FoundIn (storeIn (a .form) (a .store .now) .slots) (a .version) (placeOf (a .place))) (c .enum-told .given .1) (after-find .find .ensures))
 
 pub weigh-spec : {M : Type 1} → statement M
 weigh-spec =

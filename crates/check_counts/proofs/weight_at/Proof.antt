@@ -8,6 +8,10 @@ use borrow.Author.Needs.{needs}
 use Rattle.check_counts.proofs.weight_at.Statement.{statement}
 use Rattle.check_counts.proofs.weight_at.Tie as tie
 
+-- `A-from-B` is the state A as the later state B has it.
+abbrev start-from-else1 : tie.Else1 → tie.Start
+start-from-else1 c = c .before .before .before
+
 kind-at-requires : tie.Need-kind-at-requires
 kind-at-requires c κs = slot-within (c .before .pre)
 
@@ -18,13 +22,13 @@ returns c =
     (λ q e. leaf-weighs (start .pre) q e (sym (kind .kind-at .ensures) ∙ c .if1 .taken), omega arith)
 
 child-count-at-requires : tie.Need-child-count-at-requires
-child-count-at-requires c κs = slot-within (c .before .before .before .pre)
+child-count-at-requires c κs = slot-within (start-from-else1 c .pre)
 
 cast-lefts : tie.Need-cast-lefts
 cast-lefts c = search needs
 
 child-count-at-requires-2 : tie.Need-child-count-at-requires-2
-child-count-at-requires-2 c κs = slot-within (c .before .before .before .before .pre)
+child-count-at-requires-2 c κs = slot-within (start-from-else1 (c .before) .pre)
 
 cast-rights : tie.Need-cast-rights
 cast-rights c = search needs
@@ -34,12 +38,10 @@ add-result c = search needs
 
 returns-2 : tie.Need-returns-2
 returns-2 c =
-    let lefts = c .before in
-    let off = lefts .before in
-    let kind = off .before in
-    let start = kind .before .before in (
-      λ q e. ap₂ _+_ (lefts .child-count-at .ensures) (c .child-count-at2 .ensures)
-          ∙ inner-weighs (start .pre) q e (λ l. off .if1 .left (kind .kind-at .ensures ∙ l)),
+    let after-child-count-at = c .before in
+    let else1 = after-child-count-at .before in (
+      λ q e. ap₂ _+_ (after-child-count-at .child-count-at .ensures) (c .child-count-at2 .ensures)
+          ∙ inner-weighs (start-from-else1 else1 .pre) q e (λ l. else1 .if1 .left (else1 .before .kind-at .ensures ∙ l)),
       omega arith,
     )
 

@@ -12,13 +12,23 @@ Inv-loop form store kept sums n i₀ i = Walk form store (CoveredAt form store s
 abbrev μ-loop : tie.MeasureT-loop
 μ-loop form store kept sums n i₀ i = n - i
 
+-- `A-from-B` is the state A as the later state B has it.
+abbrev start-from-slot-count : tie.After-slot-count Inv-loop μ-loop → tie.Start Inv-loop μ-loop
+start-from-slot-count c = c .before .before
+
+abbrev at-loop-from-slot-covered-arg : tie.After-slot-covered-arg Inv-loop μ-loop → tie.At-loop Inv-loop μ-loop
+at-loop-from-slot-covered-arg c = c .before .before
+
+abbrev at-loop-from-slot-covered : tie.After-slot-covered Inv-loop μ-loop → tie.At-loop Inv-loop μ-loop
+at-loop-from-slot-covered c = at-loop-from-slot-covered-arg (c .before)
+
 slot-count-requires : tie.Need-slot-count-requires Inv-loop μ-loop
 slot-count-requires c κs = c .before .pre .size
 
 loop-holds : tie.Need-loop-holds Inv-loop μ-loop
 loop-holds c =
-    let c2 = c .before .before in
-    walk-start (c2 .args .store .now) (CoveredAt (c2 .args .form) (c2 .args .store .now) (c2 .args .sums .now)) (c2 .pre .size)
+    let start = start-from-slot-count c in
+    walk-start (start .args .store .now) (CoveredAt (start .args .form) (start .args .store .now) (start .args .sums .now)) (start .pre .size)
     (c .slot-count .ensures)
 
 mul-slot-covered : tie.Need-mul-slot-covered Inv-loop μ-loop
@@ -29,28 +39,23 @@ element-copy-out-slot-covered c = omega (arith, c .before .loop .inv .scan .smal
 
 slot-covered-requires : tie.Need-slot-covered-requires Inv-loop μ-loop
 slot-covered-requires c κs =
-    let c2 = c .before .before in
-    let c5 = c2 .before .before .before in
-    (walk-slot (c2 .loop .inv) (c .before .loop-test .taken), c5 .pre)
+    let at-loop = at-loop-from-slot-covered-arg c in
+    (walk-slot (at-loop .loop .inv) (c .before .loop-test .taken), start-from-slot-count (at-loop .before) .pre)
 
 returns : tie.Need-returns Inv-loop μ-loop
-returns c =
-    let c4 = c .before .before .before .before in
-    c4 .loop .inv .each
+returns c = at-loop-from-slot-covered (c .before) .loop .inv .each
 
 add-i : tie.Need-add-i Inv-loop μ-loop
-add-i c =
-    let c4 = c .before .before .before .before in
-    omega (arith, c4 .loop .inv .scan .small)
+add-i c = omega (arith, at-loop-from-slot-covered (c .before) .loop .inv .scan .small)
 
 loop-less : tie.Need-loop-less Inv-loop μ-loop
 loop-less c = omega arith
 
 loop-again : tie.Need-loop-again Inv-loop μ-loop
 loop-again c =
-    let c3 = c .before .before .before in
-    walk-on (c3 .before .loop .inv) (c3 .loop-test .taken) (c .before .slot-covered .result) (c .if1 .left)
-    (c .before .slot-covered .ensures)
+    let after-slot-covered = c .before in
+    walk-on (at-loop-from-slot-covered after-slot-covered .loop .inv) (after-slot-covered .before .before .loop-test .taken) (after-slot-covered .slot-covered .result) (c .if1 .left)
+    (after-slot-covered .slot-covered .ensures)
 
 returns-2 : tie.Need-returns-2 Inv-loop μ-loop
 returns-2 c = c .before .loop .inv .each

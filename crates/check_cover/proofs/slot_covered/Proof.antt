@@ -9,40 +9,43 @@ use borrow.Author.Needs.{needs}
 use Rattle.check_cover.proofs.slot_covered.Statement.{statement}
 use Rattle.check_cover.proofs.slot_covered.Tie as tie
 
+-- `A-from-B` is the state A as the later state B has it.
+abbrev start-from-count-at : tie.After-count-at → tie.Start
+start-from-count-at c = c .before .before
+
+abbrev start-from-ends-before : tie.After-ends-before → tie.Start
+start-from-ends-before c = start-from-count-at (c .before .before .before)
+
 count-at-requires : tie.Need-count-at-requires
 count-at-requires c κs = slot-within (c .before .pre .0)
 
 returns : tie.Need-returns
 returns c =
-    let c2 = c .before .before in
-    let c3 = c2 .before in
-    root-covered (c3 .args .store .now) (c3 .args .i) (c3 .pre .0)
-    (all-of Byte (c3 .args .store .now) 0 (λ i _. omega (arith, c2 .shared-slice-known .given i))) (c .before .count-at .ensures)
-    (c .if1 .taken) (c3 .args .sum)
+    let after-count-at = c .before in
+    let start = start-from-count-at after-count-at in
+    root-covered (start .args .store .now) (start .args .i) (start .pre .0)
+    (all-of Byte (start .args .store .now) 0 (λ i _. omega (arith, after-count-at .before .shared-slice-known .given i))) (after-count-at .count-at .ensures)
+    (c .if1 .taken) (start .args .sum)
 
 retired-at-requires : tie.Need-retired-at-requires
-retired-at-requires c κs =
-    let c3 = c .before .before .before in
-    slot-within (c3 .pre .0)
+retired-at-requires c κs = slot-within (start-from-count-at (c .before) .pre .0)
 
 ends-before-requires : tie.Need-ends-before-requires
 ends-before-requires c κs = search needs
 
 version-at-requires : tie.Need-version-at-requires
-version-at-requires c κs =
-    let c5 = c .before .before .before .before .before in
-    slot-within (c5 .pre .0)
+version-at-requires c κs = slot-within (start-from-ends-before c .pre .0)
 
 kept-life-requires : tie.Need-kept-life-requires
 kept-life-requires c κs = search needs
 
 returns-2 : tie.Need-returns-2
 returns-2 c =
-    let c2 = c .before .before in
-    let c3 = c2 .before in
-    let c7 = c3 .before .before .before .before in
-    life-covered (c7 .args .store .now) (c7 .args .i) (c7 .pre .0) (c7 .pre .1) (c .before .version-at .ensures)
-    (c3 .retired-at .ensures) (c2 .ends-before .ensures .0) (c .kept-life .ensures) _ (c7 .args .sum) refl
+    let after-version-at = c .before in
+    let after-ends-before = after-version-at .before in
+    let start = start-from-ends-before after-ends-before in
+    life-covered (start .args .store .now) (start .args .i) (start .pre .0) (start .pre .1) (after-version-at .version-at .ensures)
+    (after-ends-before .before .retired-at .ensures) (after-ends-before .ends-before .ensures .0) (c .kept-life .ensures) _ (start .args .sum) refl
 
 pub slot-covered-spec : {M : Type 1} → statement M
 slot-covered-spec =

@@ -13,36 +13,37 @@ Inv-loop form store version place n count₀ j₀ count j = Counted form store v
 abbrev μ-loop : tie.MeasureT-loop
 μ-loop form store version place n count₀ j₀ count j = n - j
 
+-- `A-from-B` is the state A as the later state B has it.
+abbrev start-from-slot-count : tie.After-slot-count Inv-loop μ-loop → tie.Start Inv-loop μ-loop
+start-from-slot-count c = c .before .before
+
+abbrev at-loop-from-holder : tie.After-holder Inv-loop μ-loop → tie.At-loop Inv-loop μ-loop
+at-loop-from-holder c = c .before .before
+
 slot-count-requires : tie.Need-slot-count-requires Inv-loop μ-loop
 slot-count-requires c κs = c .before .pre .0
 
 loop-holds : tie.Need-loop-holds Inv-loop μ-loop
 loop-holds c =
-    let c2 = c .before .before in
-    count-start (c2 .args .store .now) (c2 .args .version) (placeOf (c2 .args .place)) (c2 .pre .0) (c .slot-count .ensures)
+    let start = start-from-slot-count c in
+    count-start (start .args .store .now) (start .args .version) (placeOf (start .args .place)) (start .pre .0) (c .slot-count .ensures)
 
 holder-requires : tie.Need-holder-requires Inv-loop μ-loop
-holder-requires c κs =
-    let c4 = c .before .before .before .before in
-    (scan-slot (c .before .loop .inv .scan) (c .loop-test .taken), c4 .pre .1)
+holder-requires c κs = (scan-slot (c .before .loop .inv .scan) (c .loop-test .taken), start-from-slot-count (c .before .before) .pre .1)
 
 add-count : tie.Need-add-count Inv-loop μ-loop
 add-count c =
-    let c2 = c .before .before in
-    omega (arith, count-few (c2 .loop .inv) (c .holder .ensures), c2 .loop .inv .few, c2 .loop .inv .scan .small)
+    let at-loop = at-loop-from-holder c in
+    omega (arith, count-few (at-loop .loop .inv) (c .holder .ensures), at-loop .loop .inv .few, at-loop .loop .inv .scan .small)
 
 add-j : tie.Need-add-j Inv-loop μ-loop
-add-j c =
-    let c2 = c .before .before in
-    omega (arith, c2 .loop .inv .scan .small)
+add-j c = omega (arith, at-loop-from-holder c .loop .inv .scan .small)
 
 loop-less : tie.Need-loop-less Inv-loop μ-loop
 loop-less c = omega arith
 
 loop-again : tie.Need-loop-again Inv-loop μ-loop
-loop-again c =
-    let c2 = c .before .before in
-    count-next (c2 .loop .inv) (c .before .loop-test .taken) (c .holder .ensures)
+loop-again c = count-next (at-loop-from-holder c .loop .inv) (c .before .loop-test .taken) (c .holder .ensures)
 
 returns : tie.Need-returns Inv-loop μ-loop
 returns c = count-end (c .before .loop .inv) (c .loop-test .left)

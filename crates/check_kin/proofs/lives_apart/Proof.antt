@@ -17,9 +17,10 @@ cast-if2 c = search needs
 
 returns-2 : tie.Need-returns-2
 returns-2 c =
-    let c2 = c .before .before in
-    let a = c2 .before .args in
-    ended (a .oldest) (a .version) (a .ends) (a .other) (a .end) (c2 .if1 .left) (c .before .later .ensures) (c .if2 .taken)
+    let after-later = c .before in
+    let else1 = after-later .before in
+    let a = else1 .before .args in
+    ended (a .oldest) (a .version) (a .ends) (a .other) (a .end) (else1 .if1 .left) (after-later .later .ensures) (c .if2 .taken)
 
 later-requires-2 : tie.Need-later-requires-2
 later-requires-2 c κs = search needs
@@ -29,10 +30,11 @@ cast-result c = search needs
 
 returns-3 : tie.Need-returns-3
 returns-3 c =
-    let c2 = c .before .before in
-    let c3 = c2 .before in
-    let a = c3 .before .args in
-    not-ended (a .oldest) (a .version) (a .ends) (a .other) (a .end) (c3 .if1 .left) (c2 .later .ensures) (c .before .if2 .left)
+    let else2 = c .before in
+    let after-later = else2 .before in
+    let else1 = after-later .before in
+    let a = else1 .before .args in
+    not-ended (a .oldest) (a .version) (a .ends) (a .other) (a .end) (else1 .if1 .left) (after-later .later .ensures) (else2 .if2 .left)
     (c .later2 .ensures)
 
 pub lives-apart-spec : {M : Type 1} → statement M

@@ -1,7 +1,6 @@
 -- `check_kin::root_apart` meets its contract: one early return for each field that tells. Assumes nothing.
 use native.Mathlib.Omega.{arith}
 use mathlib.Core.Path.{sym, _∙_}
-use borrow.Author.Tests.{not-false}
 use Rattle.terms.specs.Bits.{Byte}
 use Rattle.terms.proofs.Lists.{all-of}
 use Rattle.store.proofs.Slots.{slot-within}
@@ -11,46 +10,57 @@ use Rattle.check_kin.proofs.root_apart.Statement.{statement}
 use Rattle.check_kin.proofs.root_apart.Tie as tie
 
 -- `A-from-B` is the state A as the later state B has it.
+abbrev start-from-count-at : tie.After-count-at → tie.Start
+start-from-count-at c = c .before .before
+
+abbrev start-from-else1 : tie.Else1 → tie.Start
+start-from-else1 c = start-from-count-at (c .before)
+
+abbrev shared-slice-known-from-else1 : tie.Else1 → tie.After-shared-slice-known
+shared-slice-known-from-else1 c = c .before .before
+
 abbrev start-from-retired-at : tie.After-retired-at → tie.Start
 start-from-retired-at c = c .before .before .before .before
 
+abbrev start-from-ends-before : tie.After-ends-before → tie.Start
+start-from-ends-before c = start-from-else1 (c .before .before)
+
 abbrev start-from-lives-apart : tie.After-lives-apart → tie.Start
 start-from-lives-apart c = start-from-retired-at (c .before .before .before)
+
+abbrev ends-before-from-lives-apart : tie.After-lives-apart → tie.After-ends-before
+ends-before-from-lives-apart c = c .before .before
 
 count-at-requires : tie.Need-count-at-requires
 count-at-requires c κs = slot-within (c .before .pre .0)
 
 returns : tie.Need-returns
 returns c =
-    let c2 = c .before .before in
-    let c3 = c2 .before in
-    no-root (c3 .pre .0) (all-of Byte (c3 .args .store .now) 0 (λ i _. omega (arith, c2 .shared-slice-known .given i)))
-    (c3 .args .version) (c3 .args .ends) (λ z. c .if1 .taken (c .before .count-at .ensures ∙ z))
+    let after-count-at = c .before in
+    let start = start-from-count-at after-count-at in
+    no-root (start .pre .0) (all-of Byte (start .args .store .now) 0 (λ i _. omega (arith, after-count-at .before .shared-slice-known .given i)))
+    (start .args .version) (start .args .ends) (λ z. c .if1 .taken (after-count-at .count-at .ensures ∙ z))
 
 retired-at-requires : tie.Need-retired-at-requires
-retired-at-requires c κs =
-    let c3 = c .before .before .before in
-    slot-within (c3 .pre .0)
+retired-at-requires c κs = slot-within (start-from-else1 c .pre .0)
 
 ends-before-requires : tie.Need-ends-before-requires
 ends-before-requires c κs = search needs
 
 version-at-requires : tie.Need-version-at-requires
-version-at-requires c κs = slot-within (start-from-retired-at (c .before) .pre .0)
+version-at-requires c κs = slot-within (start-from-ends-before c .pre .0)
 
 lives-apart-requires : tie.Need-lives-apart-requires
 lives-apart-requires c κs = search needs
 
 returns-2 : tie.Need-returns-2
 returns-2 c =
-    let c2 = c .before .before in
-    let c3 = c2 .before in
-    let c4 = c3 .before in
-    let c7 = c4 .before .before .before in
-    let c8 = c7 .before in
-    clear-life (c8 .pre .0) (all-of Byte (c8 .args .store .now) 0 (λ i _. omega (arith, c7 .shared-slice-known .given i)))
-    (c8 .args .version) (c8 .args .ends) (c8 .pre .1) (c2 .version-at .ensures) (c4 .retired-at .ensures) (c3 .ends-before .ensures .0)
-    (c .before .lives-apart .ensures) (c .if2 .taken)
+    let after-lives-apart = c .before in
+    let after-ends-before = ends-before-from-lives-apart after-lives-apart in
+    let start = start-from-ends-before after-ends-before in
+    clear-life (start .pre .0) (all-of Byte (start .args .store .now) 0 (λ i _. omega (arith, shared-slice-known-from-else1 (after-ends-before .before .before) .shared-slice-known .given i)))
+    (start .args .version) (start .args .ends) (start .pre .1) (after-lives-apart .before .version-at .ensures) (after-ends-before .before .retired-at .ensures) (after-ends-before .ends-before .ensures .0)
+    (after-lives-apart .lives-apart .ensures) (c .if2 .taken)
 
 slot-of-requires : tie.Need-slot-of-requires
 slot-of-requires c κs = slot-within (start-from-lives-apart (c .before) .pre .0)
@@ -60,18 +70,16 @@ holds-record-requires c κs = search needs
 
 returns-3 : tie.Need-returns-3
 returns-3 c =
-    let c2 = c .before .before in
-    let c3 = c2 .before in
-    let c4 = c3 .before in
-    let c5 = c4 .before in
-    let c6 = c5 .before in
-    let c7 = c6 .before in
-    let c8 = c7 .before in
-    let c9 = c8 .before in
-    let c10 = c9 .before in
-    met (c10 .pre .0) (all-of Byte (c10 .args .store .now) 0 (λ i _. omega (arith, c9 .shared-slice-known .given i)))
-    (c10 .args .version) (c10 .args .ends) (c10 .pre .1) (c4 .version-at .ensures) (c6 .retired-at .ensures) (c5 .ends-before .ensures .0)
-    (c3 .lives-apart .ensures) (c2 .if2 .left) (sym (c8 .count-at .ensures) ∙ c7 .if1 .left) (c .before .slot-of .ensures .0)
+    let after-slot-of = c .before in
+    let else2 = after-slot-of .before in
+    let after-lives-apart = else2 .before in
+    let after-ends-before = ends-before-from-lives-apart after-lives-apart in
+    let after-retired-at = after-ends-before .before in
+    let else1 = after-retired-at .before in
+    let start = start-from-else1 else1 in
+    met (start .pre .0) (all-of Byte (start .args .store .now) 0 (λ i _. omega (arith, shared-slice-known-from-else1 else1 .shared-slice-known .given i)))
+    (start .args .version) (start .args .ends) (start .pre .1) (after-lives-apart .before .version-at .ensures) (after-retired-at .retired-at .ensures) (after-ends-before .ends-before .ensures .0)
+    (after-lives-apart .lives-apart .ensures) (else2 .if2 .left) (sym (else1 .before .count-at .ensures) ∙ else1 .if1 .left) (after-slot-of .slot-of .ensures .0)
     (c .holds-record .result) (c .holds-record .ensures)
 
 pub root-apart-spec : {M : Type 1} → statement M

@@ -17,37 +17,40 @@ Inv-loop form store kept version ends n j₀ j = Passed form store (byRecord tru
 abbrev μ-loop : tie.MeasureT-loop
 μ-loop form store kept version ends n j₀ j = n - j
 
+-- `A-from-B` is the state A as the later state B has it.
+abbrev start-from-slot-count : tie.After-slot-count Inv-loop μ-loop → tie.Start Inv-loop μ-loop
+start-from-slot-count c = c .before .before
+
+abbrev at-loop-from-root-apart : tie.After-root-apart Inv-loop μ-loop → tie.At-loop Inv-loop μ-loop
+at-loop-from-root-apart c = c .before .before
+
 slot-count-requires : tie.Need-slot-count-requires Inv-loop μ-loop
 slot-count-requires c κs = c .before .pre .size
 
 loop-holds : tie.Need-loop-holds Inv-loop μ-loop
 loop-holds c =
-    let c2 = c .before .before in
-    pass-start (c2 .args .store .now) (byRecord true (clearOf (storeIn (c2 .args .form) (c2 .args .store .now)) (c2 .args .version) (c2 .args .ends)))
-    (c2 .pre .size) (c .slot-count .ensures)
+    let start = start-from-slot-count c in
+    pass-start (start .args .store .now) (byRecord true (clearOf (storeIn (start .args .form) (start .args .store .now)) (start .args .version) (start .args .ends)))
+    (start .pre .size) (c .slot-count .ensures)
 
 root-apart-requires : tie.Need-root-apart-requires Inv-loop μ-loop
-root-apart-requires c κs =
-    let c4 = c .before .before .before .before in
-    (scan-slot (c .before .loop .inv) (c .loop-test .taken), c4 .pre)
+root-apart-requires c κs = (scan-slot (c .before .loop .inv) (c .loop-test .taken), start-from-slot-count (c .before .before) .pre)
 
 returns : tie.Need-returns Inv-loop μ-loop
 returns c =
-    let c2 = c .before .before in
-    pass-off (c2 .before .loop .inv) (c2 .loop-test .taken) (c .before .root-apart .ensures) (not-true _ (c .if1 .taken))
+    let after-root-apart = c .before in
+    pass-off (at-loop-from-root-apart after-root-apart .loop .inv) (after-root-apart .before .loop-test .taken) (after-root-apart .root-apart .ensures) (not-true _ (c .if1 .taken))
 
 add-j : tie.Need-add-j Inv-loop μ-loop
-add-j c =
-    let c3 = c .before .before .before in
-    omega (arith, c3 .loop .inv .small)
+add-j c = omega (arith, at-loop-from-root-apart (c .before) .loop .inv .small)
 
 loop-less : tie.Need-loop-less Inv-loop μ-loop
 loop-less c = omega arith
 
 loop-again : tie.Need-loop-again Inv-loop μ-loop
 loop-again c =
-    let c2 = c .before .before in
-    pass-next (c2 .before .loop .inv) (c2 .loop-test .taken) (c .before .root-apart .ensures) (not-false _ (c .if1 .left))
+    let after-root-apart = c .before in
+    pass-next (at-loop-from-root-apart after-root-apart .loop .inv) (after-root-apart .before .loop-test .taken) (after-root-apart .root-apart .ensures) (not-false _ (c .if1 .left))
 
 returns-2 : tie.Need-returns-2 Inv-loop μ-loop
 returns-2 c = pass-end (c .before .loop .inv) (c .loop-test .left)

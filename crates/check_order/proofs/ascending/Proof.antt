@@ -70,8 +70,8 @@ loop-again c =
     let start = start-from-at-loop at-loop in
     let i = at-loop .loop .inv in (
       omega (arith, i .0),
-      step-next (Follows (start .args .form) (start .args .latest) (start .args .store .now)) (start .args .table .now) _ (i .0) (i .1) (after-wide .wide .ensures)
-          (after-wide2 .wide2 .ensures) (passed-so (after-in-order .in-order .result) (c .if1 .left) (after-in-order .in-order .ensures)),
+      step-next (Follows (start .args .form) (start .args .latest) (start .args .store .now)) (start .args .table .now) _ (i .0) (i .1) (after-wide .wide .ensures .0)
+          (after-wide2 .wide2 .ensures .0) (passed-so (after-in-order .in-order .result) (c .if1 .left) (after-in-order .in-order .ensures)),
     )
 
 returns-2 : tie.Need-returns-2 Inv-loop μ-loop

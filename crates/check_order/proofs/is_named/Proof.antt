@@ -26,7 +26,7 @@ returns-2 : tie.Need-returns-2
 returns-2 c =
     let c2 = c .before .before in
     let c4 = c2 .before .before in
-    pass-named (eqb (c .wide2 .result) (c4 .args .i)) (c4 .args .table .now) (c4 .args .i) {m = c4 .args .many} _ (omega (arith, c2 .if1 .left)) (c .wide2 .ensures) refl
+    pass-named (eqb (c .wide2 .result) (c4 .args .i)) (c4 .args .table .now) (c4 .args .i) {m = c4 .args .many} _ (omega (arith, c2 .if1 .left)) (c .wide2 .ensures .0) refl
 
 pub is-named-spec : {M : Type 1} → statement M
 is-named-spec =

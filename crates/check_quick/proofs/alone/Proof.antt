@@ -4,16 +4,20 @@ use borrow.Author.Needs.{needs}
 use Rattle.check_quick.proofs.alone.Statement.{statement}
 use Rattle.check_quick.proofs.alone.Tie as tie
 
+-- `A-from-B` is the state A as the later state B has it.
+abbrev slot-count-from-ranks : tie.After-ranks → tie.After-slot-count
+slot-count-from-ranks c = c .before .before
+
 slot-count-requires : tie.Need-slot-count-requires
 slot-count-requires c κs = c .before .pre .keeps .size
 
 sort-requires : tie.Need-sort-requires
 sort-requires c κs =
-    let c2 = c .before .before in
-    let c4 = c2 .before .before in (
-      (record { size = c4 .pre .keeps .size; many = c2 .slot-count .ensures }),
-      room-fits (c4 .args .store .now)
-          (record { size = c4 .pre .keeps .size; many = c2 .slot-count .ensures }),
+    let after-slot-count = slot-count-from-ranks c in
+    let start = after-slot-count .before .before in (
+      (record { size = start .pre .keeps .size; many = after-slot-count .slot-count .ensures }),
+      room-fits (start .args .store .now)
+          (record { size = start .pre .keeps .size; many = after-slot-count .slot-count .ensures }),
     )
 
 rank-requires : tie.Need-rank-requires
@@ -21,10 +25,9 @@ rank-requires c κs = search needs
 
 guessed-requires : tie.Need-guessed-requires
 guessed-requires c κs =
-    let c5 = c .before .before .before .before .before in
-    let c8 = c5 .before .before .before in
-    let c10 = c8 .before .before in
-    ((record { size = c10 .pre .keeps .size; many = c8 .slot-count .ensures }), c5 .sort .ensures)
+    let after-sort = c .before .before .before .before .before in
+    let after-slot-count = slot-count-from-ranks (after-sort .before) in
+    ((record { size = after-slot-count .before .before .pre .keeps .size; many = after-slot-count .slot-count .ensures }), after-sort .sort .ensures)
 
 in-order-requires : tie.Need-in-order-requires
 in-order-requires c κs = search needs

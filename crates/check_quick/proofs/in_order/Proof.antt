@@ -8,13 +8,17 @@ use borrow.Author.Needs.{needs}
 use Rattle.check_quick.proofs.in_order.Statement.{statement}
 use Rattle.check_quick.proofs.in_order.Tie as tie
 
+-- `A-from-B` is the state A as the later state B has it.
+abbrev start-from-slot-count : tie.After-slot-count → tie.Start
+start-from-slot-count c = c .before .before
+
 slot-count-requires : tie.Need-slot-count-requires
 slot-count-requires c κs = c .before .pre .0 .keeps .size
 
 ascending-requires : tie.Need-ascending-requires
 ascending-requires c κs =
-    let c2 = c .before .before in
-    (c2 .pre .0 .keeps .size, c2 .pre .1)
+    let start = start-from-slot-count c in
+    (start .pre .0 .keeps .size, start .pre .1)
 
 mul-wide : tie.Need-mul-wide
 mul-wide c = search needs
@@ -30,23 +34,23 @@ returns c = tt
 
 named-requires : tie.Need-named-requires
 named-requires c κs =
-    let c4 = c .before .before .before .before in
-    (c4 .pre .0 .keeps .size, c4 .pre .1)
+    let start = start-from-slot-count (c .before .before) in
+    (start .pre .0 .keeps .size, start .pre .1)
 
 returns-2 : tie.Need-returns-2
 returns-2 c = tt
 
 returns-3 : tie.Need-returns-3
 returns-3 c =
-    let c2 = c .before .before in
-    let c3 = c2 .before in
-    let c4 = c3 .before in
-    let c5 = c4 .before in
-    let c6 = c5 .before in
-    all-alone _ (c6 .args .store .now) (c6 .pre .0)
-    (all-of Byte (c6 .args .store .now) 0 (λ i _. omega (arith, c5 .shared-slice-known .given i)))
-    (c6 .args .table .now) (c6 .args .many) (c3 .ascending .result) (c .before .named .result) (c2 .if1 .left)
-    (c3 .ascending .ensures) (omega (arith, c .if2 .left, c4 .slot-count .ensures)) (c .before .named .ensures)
+    let after-named = c .before in
+    let else1 = after-named .before in
+    let after-ascending = else1 .before in
+    let after-slot-count = after-ascending .before in
+    let start = start-from-slot-count after-slot-count in
+    all-alone _ (start .args .store .now) (start .pre .0)
+    (all-of Byte (start .args .store .now) 0 (λ i _. omega (arith, after-slot-count .before .shared-slice-known .given i)))
+    (start .args .table .now) (start .args .many) (after-ascending .ascending .result) (after-named .named .result) (else1 .if1 .left)
+    (after-ascending .ascending .ensures) (omega (arith, c .if2 .left, after-slot-count .slot-count .ensures)) (after-named .named .ensures)
 
 pub in-order-spec : {M : Type 1} → statement M
 in-order-spec =

@@ -10,6 +10,13 @@ use borrow.Author.Needs.{needs}
 use Rattle.check_quick.proofs.quick_with.Statement.{statement}
 use Rattle.check_quick.proofs.quick_with.Tie as tie
 
+-- `A-from-B` is the state A as the later state B has it.
+abbrev start-from-own-right : tie.After-own-right → tie.Start
+start-from-own-right c = c .before .before .before
+
+abbrev else1-from-enum-told : tie.After-enum-told → tie.Else1
+else1-from-enum-told c = c .before .before .before .before
+
 slot-count-requires : tie.Need-slot-count-requires
 slot-count-requires c κs = c .before .pre .size
 
@@ -21,13 +28,13 @@ returns c = tt
 
 alone-requires : tie.Need-alone-requires
 alone-requires c κs =
-    let c2 = c .before .before in
-    let c3 = c2 .before in
-    let c5 = c3 .before .before in
+    let else1 = c .before in
+    let after-own-right = else1 .before in
+    let start = start-from-own-right after-own-right in
     record {
-      keeps = c5 .pre;
-      own = each-below (OwnAt (storeIn (c5 .args .form) (c5 .args .store .now))) (roomOf (c5 .args .form) (length (c5 .args .store .now)))
-          (c2 .own-right .result) (omega (arith, c .before .if1 .left, c3 .slot-count .ensures)) (c2 .own-right .ensures);
+      keeps = start .pre;
+      own = each-below (OwnAt (storeIn (start .args .form) (start .args .store .now))) (roomOf (start .args .form) (length (start .args .store .now)))
+          (after-own-right .own-right .result) (omega (arith, else1 .if1 .left, after-own-right .before .slot-count .ensures)) (after-own-right .own-right .ensures);
     }
 
 enum-told : tie.Need-enum-told
@@ -35,14 +42,13 @@ enum-told c = search needs
 
 linked-requires : tie.Need-linked-requires
 linked-requires c κs =
-    let c5 = c .before .before .before .before .before in
-    let c6 = c5 .before in
-    let c7 = c6 .before in
-    let c9 = c7 .before .before in
+    let else1 = else1-from-enum-told (c .before) in
+    let after-own-right = else1 .before in
+    let start = start-from-own-right after-own-right in
     record {
-      keeps = c9 .pre;
-      own = each-below (OwnAt (storeIn (c9 .args .form) (c9 .args .store .now))) (roomOf (c9 .args .form) (length (c9 .args .store .now)))
-          (c6 .own-right .result) (omega (arith, c5 .if1 .left, c7 .slot-count .ensures)) (c6 .own-right .ensures);
+      keeps = start .pre;
+      own = each-below (OwnAt (storeIn (start .args .form) (start .args .store .now))) (roomOf (start .args .form) (length (start .args .store .now)))
+          (after-own-right .own-right .result) (omega (arith, else1 .if1 .left, after-own-right .before .slot-count .ensures)) (after-own-right .own-right .ensures);
     }
 
 enum-known-first : tie.Need-enum-known-first
@@ -50,15 +56,12 @@ enum-known-first c = search needs
 
 returns-2 : tie.Need-returns-2
 returns-2 c =
-    let c2 = c .before .before in
-    let c4 = c2 .before .before in
-    let c6 = c4 .before .before in
-    let c7 = c6 .before in
-    let c8 = c7 .before in
-    let c10 = c8 .before .before in
+    let after-enum-told = c .before .before in
+    let else1 = else1-from-enum-told after-enum-told in
+    let after-own-right = else1 .before in
     sure-map (c .linked .result)
-    (all-fine _ (c10 .args .store .now) (c7 .own-right .result) (omega (arith, c6 .if1 .left, c8 .slot-count .ensures))
-    (c7 .own-right .ensures) (sure-is (c2 .enum-told .given .1) (c4 .alone .ensures))) (c .linked .ensures)
+    (all-fine _ (start-from-own-right after-own-right .args .store .now) (after-own-right .own-right .result) (omega (arith, else1 .if1 .left, after-own-right .before .slot-count .ensures))
+    (after-own-right .own-right .ensures) (sure-is (after-enum-told .enum-told .given .1) (after-enum-told .before .before .alone .ensures))) (c .linked .ensures)
 
 returns-3 : tie.Need-returns-3
 returns-3 c = tt

@@ -15,9 +15,9 @@ returns c = search needs
 
 slot-passes-requires-2 : tie.Need-slot-passes-requires-2
 slot-passes-requires-2 c κs =
-    let c3 = c .before .before .before in
-    let c5 = c3 .before .before in
-    (room-has (record { size = c5 .pre .0 .size; many = c3 .slot-count .ensures }) (c .if2 .taken), c5 .pre .1)
+    let after-slot-count = c .before .before .before in
+    let start = after-slot-count .before .before in
+    (room-has (record { size = start .pre .0 .size; many = after-slot-count .slot-count .ensures }) (c .if2 .taken), start .pre .1)
 
 returns-2 : tie.Need-returns-2
 returns-2 c = search needs

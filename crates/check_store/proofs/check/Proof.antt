@@ -17,40 +17,44 @@ enum-known-header c = search needs
 enum-known-header-2 : tie.Need-enum-known-header-2
 enum-known-header-2 c = search needs
 
+-- `A-from-B` is the state A as the later state B has it.
+abbrev start-from-read-header : tie.After-read-header → tie.Start
+start-from-read-header c = c .before .before
+
+abbrev read-header-from-known-told2 : tie.After-known-told2 → tie.After-read-header
+read-header-from-known-told2 c = c .before .before .before
+
 slots-pass-requires : tie.Need-slots-pass-requires
 slots-pass-requires c κs =
-    let after-header2 = c .before in
-    let after-read-header = after-header2 .before .before in
-    says-kept _ (after-read-header .before .before .args .store .now) (after-read-header .read-header .ensures)
-    (after-header2 .header2 .given .1)
+    let after-read-header = read-header-from-known-told2 c in
+    says-kept _ (start-from-read-header after-read-header .args .store .now) (after-read-header .read-header .ensures)
+    (c .before .header2 .given .1)
 
 returns : tie.Need-returns
 returns c =
     let after-slots-pass = c .before in
-    let after-header2 = after-slots-pass .before .before in
-    let after-read-header = after-header2 .before .before in
-    let after-shared-slice-known = after-read-header .before in
-    let s = after-shared-slice-known .before .args .store .now in
-    says-unsound _ s (after-read-header .read-header .ensures) (after-header2 .header2 .given .1)
-    (all-of Byte s 0 (λ i _. omega (arith, after-shared-slice-known .shared-slice-known .given i)))
+    let after-known-told2 = after-slots-pass .before in
+    let after-read-header = read-header-from-known-told2 after-known-told2 in
+    let s = start-from-read-header after-read-header .args .store .now in
+    says-unsound _ s (after-read-header .read-header .ensures) (after-known-told2 .before .header2 .given .1)
+    (all-of Byte s 0 (λ i _. omega (arith, after-read-header .before .shared-slice-known .given i)))
     (after-slots-pass .slots-pass .ensures) (not-true _ (c .if1 .taken))
 
 returns-2 : tie.Need-returns-2
 returns-2 c =
     let after-header = c .before in
     let after-read-header = after-header .before .before in
-    says-refused _ (after-read-header .before .before .args .store .now) (after-read-header .read-header .ensures)
+    says-refused _ (start-from-read-header after-read-header .args .store .now) (after-read-header .read-header .ensures)
     (after-header .header .given .1)
 
 returns-3 : tie.Need-returns-3
 returns-3 c =
     let after-slots-pass = c .before in
-    let after-header2 = after-slots-pass .before .before in
-    let after-read-header = after-header2 .before .before in
-    let after-shared-slice-known = after-read-header .before in
-    let s = after-shared-slice-known .before .args .store .now in
-    says-sound _ s (after-read-header .read-header .ensures) (after-header2 .header2 .given .1)
-    (all-of Byte s 0 (λ i _. omega (arith, after-shared-slice-known .shared-slice-known .given i)))
+    let after-known-told2 = after-slots-pass .before in
+    let after-read-header = read-header-from-known-told2 after-known-told2 in
+    let s = start-from-read-header after-read-header .args .store .now in
+    says-sound _ s (after-read-header .read-header .ensures) (after-known-told2 .before .header2 .given .1)
+    (all-of Byte s 0 (λ i _. omega (arith, after-read-header .before .shared-slice-known .given i)))
     (after-slots-pass .slots-pass .ensures) (not-false _ (c .if1 .left))
 
 pub check-spec : {M : Type 1} → statement M

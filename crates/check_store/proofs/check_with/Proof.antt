@@ -24,12 +24,18 @@ check-requires c κs = search needs
 returns : tie.Need-returns
 returns c = search needs
 
+-- `A-from-B` is the state A as the later state B has it.
+abbrev read-header-from-header : tie.After-header → tie.After-read-header
+read-header-from-header c = c .before .before
+
+abbrev header-from-quick-with-arg : tie.After-quick-with-arg → tie.After-header
+header-from-quick-with-arg c = c .before .before
+
 quick-with-requires : tie.Need-quick-with-requires
 quick-with-requires c κs =
-    let accepted = c .before .before in
-    let read = accepted .before .before in
-    let start = read .before .before in
-    says-kept _ (start .args .store .now) (read .read-header .ensures) (accepted .header .given .1)
+    let after-header = header-from-quick-with-arg c in
+    let after-read-header = read-header-from-header after-header in
+    says-kept _ (after-read-header .before .before .args .store .now) (after-read-header .read-header .ensures) (after-header .header .given .1)
 
 enum-told-2 : tie.Need-enum-told-2
 enum-told-2 c = search needs
@@ -45,14 +51,14 @@ returns-2 c = search needs
 
 returns-3 : tie.Need-returns-3
 returns-3 c =
-    let looked = c .before .before in
-    let accepted = looked .before .before .before in
-    let read = accepted .before .before in
-    let known = read .before in
-    let s = known .before .args .store .now in
-    says-sound _ s (read .read-header .ensures) (accepted .header .given .1)
-    (all-of Byte s 0 (λ i _. omega (arith, known .shared-slice-known .given i)))
-    refl (sure-is (c .enum-told2 .given .1) (looked .quick-with .ensures))
+    let after-quick-with = c .before .before in
+    let after-header = header-from-quick-with-arg (after-quick-with .before) in
+    let after-read-header = read-header-from-header after-header in
+    let after-shared-slice-known = after-read-header .before in
+    let s = after-shared-slice-known .before .args .store .now in
+    says-sound _ s (after-read-header .read-header .ensures) (after-header .header .given .1)
+    (all-of Byte s 0 (λ i _. omega (arith, after-shared-slice-known .shared-slice-known .given i)))
+    refl (sure-is (c .enum-told2 .given .1) (after-quick-with .quick-with .ensures))
 
 pub check-with-spec : {M : Type 1} → statement M
 check-with-spec =

@@ -15,32 +15,32 @@ abbrev μ-loop : tie.MeasureT-loop
 μ-loop form store kept guess known₀ sums₀ n j₀ known sums j = n - j
 
 -- `A-from-B` is the state A as the later state B has it.
-abbrev in-loop-from-tie-slot : tie.After-tie-slot Inv-loop μ-loop → tie.In-loop Inv-loop μ-loop
-in-loop-from-tie-slot c = c .before .before .before .before .before .before .before
+abbrev start-from-slot-count : tie.After-slot-count Inv-loop μ-loop → tie.Start Inv-loop μ-loop
+start-from-slot-count c = c .before .before
 
 abbrev at-loop-from-wide : tie.After-wide Inv-loop μ-loop → tie.At-loop Inv-loop μ-loop
 at-loop-from-wide c = c .before .before .before
 
-abbrev at-loop-from-tie-slot-arg2 : tie.After-tie-slot-arg2 Inv-loop μ-loop → tie.At-loop Inv-loop μ-loop
-at-loop-from-tie-slot-arg2 c = at-loop-from-wide (c .before .before .before .before)
-
-abbrev in-loop-from-wide-arg : tie.After-wide-arg Inv-loop μ-loop → tie.In-loop Inv-loop μ-loop
-in-loop-from-wide-arg c = c .before
+abbrev in-loop-from-wide : tie.After-wide Inv-loop μ-loop → tie.In-loop Inv-loop μ-loop
+in-loop-from-wide c = c .before .before
 
 abbrev in-loop-from-tie-slot-arg2 : tie.After-tie-slot-arg2 Inv-loop μ-loop → tie.In-loop Inv-loop μ-loop
-in-loop-from-tie-slot-arg2 c = in-loop-from-wide-arg (c .before .before .before .before .before)
+in-loop-from-tie-slot-arg2 c = in-loop-from-wide (c .before .before .before .before)
 
 abbrev at-loop-from-tie-slot : tie.After-tie-slot Inv-loop μ-loop → tie.At-loop Inv-loop μ-loop
-at-loop-from-tie-slot c = at-loop-from-tie-slot-arg2 (c .before)
+at-loop-from-tie-slot c = at-loop-from-wide (c .before .before .before .before .before)
+
+abbrev in-loop-from-tie-slot : tie.After-tie-slot Inv-loop μ-loop → tie.In-loop Inv-loop μ-loop
+in-loop-from-tie-slot c = in-loop-from-tie-slot-arg2 (c .before)
 
 slot-count-requires : tie.Need-slot-count-requires Inv-loop μ-loop
 slot-count-requires c κs = c .before .pre .0 .keeps .size
 
 loop-holds : tie.Need-loop-holds Inv-loop μ-loop
 loop-holds c =
-    let c2 = c .before .before in
-    go-start (c2 .args .store .now) (c2 .args .sums .now) (c2 .args .known .now) (c2 .pre .0 .keeps .size) (c .slot-count .ensures)
-    (c2 .pre .1)
+    let start = start-from-slot-count c in
+    go-start (start .args .store .now) (start .args .sums .now) (start .args .known .now) (start .pre .0 .keeps .size) (c .slot-count .ensures)
+    (start .pre .1)
 
 mul-wide : tie.Need-mul-wide Inv-loop μ-loop
 mul-wide c = omega (arith, c .before .loop .inv .walk .scan .small)
@@ -71,8 +71,9 @@ wide-requires-2 c κs = search needs
 
 tie-slot-requires : tie.Need-tie-slot-requires Inv-loop μ-loop
 tie-slot-requires c κs =
-    let at-loop = at-loop-from-tie-slot-arg2 c in
-    (walk-slot (at-loop .loop .inv .walk) (in-loop-from-tie-slot-arg2 c .loop-test .taken), at-loop .before .before .before .pre .0, at-loop .loop .inv .known)
+    let in-loop = in-loop-from-tie-slot-arg2 c in
+    let at-loop = in-loop .before in
+    (walk-slot (at-loop .loop .inv .walk) (in-loop .loop-test .taken), start-from-slot-count (at-loop .before) .pre .0, at-loop .loop .inv .known)
 
 returns : tie.Need-returns Inv-loop μ-loop
 returns c = go-off (at-loop-from-tie-slot (c .before) .loop .inv) (in-loop-from-tie-slot-arg2 (c .before .before) .loop-test .taken) _

@@ -18,14 +18,30 @@ start-from-else2 c = start-from-else1 (c .before .before)
 abbrev start-from-up : tie.After-up → tie.Start
 start-from-up c = start-from-else2 (c .before .before .before)
 
+abbrev else2-from-child-place : tie.After-child-place → tie.Else2
+else2-from-child-place c = c .before .before .before .before
+
 abbrev start-from-is-node : tie.After-is-node → tie.Start
 start-from-is-node c = start-from-up (c .before .before)
 
+abbrev else2-from-else4 : tie.Else4 → tie.Else2
+else2-from-else4 c = else2-from-child-place (c .before .before)
+
+abbrev else2-from-hash-right-arg : tie.After-hash-right-arg → tie.Else2
+else2-from-hash-right-arg c = else2-from-else4 (c .before .before .before)
+
+abbrev else2-from-else6 : tie.Else6 → tie.Else2
+else2-from-else6 c = else2-from-hash-right-arg (c .before .before)
+
+abbrev hash-right-from-count-fits : tie.After-count-fits → tie.After-hash-right
+hash-right-from-count-fits c = c .before .before
+
 returns : tie.Need-returns
 returns c =
-    let c2 = c .before .before .before in
-    let a = c2 .args in
-    (c2 .pre .3, side-missing _ (a .store .now) (a .parent) (a .link) (a .sums .now) (c .before .if1 .taken) _ refl)
+    let then1 = c .before in
+    let start = then1 .before .before in
+    let a = start .args in
+    (start .pre .3, side-missing _ (a .store .now) (a .parent) (a .link) (a .sums .now) (then1 .if1 .taken) _ refl)
 
 slot-count-requires : tie.Need-slot-count-requires
 slot-count-requires c κs = start-from-else1 c .pre .0 .keeps .size
@@ -43,21 +59,18 @@ child-place-requires c κs =
 
 is-node-requires : tie.Need-is-node-requires
 is-node-requires c κs =
-    let c4 = c .before .before .before .before in
-    let c5 = c4 .before in
-    let c6 = c5 .before in
-    let c8 = c6 .before .before in
-    let h = (room-has {fm = c8 .args .form} {s = c8 .args .store .now} {i = c8 .args .c}
-    (record { size = c8 .pre .0 .keeps .size; many = c5 .slot-count .ensures }) (omega (arith, c4 .if2 .left))) in
-    (h, c8 .pre .0 .own (c8 .args .c) (h .inside), omega (arith, c6 .if1 .left), c .child-place .ensures .proper)
+    let else2 = else2-from-child-place c in
+    let start = start-from-else2 else2 in
+    let h = (room-has {fm = start .args .form} {s = start .args .store .now} {i = start .args .c}
+    (record { size = start .pre .0 .keeps .size; many = else2 .before .slot-count .ensures }) (omega (arith, else2 .if2 .left))) in
+    (h, start .pre .0 .own (start .args .c) (h .inside), omega (arith, else2 .before .before .if1 .left), c .child-place .ensures .proper)
 
 returns-4 : tie.Need-returns-4
 returns-4 c = (start-from-is-node (c .before) .pre .3, tt)
 
 outlives-requires : tie.Need-outlives-requires
 outlives-requires c κs =
-    let else3 = c .before .before .before .before in
-    let else2 = else3 .before .before in
+    let else2 = else2-from-else4 c in
     let start = start-from-else2 else2 in (
       (room-has {fm = start .args .form} {s = start .args .store .now} {i = start .args .c}
           (record { size = start .pre .0 .keeps .size; many = else2 .before .slot-count .ensures }) (omega (arith, else2 .if2 .left))),
@@ -69,8 +82,7 @@ returns-5 c = (start-from-is-node (c .before .before .before) .pre .3, tt)
 
 hash-right-requires : tie.Need-hash-right-requires
 hash-right-requires c κs =
-    let after-child-place = c .before .before .before .before .before in
-    let else2 = after-child-place .before .before .before .before in
+    let else2 = else2-from-hash-right-arg c in
     let start = start-from-else2 else2 in (
       (room-has {fm = start .args .form} {s = start .args .store .now} {i = start .args .c}
           (record { size = start .pre .0 .keeps .size; many = else2 .before .slot-count .ensures }) (omega (arith, else2 .if2 .left))),
@@ -83,21 +95,17 @@ returns-6 c = (c .before .hash-right .ensures .0, tt)
 
 count-fits-requires : tie.Need-count-fits-requires
 count-fits-requires c κs =
-    let else4 = c .before .before .before .before .before in
-    let else3 = else4 .before .before .before .before in
-    let else2 = else3 .before .before in
+    let else2 = else2-from-else6 c in
     let start = start-from-else2 else2 in
     room-has {fm = start .args .form} {s = start .args .store .now} {i = start .args .c}
     (record { size = start .pre .0 .keeps .size; many = else2 .before .slot-count .ensures }) (omega (arith, else2 .if2 .left))
 
 returns-7 : tie.Need-returns-7
-returns-7 c = (c .before .before .before .hash-right .ensures .0, tt)
+returns-7 c = (hash-right-from-count-fits (c .before) .hash-right .ensures .0, tt)
 
 add-requires : tie.Need-add-requires
 add-requires c κs =
-    let after-hash-right-arg = c .before .before .before .before .before in
-    let after-child-place = after-hash-right-arg .before .before .before .before .before in
-    let else2 = after-child-place .before .before .before .before in
+    let else2 = else2-from-else6 (c .before .before .before) in
     let start = start-from-else2 else2 in (
       slot-small (room-has {fm = start .args .form} {s = start .args .store .now} {i = start .args .c}
           (record { size = start .pre .0 .keeps .size; many = else2 .before .slot-count .ensures }) (omega (arith, else2 .if2 .left))),

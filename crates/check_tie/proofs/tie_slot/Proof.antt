@@ -15,14 +15,11 @@ use Rattle.check_tie.proofs.tie_slot.Statement.{statement}
 use Rattle.check_tie.proofs.tie_slot.Tie as tie
 
 -- `A-from-B` is the state A as the later state B has it.
-abbrev hash-at-from-tie-link-arg2 : tie.After-tie-link-arg2 → tie.After-hash-at
-hash-at-from-tie-link-arg2 c = c .before .before
-
-abbrev hash-at2-from-tie-link-arg4 : tie.After-tie-link-arg4 → tie.After-hash-at2
-hash-at2-from-tie-link-arg4 c = c .before .before
-
 abbrev start-from-kind-at : tie.After-kind-at → tie.Start
 start-from-kind-at c = c .before .before
+
+abbrev kind-at-from-slot-of : tie.After-slot-of → tie.After-kind-at
+kind-at-from-slot-of c = c .before .before
 
 abbrev start-from-parent-in : tie.After-parent-in → tie.Start
 start-from-parent-in c = start-from-kind-at (c .before .before .before)
@@ -34,25 +31,36 @@ abbrev start-from-child-version-at2 : tie.After-child-version-at2 → tie.Start
 start-from-child-version-at2 c = start-from-child-version-at (c .before)
 
 abbrev start-from-child-count-at : tie.After-child-count-at → tie.Start
-start-from-child-count-at c = start-from-child-version-at (c .before .before)
+start-from-child-count-at c = start-from-child-version-at2 (c .before)
 
 abbrev start-from-child-count-at2 : tie.After-child-count-at2 → tie.Start
 start-from-child-count-at2 c = start-from-child-count-at (c .before)
 
+abbrev parent-in-from-child-hash : tie.After-child-hash → tie.After-parent-in
+parent-in-from-child-hash c = c .before .before .before .before .before
+
+abbrev hash-at-from-tie-link-arg2 : tie.After-tie-link-arg2 → tie.After-hash-at
+hash-at-from-tie-link-arg2 c = c .before .before
+
 abbrev start-from-tie-link : tie.After-tie-link → tie.Start
 start-from-tie-link c = start-from-child-count-at2 (c .before .before .before .before .before)
+
+abbrev tie-link-from-child-hash2 : tie.After-child-hash2 → tie.After-tie-link
+tie-link-from-child-hash2 c = c .before .before
+
+abbrev hash-at2-from-tie-link-arg4 : tie.After-tie-link-arg4 → tie.After-hash-at2
+hash-at2-from-tie-link-arg4 c = c .before .before
 
 kind-at-requires : tie.Need-kind-at-requires
 kind-at-requires c κs = slot-within (c .before .pre .0)
 
 returns : tie.Need-returns
 returns c =
-    let at = c .before in
-    let known = at .before in
-    let c3 = known .before in (
-      c3 .pre .2,
-      other-tied (c3 .pre .0) (all-of Byte (c3 .args .store .now) 0 (λ i _. omega (arith, known .shared-slice-known .given i)))
-          (at .kind-at .ensures) (c .if1 .taken) (c3 .args .sums .now),
+    let after-kind-at = c .before in
+    let start = start-from-kind-at after-kind-at in (
+      start .pre .2,
+      other-tied (start .pre .0) (all-of Byte (start .args .store .now) 0 (λ i _. omega (arith, after-kind-at .before .shared-slice-known .given i)))
+          (after-kind-at .kind-at .ensures) (c .if1 .taken) (start .args .sums .now),
     )
 
 slot-of-requires : tie.Need-slot-of-requires
@@ -109,7 +117,7 @@ tie-link-requires : tie.Need-tie-link-requires
 tie-link-requires c κs =
     let after-hash-at = hash-at-from-tie-link-arg2 c in
     let after-child-hash = after-hash-at .before in
-    let after-parent-in = after-child-hash .before .before .before .before .before in
+    let after-parent-in = parent-in-from-child-hash after-child-hash in
     let start = start-from-parent-in after-parent-in in (
       start .pre .1,
       after-parent-in .parent-in .ensures .fit,
@@ -138,9 +146,8 @@ tie-link-requires-2 : tie.Need-tie-link-requires-2
 tie-link-requires-2 c κs =
     let after-hash-at2 = hash-at2-from-tie-link-arg4 c in
     let after-child-hash2 = after-hash-at2 .before in
-    let after-tie-link = after-child-hash2 .before .before in
-    let after-child-count-at2 = after-tie-link .before .before .before .before .before in
-    let after-parent-in = after-child-count-at2 .before .before .before .before in
+    let after-tie-link = tie-link-from-child-hash2 after-child-hash2 in
+    let after-parent-in = parent-in-from-child-hash (after-tie-link .before .before .before .before) in
     let start = start-from-parent-in after-parent-in in (
       start .pre .1,
       after-parent-in .parent-in .ensures .fit,
@@ -154,8 +161,7 @@ returns-3 : tie.Need-returns-3
 returns-3 c =
     let after-hash-at2 = hash-at2-from-tie-link-arg4 (c .before) in
     let after-child-hash2 = after-hash-at2 .before in
-    let else2 = after-child-hash2 .before in
-    let after-tie-link = else2 .before in
+    let after-tie-link = tie-link-from-child-hash2 after-child-hash2 in
     let after-hash-at = hash-at-from-tie-link-arg2 (after-tie-link .before) in
     let after-child-hash = after-hash-at .before in
     let after-child-count-at2 = after-child-hash .before in
@@ -164,13 +170,12 @@ returns-3 c =
     let after-child-version-at = after-child-version-at2 .before in
     let after-parent-in = after-child-version-at .before in
     let after-slot-of = after-parent-in .before in
-    let else1 = after-slot-of .before in
-    let after-kind-at = else1 .before in
+    let after-kind-at = kind-at-from-slot-of after-slot-of in
     let start = start-from-kind-at after-kind-at in
     let a = start .args in
     let both = inner-tied (start .pre .0)
     (all-of Byte (start .args .store .now) 0 (λ i _. omega (arith, after-kind-at .before .shared-slice-known .given i)))
-    (start .pre .1 .own (start .args .j) (start .pre .0 .inside)) (after-kind-at .kind-at .ensures) (else1 .if1 .left) (start .pre .1 .keeps)
+    (start .pre .1 .own (start .args .j) (start .pre .0 .inside)) (after-kind-at .kind-at .ensures) (after-slot-of .before .if1 .left) (start .pre .1 .keeps)
     (after-parent-in .parent-in .ensures) (2 * a .j + 1) (2 * a .j + 1 + 1) (after-child-version-at .child-version-at .result) (after-child-version-at2 .child-version-at2 .result)
     (after-child-version-at .child-version-at .ensures) (after-child-version-at2 .child-version-at2 .ensures) (after-hash-at .hash-at .result) (after-hash-at2 .hash-at2 .result)
     (read-whole (after-hash-at .hash-at .ensures .1) (after-child-hash .child-hash .ensures .1)
@@ -179,7 +184,7 @@ returns-3 c =
     (after-child-hash2 .child-hash2 .ensures .0 ∙ ap (λ x. rightIn x .hash) (after-slot-of .slot-of .ensures .0)))
     (after-child-count-at .child-count-at .result) (after-child-count-at2 .child-count-at2 .result) (after-child-count-at .child-count-at .ensures) (after-child-count-at2 .child-count-at2 .ensures) (a .sums .now)
     (after-tie-link .tie-link .last .1 .1 .1 .1 .1 .1 .1 .0) (c .tie-link2 .last .1 .1 .1 .1 .1 .1 .1 .0)
-    (passed-so (after-tie-link .tie-link .result) (else2 .if2 .left) (after-tie-link .tie-link .ensures .1)) in
+    (passed-so (after-tie-link .tie-link .result) (after-child-hash2 .before .if2 .left) (after-tie-link .tie-link .ensures .1)) in
     (c .tie-link2 .ensures .0, pass-map (c .tie-link2 .result) both (c .tie-link2 .ensures .1))
 
 pub tie-slot-spec : {M : Type 1} → statement M

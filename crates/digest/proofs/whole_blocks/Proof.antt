@@ -49,8 +49,7 @@ loop-again c = let l = c .before .before .before .loop in
     (search needs, whole-next (start-from-compress c .args .b .now) (l .i) _ _ _ (omega arith) (l .inv .1) (c .before .words-at .ensures) (c .compress .ensures))
 
 returns : tie.Need-returns Inv-loop μ-loop
-returns c =
-    let e : length (c .before .before .before .before .args .b .now) / 64 ≡ c .before .loop .i = omega arith in
+returns c = let e : length (start-from-at-loop (c .before) .args .b .now) / 64 ≡ c .before .loop .i = omega arith in
     rw e (c .before .loop .inv .1)
 
 pub whole-blocks-spec : {M : Type 1} → statement M

@@ -22,11 +22,17 @@ loop-holds c = (omega arith, refl)
 shared-slice-read-if1 : tie.Need-shared-slice-read-if1 Inv-loop μ-loop
 shared-slice-read-if1 c = omega arith
 
+-- `A-from-B` is the state A as the later state B has it.
+abbrev at-loop-from-else1 : tie.Else1 Inv-loop μ-loop → tie.At-loop Inv-loop μ-loop
+at-loop-from-else1 c = c .before .before .before
+
+abbrev at-loop-from-then1 : tie.Then1 Inv-loop μ-loop → tie.At-loop Inv-loop μ-loop
+at-loop-from-then1 c = c .before .before .before
+
 returns : tie.Need-returns Inv-loop μ-loop
-returns c =
-    let i = c .before .before .before .loop .i in
+returns c = let i = at-loop-from-then1 c .loop .i in
     let s = c .before .before .before .before .args .s .now in
-    sym (c .before .before .before .loop .inv .1 ∙ all-zero-at i s (omega arith) ∙ rw (ne-eqb _ _ (c .if1 .taken)))
+    sym (at-loop-from-then1 c .loop .inv .1 ∙ all-zero-at i s (omega arith) ∙ rw (ne-eqb _ _ (c .if1 .taken)))
 
 add-i : tie.Need-add-i Inv-loop μ-loop
 add-i c = omega arith
@@ -35,10 +41,9 @@ loop-less : tie.Need-loop-less Inv-loop μ-loop
 loop-less c = omega arith
 
 loop-again : tie.Need-loop-again Inv-loop μ-loop
-loop-again c =
-    let i = c .before .before .before .loop .i in
+loop-again c = let i = at-loop-from-else1 c .loop .i in
     let s = c .before .before .before .before .args .s .now in
-    (omega arith, c .before .before .before .loop .inv .1 ∙ all-zero-at i s (omega arith) ∙ rw (eq-eqb _ _ (c .if1 .left)))
+    (omega arith, at-loop-from-else1 c .loop .inv .1 ∙ all-zero-at i s (omega arith) ∙ rw (eq-eqb _ _ (c .if1 .left)))
 
 returns-2 : tie.Need-returns-2 Inv-loop μ-loop
 returns-2 c =

@@ -20,17 +20,23 @@ loop-holds c = record { long = c .pre; within = omega arith; filled = refl }
 shared-slice-read-s : tie.Need-shared-slice-read-s Inv-loop μ-loop
 shared-slice-read-s c = omega arith
 
+-- `A-from-B` is the state A as the later state B has it.
+abbrev at-loop-from-shared-slice-known : tie.After-shared-slice-known Inv-loop μ-loop → tie.At-loop Inv-loop μ-loop
+at-loop-from-shared-slice-known c = c .before .before
+
 slice-write-s : tie.Need-slice-write-s Inv-loop μ-loop
-slice-write-s c = omega (arith, filling-length (c .before .before .loop .inv))
+slice-write-s c = omega (arith, filling-length (at-loop-from-shared-slice-known c .loop .inv))
 
 add-i : tie.Need-add-i Inv-loop μ-loop
 add-i c = omega arith
 
 loop-less : tie.Need-loop-less Inv-loop μ-loop
-loop-less c = omega (arith, filling-length (c .before .before .loop .inv))
+loop-less c = omega (arith, filling-length (at-loop-from-shared-slice-known c .loop .inv))
 
 loop-again : tie.Need-loop-again Inv-loop μ-loop
-loop-again c = filling-next (c .before .before .loop .inv) (omega (arith, filling-length (c .before .before .loop .inv))) refl
+loop-again c =
+    let at-loop = at-loop-from-shared-slice-known c in
+    filling-next (at-loop .loop .inv) (omega (arith, filling-length (at-loop .loop .inv))) refl
 
 same-length : tie.Need-same-length Inv-loop μ-loop
 same-length c = filling-length (c .before .loop .inv)

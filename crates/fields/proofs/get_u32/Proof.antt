@@ -56,8 +56,12 @@ mul-result-3 c = search needs
 add-result-3 : tie.Need-add-result-3
 add-result-3 c = search needs
 
+-- `A-from-B` is the state A as the later state B has it.
+abbrev start-from-wide2 : tie.After-wide2 → tie.Start
+start-from-wide2 c = c .before .before .before .before .before
+
 returns : tie.Need-returns
-returns c = let a = c .before .before .before .before .before .before .before .before .before .args in omega (arith, field-four (a .at) (a .s .now) (search needs))
+returns c = let a = start-from-wide2 (c .before .before .before .before) .args in omega (arith, field-four (a .at) (a .s .now) (search needs))
 
 pub get-u32-spec : {M : Type 1} → statement M
 get-u32-spec =

@@ -1,6 +1,6 @@
 -- `finding::holds_none` meets its contract: what is seen at the root tells it. Assumes nothing.
 use Rattle.forged_truth.proofs.Reading.{sound-size}
-use Rattle.finding.proofs.Rooted.{gap-holds-none, lost-holds, leaf-holds, inner-holds}
+use Rattle.finding.proofs.Rooted.{gap-holds-none, stopped-holds, leaf-holds, inner-holds}
 use borrow.Author.Needs.{needs}
 use Rattle.finding.proofs.holds_none.Statement.{statement}
 use Rattle.finding.proofs.holds_none.Tie as tie
@@ -38,7 +38,7 @@ returns c =
 returns-2 : tie.Need-returns-2
 returns-2 c =
     let after-root = c .before .before in
-    lost-holds (start-from-root after-root .pre) (after-root .root .result) (after-root .root .ensures) (c .enum-told2 .given .1)
+    stopped-holds (start-from-root after-root .pre) (after-root .root .result) (after-root .root .ensures) (c .enum-told2 .given .1)
 
 returns-3 : tie.Need-returns-3
 returns-3 c =

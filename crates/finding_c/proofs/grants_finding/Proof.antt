@@ -16,16 +16,21 @@ enum-known-found-2 c = search needs
 put-named-requires : tie.Need-put-named-requires
 put-named-requires c κs = search needs
 
+-- `A-from-B` is the state A as the later state B has it.
+abbrev start-from-finding : tie.After-finding → tie.Start
+start-from-finding c = c .before .before .before .before
+
 returns : tie.Need-returns
 returns c =
-    let d = c .before .before .before in
-    finding-refused (d .finding .result) (d .finding .ensures) (d .before .before .before .before .args .answer .now) (c .before .found .given .1)
+    let after-found = c .before in
+    let after-finding = after-found .before .before in
+    finding-refused (after-finding .finding .result) (after-finding .finding .ensures) (start-from-finding after-finding .args .answer .now) (after-found .found .given .1)
 
 returns-2 : tie.Need-returns-2
 returns-2 c =
-    let e = c .before .before .before in
-    let d = e .before .before in
-    finding-given (d .finding .result) (d .finding .ensures) (d .before .before .before .before .args .answer .now) (e .found2 .given .1) (c .put-named .ensures)
+    let after-found2 = c .before .before .before in
+    let after-finding = after-found2 .before .before in
+    finding-given (after-finding .finding .result) (after-finding .finding .ensures) (start-from-finding after-finding .args .answer .now) (after-found2 .found2 .given .1) (c .put-named .ensures)
 
 pub grants-finding-spec : {M : Type 1} → statement M
 grants-finding-spec =

@@ -28,18 +28,20 @@ same-length c = search needs
 
 returns : tie.Need-returns
 returns c =
-    let e = c .before .before .before .before in
-    let s = e .before .before .before in
-    nothing-put (s .args .named) (s .args .answer .now) (e .enum-told .given .1) (s .pre) (c .before .before .clear .ensures)
+    let after-clear = c .before .before in
+    let after-enum-told = after-clear .before .before in
+    let start = after-enum-told .before .before .before in
+    nothing-put (start .args .named) (start .args .answer .now) (after-enum-told .enum-told .given .1) (start .pre) (after-clear .clear .ensures)
 
 same-length-2 : tie.Need-same-length-2
 same-length-2 c = search needs
 
 returns-2 : tie.Need-returns-2
 returns-2 c =
-    let e = c .before .before .before .before .before in
-    let s = e .before .before .before in
-    two-named (s .args .named) (e .named .given .1) (c .before .before .put-two .ensures)
+    let after-put-two = c .before .before in
+    let after-named = after-put-two .before .before .before in
+    let start = after-named .before .before .before in
+    two-named (start .args .named) (after-named .named .given .1) (after-put-two .put-two .ensures)
 
 same-length-3 : tie.Need-same-length-3
 same-length-3 c = search needs
@@ -47,9 +49,10 @@ same-length-3 c = search needs
 returns-3 : tie.Need-returns-3
 unfolding findingBytes
 returns-3 c =
-    let e = c .before .before .before .before .before in
-    let s = e .before .before .before in
-    zero-named (s .args .named) (e .named2 .given .1) (c .before .before .put-one .ensures)
+    let after-put-one = c .before .before in
+    let after-named2 = after-put-one .before .before .before in
+    let start = after-named2 .before .before .before in
+    zero-named (start .args .named) (after-named2 .named2 .given .1) (after-put-one .put-one .ensures)
 
 pub put-named-spec : {M : Type 1} → statement M
 put-named-spec =

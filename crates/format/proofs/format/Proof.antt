@@ -49,12 +49,13 @@ same-length c = search needs
 returns-2 : tie.Need-returns-2
 unfolding formatAnswer formatBytes formatted
 returns-2 c =
-    let cleared = c .before .before .before .before .before .before in
+    let written = c .before .before in
+    let cleared = written .before .before .before .before in
     let counted = cleared .before .before in
     let passed = counted .before .before in
     let e = size-passed passed in
     let s = store passed in
-    (rw e, rw e (c .before .before .put-header .ensures ∙ rw (cleared .clear .ensures, counted .slot-count .ensures) (fresh-bytes _ (length s) 0 0 e)))
+    (rw e, rw e (written .put-header .ensures ∙ rw (cleared .clear .ensures, counted .slot-count .ensures) (fresh-bytes _ (length s) 0 0 e)))
 
 pub format-spec : {M : Type 1} → statement M
 format-spec =

@@ -7,11 +7,15 @@ use Rattle.index_keep.proofs.Keeping.{decided-yes, sound-room, sound-sm
 use Rattle.index_keep.proofs.build.Statement.{statement}
 use Rattle.index_keep.proofs.build.Tie as tie
 
+-- `A-from-B` is the state A as the later state B has it.
+abbrev start-from-slice-known : tie.After-slice-known → tie.Start
+start-from-slice-known c = c .before .before
+
 slot-count-requires : tie.Need-slot-count-requires
-slot-count-requires c κs = sound-size (c .before .before .pre .0)
+slot-count-requires c κs = sound-size (start-from-slice-known c .pre .0)
 
 cast-fill : tie.Need-cast-fill
-cast-fill c = record { fits = omega (arith, sound-small (c .before .before .before .before .pre .0) (c .before .slot-count .ensures)) }
+cast-fill c = record { fits = omega (arith, sound-small (start-from-slice-known (c .before .before) .pre .0) (c .before .slot-count .ensures)) }
 
 fill-requires : tie.Need-fill-requires
 fill-requires c κs = search needs
@@ -20,7 +24,7 @@ more-requires : tie.Need-more-requires
 more-requires c κs =
     let after-fill = c .before .before .before in
     let after-slot-count = after-fill .before .before in
-    let p = after-slot-count .before .before .before .pre in
+    let p = start-from-slice-known (after-slot-count .before) .pre in
     let e = after-slot-count .slot-count .ensures in (sound-room (p .0) e, sound-small (p .0) e, after-fill .fill .kept .0 ∙ p .1 ∙ sym e)
 
 is-right-requires : tie.Need-is-right-requires

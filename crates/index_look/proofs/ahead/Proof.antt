@@ -12,6 +12,16 @@ use Rattle.index_look.proofs.Nodes.{by-order}
 use Rattle.index_look.proofs.ahead.Statement.{statement}
 use Rattle.index_look.proofs.ahead.Tie as tie
 
+-- `A-from-B` is the state A as the later state B has it.
+abbrev start-from-slot-of : tie.After-slot-of → tie.Start
+start-from-slot-of c = c .before .before
+
+abbrev bits-of-from-bits-of2 : tie.After-bits-of2 → tie.After-bits-of
+bits-of-from-bits-of2 c = c .before .before
+
+abbrev bits-of2-from-hash-at2 : tie.After-hash-at2 → tie.After-bits-of2
+bits-of2-from-hash-at2 c = c .before .before
+
 slot-of-requires : tie.Need-slot-of-requires
 slot-of-requires c κs = slot-within (c .before .pre .0)
 
@@ -19,15 +29,13 @@ bits-of-requires : tie.Need-bits-of-requires
 bits-of-requires c κs = search needs
 
 slot-of-requires-2 : tie.Need-slot-of-requires-2
-slot-of-requires-2 c κs = slot-within (c .before .before .before .pre .1)
+slot-of-requires-2 c κs = slot-within (start-from-slot-of (c .before) .pre .1)
 
 bits-of-requires-2 : tie.Need-bits-of-requires-2
 bits-of-requires-2 c κs = search needs
 
 hash-at-requires : tie.Need-hash-at-requires
-hash-at-requires c κs =
-    let mine = c .before .before in
-    omega (arith, mine .bits-of .ensures .1)
+hash-at-requires c κs = omega (arith, bits-of-from-bits-of2 c .bits-of .ensures .1)
 
 hash-at-requires-2 : tie.Need-hash-at-requires-2
 hash-at-requires-2 c κs = omega (arith, c .before .bits-of2 .ensures .1)
@@ -40,39 +48,33 @@ ahead-there-requires c κs = search needs
 
 returns : tie.Need-returns
 returns c =
-    let alike = c .before in
-    let same = alike .before in
-    let second = same .before in
-    let first = second .before in
-    let its = first .before in
-    let there = its .before in
-    let mine = there .before in
-    let slot = mine .before in
-    let own = read-whole (first .hash-at .ensures .1) (mine .bits-of .ensures .1) (mine .bits-of .ensures .0 ∙ ap bitsIn (slot .slot-of .ensures .0)) in
-    let other = read-whole (second .hash-at2 .ensures .1) (its .bits-of2 .ensures .1) (its .bits-of2 .ensures .0 ∙ ap bitsIn (there .slot-of2 .ensures .0)) in
-    c .ahead-there .ensures (same-bytes _ _ (sym (same .same-hash .ensures ∙ ap₂ sameBytes own other) ∙ alike .if1 .taken))
+    let then1 = c .before in
+    let after-same-hash = then1 .before in
+    let after-hash-at2 = after-same-hash .before in
+    let after-bits-of2 = bits-of2-from-hash-at2 after-hash-at2 in
+    let after-bits-of = bits-of-from-bits-of2 after-bits-of2 in
+    let own = read-whole (after-hash-at2 .before .hash-at .ensures .1) (after-bits-of .bits-of .ensures .1) (after-bits-of .bits-of .ensures .0 ∙ ap bitsIn (after-bits-of .before .slot-of .ensures .0)) in
+    let other = read-whole (after-hash-at2 .hash-at2 .ensures .1) (after-bits-of2 .bits-of2 .ensures .1) (after-bits-of2 .bits-of2 .ensures .0 ∙ ap bitsIn (after-bits-of2 .before .slot-of2 .ensures .0)) in
+    c .ahead-there .ensures (same-bytes _ _ (sym (after-same-hash .same-hash .ensures ∙ ap₂ sameBytes own other) ∙ then1 .if1 .taken))
 
 before-requires : tie.Need-before-requires
 before-requires c κs = search needs
 
 returns-2 : tie.Need-returns-2
 returns-2 c =
-    let apart = c .before in
-    let same = apart .before in
-    let second = same .before in
-    let first = second .before in
-    let its = first .before in
-    let there = its .before in
-    let mine = there .before in
-    let slot = mine .before in
-    let known = slot .before in
-    let start = known .before in
-    let bits = mine .bits-of .ensures .0 ∙ ap bitsIn (slot .slot-of .ensures .0) in
-    let others = its .bits-of2 .ensures .0 ∙ ap bitsIn (there .slot-of2 .ensures .0) in
-    let own = read-whole (first .hash-at .ensures .1) (mine .bits-of .ensures .1) bits in
-    let other = read-whole (second .hash-at2 .ensures .1) (its .bits-of2 .ensures .1) others in
-    by-order (start .pre .0) (start .pre .1) (all-of Byte (start .args .store .now) 0 (λ i _. omega (arith, known .shared-slice-known .given i)))
-    (sym (same .same-hash .ensures ∙ ap₂ sameBytes own other) ∙ apart .if1 .left) _ (c .before2 .ensures ∙ ap₂ before bits others)
+    let else1 = c .before in
+    let after-same-hash = else1 .before in
+    let after-hash-at2 = after-same-hash .before in
+    let after-bits-of2 = bits-of2-from-hash-at2 after-hash-at2 in
+    let after-bits-of = bits-of-from-bits-of2 after-bits-of2 in
+    let after-slot-of = after-bits-of .before in
+    let start = start-from-slot-of after-slot-of in
+    let bits = after-bits-of .bits-of .ensures .0 ∙ ap bitsIn (after-slot-of .slot-of .ensures .0) in
+    let others = after-bits-of2 .bits-of2 .ensures .0 ∙ ap bitsIn (after-bits-of2 .before .slot-of2 .ensures .0) in
+    let own = read-whole (after-hash-at2 .before .hash-at .ensures .1) (after-bits-of .bits-of .ensures .1) bits in
+    let other = read-whole (after-hash-at2 .hash-at2 .ensures .1) (after-bits-of2 .bits-of2 .ensures .1) others in
+    by-order (start .pre .0) (start .pre .1) (all-of Byte (start .args .store .now) 0 (λ i _. omega (arith, after-slot-of .before .shared-slice-known .given i)))
+    (sym (after-same-hash .same-hash .ensures ∙ ap₂ sameBytes own other) ∙ else1 .if1 .left) _ (c .before2 .ensures ∙ ap₂ before bits others)
 
 pub ahead-spec : {M : Type 1} → statement M
 ahead-spec =

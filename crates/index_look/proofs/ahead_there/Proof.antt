@@ -7,11 +7,18 @@ use Rattle.index_look.proofs.Nodes.{by-count, by-versions}
 use Rattle.index_look.proofs.ahead_there.Statement.{statement}
 use Rattle.index_look.proofs.ahead_there.Tie as tie
 
+-- `A-from-B` is the state A as the later state B has it.
+abbrev start-from-count-at : tie.After-count-at → tie.Start
+start-from-count-at c = c .before .before
+
+abbrev start-from-else1 : tie.Else1 → tie.Start
+start-from-else1 c = start-from-count-at (c .before .before)
+
 count-at-requires : tie.Need-count-at-requires
 count-at-requires c κs = slot-within (c .before .pre .0)
 
 count-at-requires-2 : tie.Need-count-at-requires-2
-count-at-requires-2 c κs = slot-within (c .before .before .pre .1)
+count-at-requires-2 c κs = slot-within (start-from-count-at c .pre .1)
 
 returns : tie.Need-returns
 returns c =
@@ -23,10 +30,10 @@ returns c =
     (after-count-at .count-at .ensures) (after-count-at2 .count-at2 .ensures) (c .if1 .taken)
 
 version-at-requires : tie.Need-version-at-requires
-version-at-requires c κs = slot-within (c .before .before .before .before .pre .0)
+version-at-requires c κs = slot-within (start-from-else1 c .pre .0)
 
 version-at-requires-2 : tie.Need-version-at-requires-2
-version-at-requires-2 c κs = slot-within (c .before .before .before .before .before .pre .1)
+version-at-requires-2 c κs = slot-within (start-from-else1 (c .before) .pre .1)
 
 returns-2 : tie.Need-returns-2
 returns-2 c =

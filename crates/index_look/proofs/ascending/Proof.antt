@@ -17,14 +17,18 @@ loop-holds : tie.Need-loop-holds Inv-loop μ-loop
 loop-holds c = (omega arith, λ k l. absurd (omega arith))
 
 -- `A-from-B` is the state A as the later state B has it.
-abbrev start-from-in-loop : tie.In-loop Inv-loop μ-loop → tie.Start Inv-loop μ-loop
-start-from-in-loop c = c .before .before .before .before
+abbrev start-from-at-loop : tie.At-loop Inv-loop μ-loop → tie.Start Inv-loop μ-loop
+start-from-at-loop c = c .before .before .before
+
+abbrev in-loop-from-else1 : tie.Else1 Inv-loop μ-loop → tie.In-loop Inv-loop μ-loop
+in-loop-from-else1 c = c .before .before
 
 follows-requires : tie.Need-follows-requires Inv-loop μ-loop
 follows-requires c κs =
-    let start = start-from-in-loop c in
+    let at-loop = c .before in
+    let start = start-from-at-loop at-loop in
     let p = start .pre in
-    (p .0, p .1, p .2, omega (arith, p .3, c .loop-test .taken), ascends-began (start .args .store .now) (start .args .table .now) (c .before .loop .k) (c .before .loop .inv .1))
+    (p .0, p .1, p .2, omega (arith, p .3, c .loop-test .taken), ascends-began (start .args .store .now) (start .args .table .now) (at-loop .loop .k) (at-loop .loop .inv .1))
 
 returns : tie.Need-returns Inv-loop μ-loop
 returns c =
@@ -33,23 +37,24 @@ returns c =
     λ up. decided-not (after-follows .follows .result) (c .if1 .taken) (after-follows .follows .ensures) (up (in-loop .before .loop .k) (in-loop .loop-test .taken))
 
 add-k : tie.Need-add-k Inv-loop μ-loop
-add-k c = omega (arith, c .before .before .loop-test .taken)
+add-k c = omega (arith, in-loop-from-else1 c .loop-test .taken)
 
 loop-less : tie.Need-loop-less Inv-loop μ-loop
-loop-less c = omega (arith, c .before .before .loop-test .taken)
+loop-less c = omega (arith, in-loop-from-else1 c .loop-test .taken)
 
 loop-again : tie.Need-loop-again Inv-loop μ-loop
 loop-again c =
-    let after-follows = c .before in
-    let in-loop = after-follows .before in
-    let start = start-from-in-loop in-loop in
-    (omega (arith, in-loop .loop-test .taken), ascends-next (start .args .store .now) (start .args .table .now) (in-loop .before .loop .k) (in-loop .before .loop .inv .1) (decided-so (after-follows .follows .result) (c .if1 .left) (after-follows .follows .ensures)))
+    let in-loop = in-loop-from-else1 c in
+    let at-loop = in-loop .before in
+    let start = start-from-at-loop at-loop in
+    (omega (arith, in-loop .loop-test .taken), ascends-next (start .args .store .now) (start .args .table .now) (at-loop .loop .k) (at-loop .loop .inv .1) (decided-so (c .before .follows .result) (c .if1 .left) (c .before .follows .ensures)))
 
 returns-2 : tie.Need-returns-2 Inv-loop μ-loop
 returns-2 c =
-    let a = c .before .before .before .before .args in
-    let i = c .before .loop .inv in
-    let e : c .before .loop .k ≡ a .many = omega (arith, i .0, c .loop-test .left) in
+    let at-loop = c .before in
+    let a = start-from-at-loop at-loop .args in
+    let i = at-loop .loop .inv in
+    let e : at-loop .loop .k ≡ a .many = omega (arith, i .0, c .loop-test .left) in
     subst (Ascending (a .store .now) (a .table .now)) e (i .1)
 
 pub ascending-spec : {M : Type 1} → statement M

@@ -18,6 +18,9 @@ abbrev μ-loop : tie.MeasureT-loop
 abbrev start-from-in-loop : tie.In-loop Inv-loop μ-loop → tie.Start Inv-loop μ-loop
 start-from-in-loop c = c .before .before .before .before
 
+abbrev in-loop-from-joined1 : tie.Joined1 Inv-loop μ-loop → tie.In-loop Inv-loop μ-loop
+in-loop-from-joined1 c = c .before .before
+
 slot-count-requires : tie.Need-slot-count-requires Inv-loop μ-loop
 slot-count-requires c κs = sound-size (c .before .pre)
 
@@ -28,23 +31,26 @@ in-use-requires : tie.Need-in-use-requires Inv-loop μ-loop
 in-use-requires c κs = (start-from-in-loop c .pre, omega (arith, c .before .before .slot-count .ensures, c .loop-test .taken))
 
 add-many : tie.Need-add-many Inv-loop μ-loop
-add-many c = omega (arith, c .before .before .before .loop .inv .few, c .before .before .loop-test .taken)
+add-many c =
+    let in-loop = c .before .before in
+    omega (arith, in-loop .before .loop .inv .few, in-loop .loop-test .taken)
 
 add-i : tie.Need-add-i Inv-loop μ-loop
-add-i c = omega (arith, c .before .before .loop-test .taken)
+add-i c = omega (arith, in-loop-from-joined1 c .loop-test .taken)
 
 loop-less : tie.Need-loop-less Inv-loop μ-loop
-loop-less c = omega (arith, c .before .before .loop-test .taken)
+loop-less c = omega (arith, in-loop-from-joined1 c .loop-test .taken)
 
 loop-again : tie.Need-loop-again Inv-loop μ-loop
 loop-again c =
-    let after-in-use = c .before in
-    let in-loop = after-in-use .before in
-    let a = start-from-in-loop in-loop .args in
-    let Now : ℕ → Type 0 = λ m. Counted (a .store .now) (in-loop .before .before .slot-count .result) m (in-loop .before .loop .i + 1) in
+    let in-loop = in-loop-from-joined1 c in
+    let at-loop = in-loop .before in
+    let after-slot-count = at-loop .before in
+    let a = after-slot-count .before .before .args in
+    let Now : ℕ → Type 0 = λ m. Counted (a .store .now) (after-slot-count .slot-count .result) m (at-loop .loop .i + 1) in
     ⊎-elim
-    (λ w. subst Now (sym (w .1)) (count-used (in-loop .before .loop .inv) (in-loop .loop-test .taken) (sym (after-in-use .in-use .ensures) ∙ w .0 .taken)))
-    (λ w. subst Now (sym (w .1)) (count-free (in-loop .before .loop .inv) (in-loop .loop-test .taken) (sym (after-in-use .in-use .ensures) ∙ w .0 .left)))
+    (λ w. subst Now (sym (w .1)) (count-used (at-loop .loop .inv) (in-loop .loop-test .taken) (sym (c .before .in-use .ensures) ∙ w .0 .taken)))
+    (λ w. subst Now (sym (w .1)) (count-free (at-loop .loop .inv) (in-loop .loop-test .taken) (sym (c .before .in-use .ensures) ∙ w .0 .left)))
     (c .if1 .came)
 
 returns : tie.Need-returns Inv-loop μ-loop

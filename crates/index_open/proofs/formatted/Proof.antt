@@ -12,8 +12,15 @@ use Rattle.index_open.proofs.formatted.Tie as tie
 size-right-requires : tie.Need-size-right-requires
 size-right-requires c κs = search needs
 
+-- `A-from-B` is the state A as the later state B has it.
+abbrev start-from-size-right : tie.After-size-right → tie.Start
+start-from-size-right c = c .before .before .before
+
+abbrev else1-from-slot-count : tie.After-slot-count → tie.Else1
+else1-from-slot-count c = c .before .before
+
 returns : tie.Need-returns
-returns c = let a = c .before .before .before .before .args in format-wrong-size (a .store .now) (a .table .now) (sym (c .before .size-right .ensures) ∙ not-true _ (c .if1 .taken))
+returns c = let a = start-from-size-right (c .before) .args in format-wrong-size (a .store .now) (a .table .now) (sym (c .before .size-right .ensures) ∙ not-true _ (c .if1 .taken))
 
 slot-count-requires : tie.Need-slot-count-requires
 slot-count-requires c κs = sym (c .before .before .size-right .ensures) ∙ not-false _ (c .before .if1 .left)
@@ -27,7 +34,7 @@ returns-2 c = wrong-size (λ h f. c .if2 .taken (f ∙ sym (c .before .slot-coun
 cast-fill : tie.Need-cast-fill
 cast-fill c =
     let after-slot-count = c .before .before in
-    let else1 = after-slot-count .before .before in
+    let else1 = else1-from-slot-count after-slot-count in
     record { fits = omega (arith, after-slot-count .slot-count .ensures, size-says _ _ (sym (else1 .before .size-right .ensures) ∙ not-false _ (else1 .if1 .left))) }
 
 fill-requires : tie.Need-fill-requires
@@ -48,9 +55,9 @@ returns-3 c =
     let after-fill = after-format .before .before .before .before in
     let else2 = after-fill .before .before in
     let after-slot-count = else2 .before in
-    let else1 = after-slot-count .before .before in
+    let else1 = else1-from-slot-count after-slot-count in
     let after-size-right = else1 .before in
-    let a = after-size-right .before .before .before .args in
+    let a = start-from-size-right after-size-right .args in
     formats-both (a .store .now) (a .table .now) (sym (after-size-right .size-right .ensures) ∙ not-false _ (else1 .if1 .left)) (after-slot-count .slot-count .ensures) (else2 .if2 .left) (after-fill .fill .ensures)
     (after-format .format .ensures .0) (after-format .format .ensures .1)
 

@@ -12,6 +12,10 @@ use borrow.Author.Needs.{needs}
 use Rattle.index_search.proofs.look_entry.Statement.{statement}
 use Rattle.index_search.proofs.look_entry.Tie as tie
 
+-- `A-from-B` is the state A as the later state B has it.
+abbrev start-from-else1 : tie.Else1 → tie.Start
+start-from-else1 c = c .before .before
+
 returns : tie.Need-returns
 returns c =
     let start = c .before .before in
@@ -21,24 +25,23 @@ returns c =
 
 look-root-requires : tie.Need-look-root-requires
 look-root-requires c κs =
-    let start = c .before .before .before in record { size = start .pre .0; inside = omega (arith, start .pre .1, c .before .if1 .left) }
+    let start = start-from-else1 (c .before) in
+    record { size = start .pre .0; inside = omega (arith, start .pre .1, c .before .if1 .left) }
 
 returns-2 : tie.Need-returns-2
 unfolding named
-returns-2 c =
-    let a = c .before .before .before .before .args in
+returns-2 c = let a = start-from-else1 (c .before .before) .args in
     c .look-root .ensures
     ∙ ap (λ b. lookSays (lookAt (lookFor b (a .version) (placeOf (a .place))) (inForm (slotNo counted (a .entry) (a .store .now))))) (sym (c .before .if2 .taken))
 
 look-node-requires : tie.Need-look-node-requires
 look-node-requires c κs =
-    let start = c .before .before .before in
+    let start = start-from-else1 (c .before) in
     (record { size = start .pre .0; inside = omega (arith, start .pre .1, c .before .if1 .left) }, start .pre .2)
 
 returns-3 : tie.Need-returns-3
 unfolding named
-returns-3 c =
-    let a = c .before .before .before .before .args in
+returns-3 c = let a = start-from-else1 (c .before .before) .args in
     c .look-node .ensures
     ∙ ap (λ b. lookSays (lookAt (lookFor b (a .version) (placeOf (a .place))) (inForm (slotNo counted (a .entry) (a .store .now))))) (sym (c .before .if2 .left))
 

@@ -25,14 +25,20 @@ abbrev μ-loop : tie.MeasureT-loop
 μ-loop store table version place root n lo₀ hi₀ lo hi = hi - lo
 
 -- `A-from-B` is the state A as the later state B has it.
+abbrev start-from-else1 : tie.Else1 Inv-loop μ-loop → tie.Start Inv-loop μ-loop
+start-from-else1 c = c .before .before .before
+
 abbrev start-from-at-loop : tie.At-loop Inv-loop μ-loop → tie.Start Inv-loop μ-loop
-start-from-at-loop c = c .before .before .before .before .before
+start-from-at-loop c = start-from-else1 (c .before .before)
 
 abbrev start-from-loop : tie.After-loop Inv-loop μ-loop → tie.Start Inv-loop μ-loop
 start-from-loop c = start-from-at-loop (c .before)
 
-abbrev start-from-entry-at : tie.After-entry-at Inv-loop μ-loop → tie.Start Inv-loop μ-loop
-start-from-entry-at c = start-from-at-loop (c .before .before)
+abbrev at-loop-from-look-entry : tie.After-look-entry Inv-loop μ-loop → tie.At-loop Inv-loop μ-loop
+at-loop-from-look-entry c = c .before .before .before
+
+abbrev in-loop-from-look-entry : tie.After-look-entry Inv-loop μ-loop → tie.In-loop Inv-loop μ-loop
+in-loop-from-look-entry c = c .before .before
 
 returns : tie.Need-returns Inv-loop μ-loop
 returns c =
@@ -40,11 +46,11 @@ returns c =
     search-nowhere (lookFor (a .root) (a .version) (placeOf (a .place))) (a .table .now) (storeOf (a .store .now) .slots) (c .if1 .taken)
 
 slot-count-requires : tie.Need-slot-count-requires Inv-loop μ-loop
-slot-count-requires c κs = c .before .before .before .pre .0
+slot-count-requires c κs = start-from-else1 c .pre .0
 
 loop-holds : tie.Need-loop-holds Inv-loop μ-loop
 loop-holds c =
-    let start = c .before .before .before .before in
+    let start = start-from-else1 (c .before) in
     let a = start .args in
     let look = lookFor (a .root) (a .version) (placeOf (a .place)) in
     let s = storeOf (a .store .now) .slots in
@@ -59,31 +65,30 @@ entry-at-requires c κs = search needs
 
 look-entry-requires : tie.Need-look-entry-requires Inv-loop μ-loop
 look-entry-requires c κs =
-    let start = start-from-entry-at c in
-    (start .pre .0, c .before .before .before .slot-count .ensures, start .pre .1)
+    let at-loop = c .before .before in
+    let start = start-from-at-loop at-loop in
+    (start .pre .0, at-loop .before .slot-count .ensures, start .pre .1)
 
 enum-told : tie.Need-enum-told Inv-loop μ-loop
 enum-told c = search needs
 
 add-lo : tie.Need-add-lo Inv-loop μ-loop
-add-lo c = let inv = c .before .before .before .before .before .loop .inv in omega (arith, inv .0 .within, inv .0 .ordered, inv .1, inv .2)
+add-lo c = let inv = at-loop-from-look-entry (c .before .before) .loop .inv in omega (arith, inv .0 .within, inv .0 .ordered, inv .1, inv .2)
 
 loop-less : tie.Need-loop-less Inv-loop μ-loop
-loop-less c = let less = c .before .before .before .before .loop-test .taken in omega arith
+loop-less c = let less = in-loop-from-look-entry (c .before .before) .loop-test .taken in omega arith
 
 loop-again : tie.Need-loop-again Inv-loop μ-loop
 loop-again c =
     let after-look-entry = c .before .before in
-    let after-entry-at = after-look-entry .before in
-    let in-loop = after-entry-at .before in
-    let at-loop = in-loop .before in
+    let at-loop = at-loop-from-look-entry after-look-entry in
     let a = start-from-at-loop at-loop .args in
     let look = lookFor (a .root) (a .version) (placeOf (a .place)) in
     let s = storeOf (a .store .now) .slots in
     let inv = at-loop .loop .inv in
-    let less = in-loop .loop-test .taken in
+    let less = in-loop-from-look-entry after-look-entry .loop-test .taken in
     let seen = after-look-entry .look-entry .ensures in
-    let here = in-middle look (a .table .now) s (at-loop .loop .lo) (at-loop .loop .hi) (inv .1) (after-entry-at .entry-at .ensures) in
+    let here = in-middle look (a .table .now) s (at-loop .loop .lo) (at-loop .loop .hi) (inv .1) (after-look-entry .before .entry-at .ensures) in
     let above = search-above look (a .table .now) s (inv .0) less (sym here ∙ was-small _ _ seen (c .enum-told .given .1)) in
     (subst (λ k. Between look (a .table .now) s k (at-loop .loop .hi)) (omega arith) above, inv .1, inv .2)
 
@@ -91,21 +96,19 @@ enum-told-2 : tie.Need-enum-told-2 Inv-loop μ-loop
 enum-told-2 c = search needs
 
 loop-less-2 : tie.Need-loop-less-2 Inv-loop μ-loop
-loop-less-2 c = let less = c .before .before .before .before .loop-test .taken in omega arith
+loop-less-2 c = let less = in-loop-from-look-entry (c .before .before) .loop-test .taken in omega arith
 
 loop-again-2 : tie.Need-loop-again-2 Inv-loop μ-loop
 loop-again-2 c =
     let after-look-entry = c .before .before in
-    let after-entry-at = after-look-entry .before in
-    let in-loop = after-entry-at .before in
-    let at-loop = in-loop .before in
+    let at-loop = at-loop-from-look-entry after-look-entry in
     let a = start-from-at-loop at-loop .args in
     let look = lookFor (a .root) (a .version) (placeOf (a .place)) in
     let s = storeOf (a .store .now) .slots in
     let inv = at-loop .loop .inv in
-    let less = in-loop .loop-test .taken in
+    let less = in-loop-from-look-entry after-look-entry .loop-test .taken in
     let seen = after-look-entry .look-entry .ensures in
-    let here = in-middle look (a .table .now) s (at-loop .loop .lo) (at-loop .loop .hi) (inv .1) (after-entry-at .entry-at .ensures) in
+    let here = in-middle look (a .table .now) s (at-loop .loop .lo) (at-loop .loop .hi) (inv .1) (after-look-entry .before .entry-at .ensures) in
     (search-below look (a .table .now) s (inv .0) less (sym here ∙ was-great _ _ seen (c .enum-told2 .given .1)), inv .1, inv .2)
 
 enum-told-3 : tie.Need-enum-told-3 Inv-loop μ-loop

@@ -20,6 +20,22 @@ same-length c = search needs
 same-length-2 : tie.Need-same-length-2
 same-length-2 c = search needs
 
+-- `A-from-B` is the state A as the later state B has it.
+abbrev start-from-shared-slice-known : tie.After-shared-slice-known → tie.Start
+start-from-shared-slice-known c = c .before .before .before
+
+abbrev start-from-else1 : tie.Else1 → tie.Start
+start-from-else1 c = start-from-shared-slice-known (c .before .before .before .before)
+
+abbrev else1-from-apply-sound : tie.After-apply-sound → tie.Else1
+else1-from-apply-sound c = c .before .before
+
+abbrev apply-sound-from-applied2 : tie.After-applied2 → tie.After-apply-sound
+apply-sound-from-applied2 c = c .before .before .before .before
+
+abbrev applied2-from-keep-more-arg2 : tie.After-keep-more-arg2 → tie.After-applied2
+applied2-from-keep-more-arg2 c = c .before .before .before
+
 returns : tie.Need-returns
 returns c = not-both (c .before .told .ensures) (c .if1 .taken)
 
@@ -34,10 +50,15 @@ enum-known-applied-2 c = search needs
 
 keep-more-requires : tie.Need-keep-more-requires
 keep-more-requires c κs =
-    let a = c .before .before .before .before .before .before .before .before .before .before .before .before .before .before .before .before in (
-      apply-sound-after (a .args .number) (a .args .batch .now) (c .before .before .before .before .before .before .before .apply-sound .ensures) (omega (arith, a .fits))
-          (all-of Byte (a .args .batch .now) 0 (λ i _. omega (arith, c .before .before .before .before .before .before .before .before .before .before .before .before .before .shared-slice-known .given i))) (c .before .before .before .applied2 .given .1),
-      told-fits (c .before .before .before .before .before .before .before .before .before .before .told .ensures) (c .before .before .before .before .before .before .before .before .before .if1 .left) ∙ ap (roomOf counted) (sym (c .before .before .before .before .before .before .before .apply-sound .kept .0)),
+    let after-applied2 = applied2-from-keep-more-arg2 c in
+    let after-apply-sound = apply-sound-from-applied2 after-applied2 in
+    let else1 = else1-from-apply-sound after-apply-sound in
+    let after-told = else1 .before in
+    let after-shared-slice-known = after-told .before .before .before in
+    let start = start-from-shared-slice-known after-shared-slice-known in (
+      apply-sound-after (start .args .number) (start .args .batch .now) (after-apply-sound .apply-sound .ensures) (omega (arith, start .fits))
+          (all-of Byte (start .args .batch .now) 0 (λ i _. omega (arith, after-shared-slice-known .shared-slice-known .given i))) (after-applied2 .applied2 .given .1),
+      told-fits (after-told .told .ensures) (else1 .if1 .left) ∙ ap (roomOf counted) (sym (after-apply-sound .apply-sound .kept .0)),
     )
 
 put-answer-requires : tie.Need-put-answer-requires
@@ -50,7 +71,11 @@ same-length-4 : tie.Need-same-length-4
 same-length-4 c = search needs
 
 returns-2 : tie.Need-returns-2
-returns-2 c = let a = c .before .before .before .before .before .before .before .before .before .before .before .before .before .before .args in apply-refused (a .number) (a .batch .now) (c .before .before .before .before .before .before .before .before .told .ensures) (c .before .before .before .before .before .before .before .if1 .left) (c .before .before .before .before .before .apply-sound .ensures) (c .before .applied .given .1)
+returns-2 c =
+    let after-applied = c .before in
+    let after-apply-sound = after-applied .before .before .before .before in
+    let else1 = else1-from-apply-sound after-apply-sound in
+    let a = start-from-else1 else1 .args in apply-refused (a .number) (a .batch .now) (else1 .before .told .ensures) (else1 .if1 .left) (after-apply-sound .apply-sound .ensures) (after-applied .applied .given .1)
 
 same-length-5 : tie.Need-same-length-5
 same-length-5 c = search needs
@@ -60,8 +85,12 @@ same-length-6 c = search needs
 
 returns-3 : tie.Need-returns-3
 returns-3 c =
-    let a = c .before .before .before .before .before .before .before .before .before .before .before .before .before .before .before .before .before .before .before .before .before .args in
-    apply-made (a .number) (a .batch .now) (c .before .before .before .before .before .before .before .before .before .before .before .before .before .before .before .told .ensures) (c .before .before .before .before .before .before .before .before .before .before .before .before .before .before .if1 .left) (c .before .before .before .before .before .before .before .before .before .before .before .before .apply-sound .ensures) (c .before .before .before .before .before .before .before .before .applied2 .given .1) (c .before .before .before .before .keep-more .ensures) (c .put-answer .ensures)
+    let after-keep-more = c .before .before .before .before in
+    let after-applied2 = applied2-from-keep-more-arg2 (after-keep-more .before) in
+    let after-apply-sound = apply-sound-from-applied2 after-applied2 in
+    let else1 = else1-from-apply-sound after-apply-sound in
+    let a = start-from-else1 else1 .args in
+    apply-made (a .number) (a .batch .now) (else1 .before .told .ensures) (else1 .if1 .left) (after-apply-sound .apply-sound .ensures) (after-applied2 .applied2 .given .1) (after-keep-more .keep-more .ensures) (c .put-answer .ensures)
 
 pub apply-both-spec : {M : Type 1} → statement M
 apply-both-spec =

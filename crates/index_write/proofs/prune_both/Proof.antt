@@ -18,6 +18,22 @@ same-length c = search needs
 same-length-2 : tie.Need-same-length-2
 same-length-2 c = search needs
 
+-- `A-from-B` is the state A as the later state B has it.
+abbrev start-from-slice-known2 : tie.After-slice-known2 → tie.Start
+start-from-slice-known2 c = c .before .before
+
+abbrev start-from-else1 : tie.Else1 → tie.Start
+start-from-else1 c = start-from-slice-known2 (c .before .before .before .before)
+
+abbrev else1-from-prune-sound : tie.After-prune-sound → tie.Else1
+else1-from-prune-sound c = c .before .before
+
+abbrev prune-sound-from-pruned2 : tie.After-pruned2 → tie.After-prune-sound
+prune-sound-from-pruned2 c = c .before .before .before .before
+
+abbrev pruned2-from-keep-fewer-arg2 : tie.After-keep-fewer-arg2 → tie.After-pruned2
+pruned2-from-keep-fewer-arg2 c = c .before .before .before
+
 returns : tie.Need-returns
 returns c = not-both (c .before .told .ensures) (c .if1 .taken)
 
@@ -32,9 +48,11 @@ enum-known-pruned-2 c = search needs
 
 keep-fewer-requires : tie.Need-keep-fewer-requires
 keep-fewer-requires c κs =
-    let a = c .before .before .before .before .before .before .before .before .before .before .before .before .before .before .before in (
-      prune-sound-after (a .args .version) (c .before .before .before .before .before .before .before .prune-sound .ensures) (c .before .before .before .pruned2 .given .1),
-      told-fits (c .before .before .before .before .before .before .before .before .before .before .told .ensures) (c .before .before .before .before .before .before .before .before .before .if1 .left) ∙ ap (roomOf counted) (sym (c .before .before .before .before .before .before .before .prune-sound .kept .0)),
+    let after-pruned2 = pruned2-from-keep-fewer-arg2 c in
+    let after-prune-sound = prune-sound-from-pruned2 after-pruned2 in
+    let else1 = else1-from-prune-sound after-prune-sound in (
+      prune-sound-after (start-from-else1 else1 .args .version) (after-prune-sound .prune-sound .ensures) (after-pruned2 .pruned2 .given .1),
+      told-fits (else1 .before .told .ensures) (else1 .if1 .left) ∙ ap (roomOf counted) (sym (after-prune-sound .prune-sound .kept .0)),
     )
 
 put-u32-requires : tie.Need-put-u32-requires
@@ -47,7 +65,11 @@ same-length-4 : tie.Need-same-length-4
 same-length-4 c = search needs
 
 returns-2 : tie.Need-returns-2
-returns-2 c = prune-refused (c .before .before .before .before .before .before .before .before .before .before .before .before .before .args .version) (c .before .before .before .before .before .before .before .before .told .ensures) (c .before .before .before .before .before .before .before .if1 .left) (c .before .before .before .before .before .prune-sound .ensures) (c .before .pruned .given .1)
+returns-2 c =
+    let after-pruned = c .before in
+    let after-prune-sound = after-pruned .before .before .before .before in
+    let else1 = else1-from-prune-sound after-prune-sound in
+    prune-refused (start-from-else1 else1 .args .version) (else1 .before .told .ensures) (else1 .if1 .left) (after-prune-sound .prune-sound .ensures) (after-pruned .pruned .given .1)
 
 same-length-5 : tie.Need-same-length-5
 same-length-5 c = search needs
@@ -56,7 +78,12 @@ same-length-6 : tie.Need-same-length-6
 same-length-6 c = search needs
 
 returns-3 : tie.Need-returns-3
-returns-3 c = prune-freed (c .before .before .before .before .before .before .before .before .before .before .before .before .before .before .before .before .before .before .before .before .args .version) (c .before .before .before .before .before .before .before .before .before .before .before .before .before .before .before .told .ensures) (c .before .before .before .before .before .before .before .before .before .before .before .before .before .before .if1 .left) (c .before .before .before .before .before .before .before .before .before .before .before .before .prune-sound .ensures) (c .before .before .before .before .before .before .before .before .pruned2 .given .1) (c .before .before .before .before .keep-fewer .ensures) (search needs) (c .put-u32 .ensures)
+returns-3 c =
+    let after-keep-fewer = c .before .before .before .before in
+    let after-pruned2 = pruned2-from-keep-fewer-arg2 (after-keep-fewer .before) in
+    let after-prune-sound = prune-sound-from-pruned2 after-pruned2 in
+    let else1 = else1-from-prune-sound after-prune-sound in
+    prune-freed (start-from-else1 else1 .args .version) (else1 .before .told .ensures) (else1 .if1 .left) (after-prune-sound .prune-sound .ensures) (after-pruned2 .pruned2 .given .1) (after-keep-fewer .keep-fewer .ensures) (search needs) (c .put-u32 .ensures)
 
 pub prune-both-spec : {M : Type 1} → statement M
 prune-both-spec =

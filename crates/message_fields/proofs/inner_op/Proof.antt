@@ -20,17 +20,25 @@ slice-aggregate-same c = search needs
 same-requires : tie.Need-same-requires
 same-requires c κs = search needs
 
+-- `A-from-B` is the state A as the later state B has it.
+abbrev start-from-else1 : tie.Else1 → tie.Start
+start-from-else1 c = c .before .before
+
+abbrev then1-from-same : tie.After-same → tie.Then1
+then1-from-same c = c .before .before .before
+
+abbrev then3-from-same2 : tie.After-same2 → tie.Then3
+then3-from-same2 c = c .before .before .before
+
 returns : tie.Need-returns
 returns c =
-    let after-same = c .before in
-    let then1 = after-same .before .before .before in
-    let x = then1 .before .before .args .x .now in inner-left x (then1 .if1 .taken) (sym (after-same .same .ensures) ∙ c .if2 .taken)
+    let then1 = then1-from-same (c .before) in
+    let x = then1 .before .before .args .x .now in inner-left x (then1 .if1 .taken) (sym (c .before .same .ensures) ∙ c .if2 .taken)
 
 returns-2 : tie.Need-returns-2
 returns-2 c =
-    let after-same = c .before in
-    let then1 = after-same .before .before .before in
-    let x = then1 .before .before .args .x .now in inner-no-left x (then1 .if1 .taken) (sym (after-same .same .ensures) ∙ c .if2 .left)
+    let then1 = then1-from-same (c .before) in
+    let x = then1 .before .before .args .x .now in inner-no-left x (then1 .if1 .taken) (sym (c .before .same .ensures) ∙ c .if2 .left)
 
 sub-same-2 : tie.Need-sub-same-2
 sub-same-2 c = search needs
@@ -49,19 +57,16 @@ same-requires-2 c κs = search needs
 
 returns-3 : tie.Need-returns-3
 returns-3 c =
-    let after-same2 = c .before in
-    let then3 = after-same2 .before .before .before in
-    let x = then3 .before .before .before .args .x .now in inner-right x (then3 .if3 .taken) (sym (after-same2 .same2 .ensures) ∙ c .if4 .taken)
+    let then3 = then3-from-same2 (c .before) in
+    let x = start-from-else1 (then3 .before) .args .x .now in inner-right x (then3 .if3 .taken) (sym (c .before .same2 .ensures) ∙ c .if4 .taken)
 
 returns-4 : tie.Need-returns-4
 returns-4 c =
-    let after-same2 = c .before in
-    let then3 = after-same2 .before .before .before in
-    let x = then3 .before .before .before .args .x .now in inner-no-right x (then3 .if3 .taken) (sym (after-same2 .same2 .ensures) ∙ c .if4 .left)
+    let then3 = then3-from-same2 (c .before) in
+    let x = start-from-else1 (then3 .before) .args .x .now in inner-no-right x (then3 .if3 .taken) (sym (c .before .same2 .ensures) ∙ c .if4 .left)
 
 returns-5 : tie.Need-returns-5
-returns-5 c =
-    let x = c .before .before .before .args .x .now in inner-neither x (c .before .if1 .left) (c .if3 .left)
+returns-5 c = let x = start-from-else1 (c .before) .args .x .now in inner-neither x (c .before .if1 .left) (c .if3 .left)
 
 pub inner-op-spec : {M : Type 1} → statement M
 inner-op-spec =

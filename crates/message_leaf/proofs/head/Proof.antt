@@ -19,8 +19,20 @@ no-shown-requires c κs = search needs
 abbrev field-from-else1 : tie.Else1 → tie.After-field
 field-from-else1 c = c .before .before
 
+abbrev field-from-field2 : tie.After-field2 → tie.After-field
+field-from-field2 c = field-from-else1 (c .before)
+
+abbrev field2-from-else2 : tie.Else2 → tie.After-field2
+field2-from-else2 c = c .before .before
+
+abbrev field2-from-field3 : tie.After-field3 → tie.After-field2
+field2-from-field3 c = field2-from-else2 (c .before)
+
 abbrev field3-from-else3 : tie.Else3 → tie.After-field3
 field3-from-else3 c = c .before .before
+
+abbrev else3-from-same : tie.After-same → tie.Else3
+else3-from-same c = c .before .before .before
 
 returns : tie.Need-returns
 returns c =
@@ -40,8 +52,7 @@ returns-2 c =
     heads-none (no-value (field-from-else1 else1 .field .ensures) (not-false _ (else1 .if1 .left)) (after-field2 .field2 .ensures) (not-true _ (then2 .if2 .taken))) (c .no-shown2 .ensures)
 
 field-requires-3 : tie.Need-field-requires-3
-field-requires-3 c κs =
-    (c .before .before .field2 .ensures .inside (not-false _ (c .if2 .left)) .2, omega arith)
+field-requires-3 c κs = (field2-from-else2 c .field2 .ensures .inside (not-false _ (c .if2 .left)) .2, omega arith)
 
 no-shown-requires-3 : tie.Need-no-shown-requires-3
 no-shown-requires-3 c κs = search needs
@@ -50,10 +61,8 @@ returns-3 : tie.Need-returns-3
 returns-3 c =
     let then3 = c .before in
     let after-field3 = then3 .before .before in
-    let else2 = after-field3 .before in
-    let after-field2 = else2 .before .before in
-    let else1 = after-field2 .before in
-    heads-none (no-op (field-from-else1 else1 .field .ensures) (not-false _ (else1 .if1 .left)) (after-field2 .field2 .ensures) (not-false _ (else2 .if2 .left)) (after-field3 .field3 .ensures) (not-true _ (then3 .if3 .taken))) (c .no-shown3 .ensures)
+    let after-field2 = field2-from-field3 after-field3 in
+    heads-none (no-op (field-from-field2 after-field2 .field .ensures) (not-false _ (after-field2 .before .if1 .left)) (after-field2 .field2 .ensures) (not-false _ (after-field3 .before .if2 .left)) (after-field3 .field3 .ensures) (not-true _ (then3 .if3 .taken))) (c .no-shown3 .ensures)
 
 sub-same : tie.Need-sub-same
 sub-same c = omega (arith, field3-from-else3 c .field3 .ensures .inside (not-false _ (c .if3 .left)) .1)
@@ -78,27 +87,22 @@ unfolding slice
 returns-4 c =
     let then4 = c .before in
     let after-same = then4 .before in
-    let else3 = after-same .before .before .before in
-    let after-field3 = else3 .before .before in
-    let else2 = after-field3 .before in
-    let after-field2 = else2 .before .before in
-    let else1 = after-field2 .before in
-    let after-field = else1 .before .before in
+    let else3 = else3-from-same after-same in
+    let after-field3 = field3-from-else3 else3 in
+    let after-field2 = field2-from-field3 after-field3 in
+    let after-field = field-from-field2 after-field2 in
     let after-shared-slice-known = after-field .before in
-    heads-none (other-op (all-bytes (after-shared-slice-known .before .args .x .now) (λ i. omega (arith, after-shared-slice-known .shared-slice-known .given i))) (after-field .field .ensures) (not-false _ (else1 .if1 .left)) (after-field2 .field2 .ensures) (not-false _ (else2 .if2 .left)) (after-field3 .field3 .ensures) (not-false _ (else3 .if3 .left)) (sym (after-same .same .ensures) ∙ not-true _ (then4 .if4 .taken))) (c .no-shown4 .ensures)
+    heads-none (other-op (all-bytes (after-shared-slice-known .before .args .x .now) (λ i. omega (arith, after-shared-slice-known .shared-slice-known .given i))) (after-field .field .ensures) (not-false _ (after-field2 .before .if1 .left)) (after-field2 .field2 .ensures) (not-false _ (after-field3 .before .if2 .left)) (after-field3 .field3 .ensures) (not-false _ (else3 .if3 .left)) (sym (after-same .same .ensures) ∙ not-true _ (then4 .if4 .taken))) (c .no-shown4 .ensures)
 
 returns-5 : tie.Need-returns-5
 unfolding slice
 returns-5 c =
-    let after-same = c .before in
-    let else3 = after-same .before .before .before in
-    let after-field3 = else3 .before .before in
-    let else2 = after-field3 .before in
-    let after-field2 = else2 .before .before in
-    let else1 = after-field2 .before in
-    let after-field = else1 .before .before in
+    let else3 = else3-from-same (c .before) in
+    let after-field3 = field3-from-else3 else3 in
+    let after-field2 = field2-from-field3 after-field3 in
+    let after-field = field-from-field2 after-field2 in
     let after-shared-slice-known = after-field .before in
-    heads-there (all-bytes (after-shared-slice-known .before .args .x .now) (λ i. omega (arith, after-shared-slice-known .shared-slice-known .given i))) (after-field .field .ensures) (not-false _ (else1 .if1 .left)) (after-field2 .field2 .ensures) (not-false _ (else2 .if2 .left)) (after-field3 .field3 .ensures) (not-false _ (else3 .if3 .left)) (sym (after-same .same .ensures) ∙ not-false _ (c .if4 .left))
+    heads-there (all-bytes (after-shared-slice-known .before .args .x .now) (λ i. omega (arith, after-shared-slice-known .shared-slice-known .given i))) (after-field .field .ensures) (not-false _ (after-field2 .before .if1 .left)) (after-field2 .field2 .ensures) (not-false _ (after-field3 .before .if2 .left)) (after-field3 .field3 .ensures) (not-false _ (else3 .if3 .left)) (sym (c .before .same .ensures) ∙ not-false _ (c .if4 .left))
 
 pub head-spec : {M : Type 1} → statement M
 head-spec =

@@ -16,8 +16,14 @@ abbrev μ-loop : tie.MeasureT-loop
 μ-loop x from at₀ count₀ at count = length x - at
 
 -- `A-from-B` is the state A as the later state B has it.
+abbrev in-loop-from-field : tie.After-field Inv-loop μ-loop → tie.In-loop Inv-loop μ-loop
+in-loop-from-field c = c .before .before
+
 abbrev field-from-else2 : tie.Else2 Inv-loop μ-loop → tie.After-field Inv-loop μ-loop
 field-from-else2 c = c .before .before
+
+abbrev else2-from-is-step : tie.After-is-step Inv-loop μ-loop → tie.Else2 Inv-loop μ-loop
+else2-from-is-step c = c .before .before
 
 loop-holds : tie.Need-loop-holds Inv-loop μ-loop
 loop-holds c =
@@ -44,7 +50,7 @@ returns-2 : tie.Need-returns-2 Inv-loop μ-loop
 returns-2 c =
     let then2 = c .before in
     let after-field = then2 .before .before in
-    let in-loop = after-field .before .before in
+    let in-loop = in-loop-from-field after-field in
     walks-none (path-no-field (in-loop .before .loop .inv) (in-loop .loop-test .taken) (after-field .field .ensures) (not-true _ (then2 .if2 .taken))) (c .no-steps2 .ensures)
 
 sub-is-step : tie.Need-sub-is-step Inv-loop μ-loop
@@ -69,9 +75,9 @@ unfolding slice
 returns-3 c =
     let then3 = c .before in
     let after-is-step = then3 .before in
-    let else2 = after-is-step .before .before in
-    let after-field = else2 .before .before in
-    let in-loop = after-field .before .before in
+    let else2 = else2-from-is-step after-is-step in
+    let after-field = field-from-else2 else2 in
+    let in-loop = in-loop-from-field after-field in
     walks-none (path-no-step (in-loop .before .loop .inv) (in-loop .loop-test .taken) (after-field .field .ensures) (not-false _ (else2 .if2 .left)) (after-is-step .is-step .ensures .no (not-true _ (then3 .if3 .taken)))) (c .no-steps3 .ensures)
 
 add-count : tie.Need-add-count Inv-loop μ-loop
@@ -80,17 +86,16 @@ add-count c =
 
 loop-less : tie.Need-loop-less Inv-loop μ-loop
 loop-less c =
-    let else2 = c .before .before .before in
+    let else2 = else2-from-is-step (c .before) in
     let i = field-from-else2 else2 .field .ensures .inside (not-false _ (else2 .if2 .left)) in omega (arith, i .0, i .1, i .2)
 
 loop-again : tie.Need-loop-again Inv-loop μ-loop
 unfolding slice
 loop-again c =
-    let after-is-step = c .before in
-    let else2 = after-is-step .before .before in
-    let after-field = else2 .before .before in
-    let in-loop = after-field .before .before in
-    let s = after-is-step .is-step .ensures .yes (not-false _ (c .if3 .left)) in
+    let else2 = else2-from-is-step (c .before) in
+    let after-field = field-from-else2 else2 in
+    let in-loop = in-loop-from-field after-field in
+    let s = c .before .is-step .ensures .yes (not-false _ (c .if3 .left)) in
     walk-next (in-loop .before .loop .inv) (in-loop .loop-test .taken) (omega arith) (after-field .field .ensures) (not-false _ (else2 .if2 .left)) (s .1)
 
 returns-4 : tie.Need-returns-4 Inv-loop μ-loop

@@ -9,12 +9,15 @@ use Rattle.message_lent.proofs.leaf_fits.Statement.{statement}
 use Rattle.message_lent.proofs.leaf_fits.Tie as tie
 
 -- `A-from-B` is the state A as the later state B has it.
+abbrev start-from-shared-slice-known3 : tie.After-shared-slice-known3 → tie.Start
+start-from-shared-slice-known3 c = c .before .before .before
+
 abbrev start-from-hashes-to : tie.After-hashes-to → tie.Start
-start-from-hashes-to c = c .before .before .before .before
+start-from-hashes-to c = start-from-shared-slice-known3 (c .before)
 
 hashes-to-requires : tie.Need-hashes-to-requires
 hashes-to-requires c κs =
-    let start = c .before .before .before in
+    let start = start-from-shared-slice-known3 c in
     omega (arith, presence-whole (start .args .p .now) (start .pre))
 
 returns : tie.Need-returns

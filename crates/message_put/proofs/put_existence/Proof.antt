@@ -19,6 +19,18 @@ start-from-put-field-arg c = c .before .before .before .before .before
 abbrev start-from-put-field : tie.After-put-field → tie.Start
 start-from-put-field c = start-from-put-field-arg (c .before)
 
+abbrev put-field-from-put-field-arg2 : tie.After-put-field-arg2 → tie.After-put-field
+put-field-from-put-field-arg2 c = c .before .before .before
+
+abbrev put-field-from-put-field2 : tie.After-put-field2 → tie.After-put-field
+put-field-from-put-field2 c = put-field-from-put-field-arg2 (c .before)
+
+abbrev put-field2-from-put-leaf-op-arg : tie.After-put-leaf-op-arg → tie.After-put-field2
+put-field2-from-put-leaf-op-arg c = c .before .before .before
+
+abbrev put-leaf-op-from-put-path-arg : tie.After-put-path-arg → tie.After-put-leaf-op
+put-leaf-op-from-put-path-arg c = c .before .before .before
+
 put-field-requires : tie.Need-put-field-requires
 put-field-requires c κs =
     let start = start-from-put-field-arg c in
@@ -28,7 +40,7 @@ put-field-requires c κs =
 
 put-field-requires-2 : tie.Need-put-field-requires-2
 put-field-requires-2 c κs =
-    let after-put-field = c .before .before .before in
+    let after-put-field = put-field-from-put-field-arg2 c in
     let start = start-from-put-field after-put-field in
     let a = start .args in
     let l = start .pre .0 .1 in
@@ -36,8 +48,8 @@ put-field-requires-2 c κs =
 
 put-leaf-op-requires : tie.Need-put-leaf-op-requires
 put-leaf-op-requires c κs =
-    let after-put-field2 = c .before .before .before in
-    let after-put-field = after-put-field2 .before .before .before .before in
+    let after-put-field2 = put-field2-from-put-leaf-op-arg c in
+    let after-put-field = put-field-from-put-field2 after-put-field2 in
     let start = start-from-put-field after-put-field in
     let a = start .args in
     let l = start .pre .0 .1 in
@@ -45,9 +57,9 @@ put-leaf-op-requires c κs =
 
 put-path-requires : tie.Need-put-path-requires
 put-path-requires c κs =
-    let after-put-leaf-op = c .before .before .before in
-    let after-put-field2 = after-put-leaf-op .before .before .before .before in
-    let after-put-field = after-put-field2 .before .before .before .before in
+    let after-put-leaf-op = put-leaf-op-from-put-path-arg c in
+    let after-put-field2 = put-field2-from-put-leaf-op-arg (after-put-leaf-op .before) in
+    let after-put-field = put-field-from-put-field2 after-put-field2 in
     let start = start-from-put-field after-put-field in
     let a = start .args in
     let l = start .pre .0 .1 in
@@ -59,9 +71,9 @@ same-length c = search needs
 returns : tie.Need-returns
 returns c =
     let after-put-path = c .before .before in
-    let after-put-leaf-op = after-put-path .before .before .before .before in
-    let after-put-field2 = after-put-leaf-op .before .before .before .before in
-    let after-put-field = after-put-field2 .before .before .before .before in
+    let after-put-leaf-op = put-leaf-op-from-put-path-arg (after-put-path .before) in
+    let after-put-field2 = put-field2-from-put-leaf-op-arg (after-put-leaf-op .before) in
+    let after-put-field = put-field-from-put-field2 after-put-field2 in
     let start = start-from-put-field after-put-field in
     let a = start .args in
     puts-four (messageField 3 leafOp) (path (presenceIn (a .p .now) .steps)) (after-put-field .put-field .ensures) (after-put-field2 .put-field2 .ensures) (existence-parts (a .key .now) (a .value .now) (presenceIn (a .p .now)) (start .pre .0 .1)) (start .pre .1) (after-put-leaf-op .put-leaf-op .ensures) (after-put-path .put-path .ensures)

@@ -5,14 +5,11 @@ use Rattle.message_put.proofs.put_field.Statement.{statement}
 use Rattle.message_put.proofs.put_field.Tie as tie
 
 -- `A-from-B` is the state A as the later state B has it.
-abbrev start-from-put-head : tie.After-put-head → tie.Start
-start-from-put-head c = c .before .before .before .before
-
-abbrev start-from-put-bytes : tie.After-put-bytes → tie.Start
-start-from-put-bytes c = start-from-put-head (c .before .before .before .before)
-
 abbrev start-from-put-head-arg : tie.After-put-head-arg → tie.Start
 start-from-put-head-arg c = c .before .before .before
+
+abbrev put-head-from-put-bytes-arg : tie.After-put-bytes-arg → tie.After-put-head
+put-head-from-put-bytes-arg c = c .before .before .before
 
 put-head-requires : tie.Need-put-head-requires
 put-head-requires c κs =
@@ -21,7 +18,7 @@ put-head-requires c κs =
 
 put-bytes-requires : tie.Need-put-bytes-requires
 put-bytes-requires c κs =
-    let after-put-head = c .before .before .before in
+    let after-put-head = put-head-from-put-bytes-arg c in
     let start = start-from-put-head-arg (after-put-head .before) in
     let a = start .args in room-second (after-put-head .put-head .ensures) (field-parts (a .n) (a .x .now) (start .pre .0 .0)) (start .pre .1)
 
@@ -31,8 +28,9 @@ same-length c = search needs
 returns : tie.Need-returns
 returns c =
     let after-put-bytes = c .before .before in
-    let start = start-from-put-bytes after-put-bytes in
-    let a = start .args in puts-two (after-put-bytes .before .before .before .before .put-head .ensures) (after-put-bytes .put-bytes .ensures) (field-parts (a .n) (a .x .now) (start .pre .0 .0)) (start .pre .1)
+    let after-put-head = put-head-from-put-bytes-arg (after-put-bytes .before) in
+    let start = start-from-put-head-arg (after-put-head .before) in
+    let a = start .args in puts-two (after-put-head .put-head .ensures) (after-put-bytes .put-bytes .ensures) (field-parts (a .n) (a .x .now) (start .pre .0 .0)) (start .pre .1)
 
 pub put-field-spec : {M : Type 1} → statement M
 put-field-spec =

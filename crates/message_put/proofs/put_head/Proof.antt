@@ -13,21 +13,18 @@ add-put-byte : tie.Need-add-put-byte
 add-put-byte c = search needs
 
 -- `A-from-B` is the state A as the later state B has it.
-abbrev start-from-put-byte : tie.After-put-byte → tie.Start
-start-from-put-byte c = c .before .before .before
-
-abbrev start-from-put-varint : tie.After-put-varint → tie.Start
-start-from-put-varint c = start-from-put-byte (c .before .before .before .before)
-
 abbrev start-from-put-byte-arg : tie.After-put-byte-arg → tie.Start
 start-from-put-byte-arg c = c .before .before
+
+abbrev put-byte-from-put-varint-arg : tie.After-put-varint-arg → tie.After-put-byte
+put-byte-from-put-varint-arg c = c .before .before .before
 
 put-byte-requires : tie.Need-put-byte-requires
 put-byte-requires c κs = omega (arith, start-from-put-byte-arg c .pre .1 .fits)
 
 put-varint-requires : tie.Need-put-varint-requires
 put-varint-requires c κs =
-    let after-put-byte = c .before .before .before in
+    let after-put-byte = put-byte-from-put-varint-arg c in
     let start = start-from-put-byte-arg (after-put-byte .before) in
     (start .pre .0 .1, room-second (after-put-byte .put-byte .ensures) refl (start .pre .1))
 
@@ -37,7 +34,8 @@ same-length c = search needs
 returns : tie.Need-returns
 returns c =
     let after-put-varint = c .before .before in
-    puts-two (after-put-varint .before .before .before .before .put-byte .ensures) (after-put-varint .put-varint .ensures) refl (start-from-put-varint after-put-varint .pre .1)
+    let after-put-byte = put-byte-from-put-varint-arg (after-put-varint .before) in
+    puts-two (after-put-byte .put-byte .ensures) (after-put-varint .put-varint .ensures) refl (start-from-put-byte-arg (after-put-byte .before) .pre .1)
 
 pub put-head-spec : {M : Type 1} → statement M
 put-head-spec =

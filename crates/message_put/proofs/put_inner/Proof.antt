@@ -9,14 +9,11 @@ shared-slice-read-put-inner-head : tie.Need-shared-slice-read-put-inner-head
 shared-slice-read-put-inner-head c = search needs
 
 -- `A-from-B` is the state A as the later state B has it.
-abbrev start-from-put-inner-head : tie.After-put-inner-head → tie.Start
-start-from-put-inner-head c = c .before .before .before .before .before
-
-abbrev start-from-put-bytes : tie.After-put-bytes → tie.Start
-start-from-put-bytes c = start-from-put-inner-head (c .before .before .before .before .before)
-
 abbrev start-from-shared-slice-known2 : tie.After-shared-slice-known2 → tie.Start
 start-from-shared-slice-known2 c = c .before .before .before .before
+
+abbrev put-inner-head-from-put-bytes-arg2 : tie.After-put-bytes-arg2 → tie.After-put-inner-head
+put-inner-head-from-put-bytes-arg2 c = c .before .before .before .before
 
 put-inner-head-requires : tie.Need-put-inner-head-requires
 put-inner-head-requires c κs =
@@ -35,7 +32,7 @@ part-put-bytes-end c = search needs
 put-bytes-requires : tie.Need-put-bytes-requires
 unfolding slice
 put-bytes-requires c κs =
-    let after-put-inner-head = c .before .before .before .before in
+    let after-put-inner-head = put-inner-head-from-put-bytes-arg2 c in
     let start = start-from-shared-slice-known2 (after-put-inner-head .before) in
     room-second (after-put-inner-head .put-inner-head .ensures) (inner-parts (start .args .step .now) (start .pre .0)) (start .pre .1)
 
@@ -46,8 +43,9 @@ returns : tie.Need-returns
 unfolding slice
 returns c =
     let after-put-bytes = c .before .before in
-    let start = start-from-put-bytes after-put-bytes in
-    puts-two (after-put-bytes .before .before .before .before .before .put-inner-head .ensures) (after-put-bytes .put-bytes .ensures) (inner-parts (start .args .step .now) (start .pre .0)) (start .pre .1)
+    let after-put-inner-head = put-inner-head-from-put-bytes-arg2 (after-put-bytes .before) in
+    let start = start-from-shared-slice-known2 (after-put-inner-head .before) in
+    puts-two (after-put-inner-head .put-inner-head .ensures) (after-put-bytes .put-bytes .ensures) (inner-parts (start .args .step .now) (start .pre .0)) (start .pre .1)
 
 pub put-inner-spec : {M : Type 1} → statement M
 put-inner-spec =

@@ -13,27 +13,32 @@ put-u32-requires : tie.Need-put-u32-requires
 put-u32-requires c κs = search needs
 
 -- `A-from-B` is the state A as the later state B has it.
-abbrev start-from-put-spot : tie.After-put-spot → tie.Start
-start-from-put-spot c = c .before .before .before .before
+abbrev start-from-put-spot-arg : tie.After-put-spot-arg → tie.Start
+start-from-put-spot-arg c = c .before .before .before
 
-abbrev start-from-put-spot2 : tie.After-put-spot2 → tie.Start
-start-from-put-spot2 c = start-from-put-spot (c .before .before)
+abbrev start-from-put-spot : tie.After-put-spot → tie.Start
+start-from-put-spot c = start-from-put-spot-arg (c .before)
+
+abbrev start-from-put-spot-arg3 : tie.After-put-spot-arg3 → tie.Start
+start-from-put-spot-arg3 c = start-from-put-spot (c .before .before .before)
+
+abbrev start-from-put-spot-arg4 : tie.After-put-spot-arg4 → tie.Start
+start-from-put-spot-arg4 c = start-from-put-spot-arg3 (c .before .before)
 
 put-spot-requires : tie.Need-put-spot-requires
-put-spot-requires c κs =
-    (omega arith, c .before .before .before .pre .0 .1)
+put-spot-requires c κs = (omega arith, start-from-put-spot-arg c .pre .0 .1)
 
 put-spot-requires-2 : tie.Need-put-spot-requires-2
 put-spot-requires-2 c κs = (omega arith, start-from-put-spot (c .before) .pre .1 .0 .key-bounds)
 
 put-spot-requires-3 : tie.Need-put-spot-requires-3
-put-spot-requires-3 c κs = (omega arith, start-from-put-spot2 (c .before) .pre .1 .0 .value-bounds)
+put-spot-requires-3 c κs = (omega arith, start-from-put-spot-arg3 c .pre .1 .0 .value-bounds)
 
 put-spot-requires-4 : tie.Need-put-spot-requires-4
-put-spot-requires-4 c κs = (omega arith, start-from-put-spot2 (c .before .before .before) .pre .1 .1 .key-bounds)
+put-spot-requires-4 c κs = (omega arith, start-from-put-spot-arg4 c .pre .1 .1 .key-bounds)
 
 put-spot-requires-5 : tie.Need-put-spot-requires-5
-put-spot-requires-5 c κs = (omega arith, start-from-put-spot2 (c .before .before .before .before .before) .pre .1 .1 .value-bounds)
+put-spot-requires-5 c κs = (omega arith, start-from-put-spot-arg4 (c .before .before) .pre .1 .1 .value-bounds)
 
 returns : tie.Need-returns
 returns c =

@@ -30,35 +30,56 @@ start-from-flag c = c .before .before .before .before .before
 abbrev start-from-flag2 : tie.After-flag2 → tie.Start
 start-from-flag2 c = start-from-flag (c .before)
 
-abbrev start-from-neighbour-size : tie.After-neighbour-size → tie.Start
-start-from-neighbour-size c = start-from-flag2 (c .before .before)
-
-abbrev neighbour-size-from-put-u32 : tie.After-put-u32 → tie.After-neighbour-size
-neighbour-size-from-put-u32 c = c .before .before
-
-abbrev put-u32-from-put-u16-arg : tie.After-put-u16-arg → tie.After-put-u32
-put-u32-from-put-u16-arg c = c .before .before .before
-
 abbrev start-from-absence-size : tie.After-absence-size → tie.Start
 start-from-absence-size c = start-from-flag2 (c .before)
+
+abbrev start-from-neighbour-size : tie.After-neighbour-size → tie.Start
+start-from-neighbour-size c = start-from-flag2 (c .before .before)
 
 abbrev start-from-put-u32-arg : tie.After-put-u32-arg → tie.Start
 start-from-put-u32-arg c = start-from-absence-size (c .before .before)
 
-abbrev start-from-put-u16-arg : tie.After-put-u16-arg → tie.Start
-start-from-put-u16-arg c = start-from-put-u32-arg (c .before .before .before .before)
+abbrev start-from-put-u32 : tie.After-put-u32 → tie.Start
+start-from-put-u32 c = start-from-put-u32-arg (c .before)
+
+abbrev start-from-room : tie.After-room → tie.Start
+start-from-room c = start-from-put-u32 (c .before)
+
+abbrev put-u32-from-put-u16-arg : tie.After-put-u16-arg → tie.After-put-u32
+put-u32-from-put-u16-arg c = c .before .before .before
 
 abbrev put-u32-from-put-u16 : tie.After-put-u16 → tie.After-put-u32
 put-u32-from-put-u16 c = put-u32-from-put-u16-arg (c .before)
 
-abbrev start-from-put-u16 : tie.After-put-u16 → tie.Start
-start-from-put-u16 c = start-from-put-u16-arg (c .before)
-
 abbrev start-from-slice-known3 : tie.After-slice-known3 → tie.Start
-start-from-slice-known3 c = start-from-put-u16 (c .before .before)
+start-from-slice-known3 c = start-from-room (c .before .before .before .before .before)
+
+abbrev put-u16-from-put-u16-arg2 : tie.After-put-u16-arg2 → tie.After-put-u16
+put-u16-from-put-u16-arg2 c = c .before .before .before
+
+abbrev put-u16-from-put-u162 : tie.After-put-u162 → tie.After-put-u16
+put-u16-from-put-u162 c = put-u16-from-put-u16-arg2 (c .before)
 
 abbrev start-from-put-digest-arg : tie.After-put-digest-arg → tie.Start
 start-from-put-digest-arg c = start-from-slice-known3 (c .before .before .before .before .before)
+
+abbrev put-u162-from-put-digest-arg2 : tie.After-put-digest-arg2 → tie.After-put-u162
+put-u162-from-put-digest-arg2 c = c .before .before .before .before
+
+abbrev put-u162-from-put-digest : tie.After-put-digest → tie.After-put-u162
+put-u162-from-put-digest c = put-u162-from-put-digest-arg2 (c .before)
+
+abbrev put-digest-from-put-neighbour-arg2 : tie.After-put-neighbour-arg2 → tie.After-put-digest
+put-digest-from-put-neighbour-arg2 c = c .before .before .before .before
+
+abbrev put-digest-from-put-neighbour : tie.After-put-neighbour → tie.After-put-digest
+put-digest-from-put-neighbour c = put-digest-from-put-neighbour-arg2 (c .before)
+
+abbrev put-neighbour-from-put-neighbour-arg3 : tie.After-put-neighbour-arg3 → tie.After-put-neighbour
+put-neighbour-from-put-neighbour-arg3 c = c .before .before .before
+
+abbrev put-neighbour2-from-slice-known7 : tie.After-slice-known7 → tie.After-put-neighbour2
+put-neighbour2-from-slice-known7 c = c .before .before
 
 add-flags : tie.Need-add-flags
 add-flags c =
@@ -88,14 +109,16 @@ put-u32-requires c κs =
 
 put-u16-requires : tie.Need-put-u16-requires
 put-u16-requires c κs =
-    let start = start-from-put-u16-arg c in
-    omega (arith, size-is (start .args .a), start .pre .1, put-u32-from-put-u16-arg c .put-u32 .kept .0)
+    let after-put-u32 = put-u32-from-put-u16-arg c in
+    let start = start-from-put-u32 after-put-u32 in
+    omega (arith, size-is (start .args .a), start .pre .1, after-put-u32 .put-u32 .kept .0)
 
 put-u16-requires-2 : tie.Need-put-u16-requires-2
 put-u16-requires-2 c κs =
-    let after-put-u16 = c .before .before .before in
-    let start = start-from-put-u16 after-put-u16 in
-    omega (arith, size-is (start .args .a), start .pre .1, put-u32-from-put-u16 after-put-u16 .put-u32 .kept .0, after-put-u16 .put-u16 .kept .0)
+    let after-put-u16 = put-u16-from-put-u16-arg2 c in
+    let after-put-u32 = put-u32-from-put-u16 after-put-u16 in
+    let start = start-from-put-u32 after-put-u32 in
+    omega (arith, size-is (start .args .a), start .pre .1, after-put-u32 .put-u32 .kept .0, after-put-u16 .put-u16 .kept .0)
 
 sub-put-digest : tie.Need-sub-put-digest
 sub-put-digest c = omega (arith, start-from-put-digest-arg c .pre .0 .key-in .0)
@@ -110,10 +133,11 @@ part-put-digest-end c = omega (arith, start-from-put-digest-arg c .pre .0 .key-i
 
 put-digest-requires : tie.Need-put-digest-requires
 put-digest-requires c κs =
-    let after-put-u162 = c .before .before .before .before in
-    let after-put-u16 = after-put-u162 .before .before .before .before in
-    let start = start-from-put-u16 after-put-u16 in
-    omega (arith, size-is (start .args .a), start .pre .1, put-u32-from-put-u16 after-put-u16 .put-u32 .kept .0, after-put-u16 .put-u16 .kept .0, after-put-u162 .put-u162 .kept .0)
+    let after-put-u162 = put-u162-from-put-digest-arg2 c in
+    let after-put-u16 = put-u16-from-put-u162 after-put-u162 in
+    let after-put-u32 = put-u32-from-put-u16 after-put-u16 in
+    let start = start-from-put-u32 after-put-u32 in
+    omega (arith, size-is (start .args .a), start .pre .1, after-put-u32 .put-u32 .kept .0, after-put-u16 .put-u16 .kept .0, after-put-u162 .put-u162 .kept .0)
 
 sub-put-neighbour : tie.Need-sub-put-neighbour
 sub-put-neighbour c = search needs
@@ -127,42 +151,44 @@ part-put-neighbour-end c = omega (arith, start-from-put-digest-arg (c .before .b
 
 put-neighbour-requires : tie.Need-put-neighbour-requires
 put-neighbour-requires c κs =
-    let after-put-digest = c .before .before .before .before in
-    let after-put-u162 = after-put-digest .before .before .before .before .before in
-    let after-put-u16 = after-put-u162 .before .before .before .before in
-    let start = start-from-put-u16 after-put-u16 in
+    let after-put-digest = put-digest-from-put-neighbour-arg2 c in
+    let after-put-u162 = put-u162-from-put-digest after-put-digest in
+    let after-put-u16 = put-u16-from-put-u162 after-put-u162 in
+    let after-put-u32 = put-u32-from-put-u16 after-put-u16 in
+    let start = start-from-put-u32 after-put-u32 in
     let a = start .args in
-    (subst (λ k. ReadyOr (take k (a .x .now)) (a .a .left)) (sym (sub-zero (a .a .middle))) (start .pre .0 .left-ready), omega (arith, size-is (a .a), start .pre .1, put-u32-from-put-u16 after-put-u16 .put-u32 .kept .0, after-put-u16 .put-u16 .kept .0, after-put-u162 .put-u162 .kept .0, after-put-digest .put-digest .kept .0))
+    (subst (λ k. ReadyOr (take k (a .x .now)) (a .a .left)) (sym (sub-zero (a .a .middle))) (start .pre .0 .left-ready), omega (arith, size-is (a .a), start .pre .1, after-put-u32 .put-u32 .kept .0, after-put-u16 .put-u16 .kept .0, after-put-u162 .put-u162 .kept .0, after-put-digest .put-digest .kept .0))
 
 put-neighbour-requires-2 : tie.Need-put-neighbour-requires-2
 put-neighbour-requires-2 c κs =
-    let after-put-neighbour = c .before .before .before in
-    let after-put-digest = after-put-neighbour .before .before .before .before .before in
-    let after-put-u162 = after-put-digest .before .before .before .before .before in
-    let after-put-u16 = after-put-u162 .before .before .before .before in
-    let start = start-from-put-u16 after-put-u16 in
+    let after-put-neighbour = put-neighbour-from-put-neighbour-arg3 c in
+    let after-put-digest = put-digest-from-put-neighbour after-put-neighbour in
+    let after-put-u162 = put-u162-from-put-digest after-put-digest in
+    let after-put-u16 = put-u16-from-put-u162 after-put-u162 in
+    let after-put-u32 = put-u32-from-put-u16 after-put-u16 in
+    let start = start-from-put-u32 after-put-u32 in
     let a = start .args in
-    (start .pre .0 .right-ready, omega (arith, size-is (a .a), start .pre .1, neighbour-size-from-put-u32 (after-put-u16 .before .before .before .before) .neighbour-size .ensures, put-u32-from-put-u16 after-put-u16 .put-u32 .kept .0, after-put-u16 .put-u16 .kept .0, after-put-u162 .put-u162 .kept .0, after-put-digest .put-digest .kept .0, after-put-neighbour .put-neighbour .kept .0))
+    (start .pre .0 .right-ready, omega (arith, size-is (a .a), start .pre .1, after-put-u32 .before .before .neighbour-size .ensures, after-put-u32 .put-u32 .kept .0, after-put-u16 .put-u16 .kept .0, after-put-u162 .put-u162 .kept .0, after-put-digest .put-digest .kept .0, after-put-neighbour .put-neighbour .kept .0))
 
 same-length : tie.Need-same-length
 same-length c =
-    let after-put-neighbour2 = c .before .before in
-    let after-put-neighbour = after-put-neighbour2 .before .before .before .before in
-    let after-put-digest = after-put-neighbour .before .before .before .before .before in
-    let after-put-u162 = after-put-digest .before .before .before .before .before in
-    let after-put-u16 = after-put-u162 .before .before .before .before in
+    let after-put-neighbour2 = put-neighbour2-from-slice-known7 c in
+    let after-put-neighbour = put-neighbour-from-put-neighbour-arg3 (after-put-neighbour2 .before) in
+    let after-put-digest = put-digest-from-put-neighbour after-put-neighbour in
+    let after-put-u162 = put-u162-from-put-digest after-put-digest in
+    let after-put-u16 = put-u16-from-put-u162 after-put-u162 in
     after-put-neighbour2 .put-neighbour2 .kept .0 ∙ after-put-neighbour .put-neighbour .kept .0 ∙ after-put-digest .put-digest .kept .0 ∙ after-put-u162 .put-u162 .kept .0 ∙ after-put-u16 .put-u16 .kept .0 ∙ put-u32-from-put-u16 after-put-u16 .put-u32 .kept .0
 
 returns : tie.Need-returns
 unfolding slice
 returns c =
-    let after-put-neighbour2 = c .before .before in
-    let after-put-neighbour = after-put-neighbour2 .before .before .before .before in
-    let after-put-digest = after-put-neighbour .before .before .before .before .before in
-    let after-put-u162 = after-put-digest .before .before .before .before .before in
-    let after-put-u16 = after-put-u162 .before .before .before .before in
+    let after-put-neighbour2 = put-neighbour2-from-slice-known7 c in
+    let after-put-neighbour = put-neighbour-from-put-neighbour-arg3 (after-put-neighbour2 .before) in
+    let after-put-digest = put-digest-from-put-neighbour after-put-neighbour in
+    let after-put-u162 = put-u162-from-put-digest after-put-digest in
+    let after-put-u16 = put-u16-from-put-u162 after-put-u162 in
     let after-put-u32 = put-u32-from-put-u16 after-put-u16 in
-    let after-neighbour-size = neighbour-size-from-put-u32 after-put-u32 in
+    let after-neighbour-size = after-put-u32 .before .before in
     let after-absence-size = after-neighbour-size .before in
     let after-flag2 = after-absence-size .before in
     let after-flag = after-flag2 .before in

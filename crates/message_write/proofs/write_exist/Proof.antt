@@ -20,6 +20,12 @@ start-from-slice-known c = c .before .before .before .before
 abbrev start-from-field-size : tie.After-field-size → tie.Start
 start-from-field-size c = start-from-slice-known (c .before .before)
 
+abbrev field-size-from-put-head-arg : tie.After-put-head-arg → tie.After-field-size
+field-size-from-put-head-arg c = c .before .before
+
+abbrev put-head-from-put-existence-arg : tie.After-put-existence-arg → tie.After-put-head
+put-head-from-put-existence-arg c = c .before .before .before
+
 existence-size-requires : tie.Need-existence-size-requires
 existence-size-requires c κs =
     let start = start-from-slice-known c in
@@ -50,21 +56,20 @@ put-head-requires c κs =
 
 put-existence-requires : tie.Need-put-existence-requires
 put-existence-requires c κs =
-    let after-put-head = c .before .before .before in
-    let else1 = after-put-head .before .before in
-    let after-field-size = else1 .before in
+    let after-put-head = put-head-from-put-existence-arg c in
+    let after-put-head-arg = after-put-head .before in
+    let after-field-size = field-size-from-put-head-arg after-put-head-arg in
     let start = start-from-field-size after-field-size in
     let a = start .args in
     let s = after-field-size .before .existence-size .ensures in
     let e = exist-total (a .key .now) (a .value .now) (presenceIn (a .p .now)) (start .pre .1) (s .0) (after-field-size .field-size .ensures .0) in
     let w = exist-parts (a .key .now) (a .value .now) (presenceIn (a .p .now)) (start .pre .1) (s .0) (after-field-size .field-size .ensures .0) in
-    (start .pre, room-second (after-put-head .put-head .ensures) w (record { fits = omega (arith, e, else1 .if1 .left) }))
+    (start .pre, room-second (after-put-head .put-head .ensures) w (record { fits = omega (arith, e, after-put-head-arg .before .if1 .left) }))
 
 cast-t15 : tie.Need-cast-t15
 cast-t15 c =
     let after-put-existence-arg = c .before .before .before in
-    let else1 = after-put-existence-arg .before .before .before .before .before in
-    let after-field-size = else1 .before in
+    let after-field-size = field-size-from-put-head-arg (after-put-existence-arg .before .before .before .before) in
     omega (arith, after-field-size .before .existence-size .ensures .1, after-field-size .field-size .ensures .1)
 
 same-length : tie.Need-same-length
@@ -73,7 +78,7 @@ same-length c = search needs
 returns-2 : tie.Need-returns-2
 returns-2 c =
     let after-put-existence = c .before .before in
-    let after-put-head = after-put-existence .before .before .before .before in
+    let after-put-head = put-head-from-put-existence-arg (after-put-existence .before) in
     let else1 = after-put-head .before .before in
     let after-field-size = else1 .before in
     let start = start-from-field-size after-field-size in

@@ -1,6 +1,5 @@
 -- `move_count::child_slot` meets its contract: a guess that is right is what is found. Assumes nothing.
 use native.Mathlib.Omega.{arith}
-use borrow.Author.Needs.{needs}
 use mathlib.Core.Path.{subst}
 use Rattle.place.specs.Place.{placeOf}
 use Rattle.move_count.proofs.Nodes.{no-version}

@@ -1,7 +1,6 @@
 -- `move_count::count_at_level` meets its contract: the slot has the level, or nothing is written. Assumes nothing.
 use native.Mathlib.Omega.{arith}
 use borrow.Author.Needs.{needs}
-use mathlib.Core.Path.{sym, _∙_}
 use Rattle.check_pass.proofs.Records.{slot-small}
 use Rattle.move_count.proofs.Levels.{off-level, on-level, level-inner}
 use Rattle.move_count.proofs.count_at_level.Statement.{statement}

@@ -1,6 +1,5 @@
 -- `move_count::count_leaves` meets its contract: level by level, with guesses. Assumes nothing.
 use native.Mathlib.Omega.{arith}
-use borrow.Author.Needs.{needs}
 use Rattle.layout.proofs.Headers.{size-says}
 use Rattle.terms.specs.declared.Form.the-variants.{Plain as plain}
 use lib.ListN.{length}

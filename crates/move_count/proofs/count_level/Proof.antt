@@ -1,7 +1,6 @@
 -- `move_count::count_level` meets its contract: slot by slot. Assumes nothing.
 use Prim.Native.Nat.{_-_}
 use native.Mathlib.Omega.{arith}
-use borrow.Author.Needs.{needs}
 use Rattle.check_pass.proofs.Records.{room-has, slot-small}
 use Rattle.move_count.proofs.Levels.{Counting, counting-starts, counting-longer, counting-next, counting-done}
 use Rattle.move_count.proofs.count_level.Statement.{statement}

@@ -1,9 +1,7 @@
 -- `move_count::count_levels` meets its contract: level by level. Assumes nothing.
 use Prim.Native.Nat.{ℕ, _≤_}
 use native.Mathlib.Omega.{arith}
-use borrow.Author.Needs.{needs}
 use lib.ListN.{length-replicate}
-use mathlib.Core.Path.{subst}
 use Rattle.move_count.specs.Count.{CountedFrom}
 use Rattle.move_count.proofs.Levels.{none-longest, level-next, levels-done}
 use Rattle.move_count.proofs.count_levels.Statement.{statement}

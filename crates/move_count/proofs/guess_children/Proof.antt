@@ -1,5 +1,4 @@
 -- `move_count::guess_children` meets its contract: whatever is guessed. Assumes nothing.
-use native.Mathlib.Omega.{arith}
 use borrow.Author.Needs.{needs}
 use Rattle.move_count.proofs.guess_children.Statement.{statement}
 use Rattle.move_count.proofs.guess_children.Tie as tie

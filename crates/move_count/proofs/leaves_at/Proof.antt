@@ -1,5 +1,4 @@
 -- `move_count::leaves_at` meets its contract: what was found, weighed by the table. Assumes nothing.
-use native.Mathlib.Omega.{arith}
 use borrow.Author.Needs.{needs}
 use mathlib.Core.Path.{subst}
 use Rattle.place.specs.Place.{placeOf}

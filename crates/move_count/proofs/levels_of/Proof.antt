@@ -1,7 +1,6 @@
 -- `move_count::levels_of` meets its contract: slot by slot. Assumes nothing.
 use Prim.Native.Nat.{_-_, _≤_}
 use native.Mathlib.Omega.{arith}
-use borrow.Author.Needs.{needs}
 use Rattle.check_pass.proofs.Records.{room-has, slot-small}
 use Rattle.move_count.specs.Count.{Leveled}
 use Rattle.move_count.proofs.Levels.{levels-start, levels-next, levels-all}

@@ -1,7 +1,6 @@
 -- `move_count::weight_of` meets its contract: a leaf is one, an inner record what the table has. Assumes nothing.
 use native.Mathlib.Omega.{arith}
 use borrow.Author.Needs.{needs}
-use mathlib.Core.Path.{sym, _∙_}
 use Rattle.check_pass.proofs.Records.{slot-small}
 use Rattle.store.proofs.Slots.{slot-within}
 use Rattle.move_count.proofs.Nodes.{leaf-weighs, inner-weighs}

@@ -24,10 +24,12 @@ element-write-x c = search needs
 
 returns : tie.Need-returns
 returns c =
-    let s = c .before .before .before .before in
-    let a = s .args in
-    let w = c .before .before .first-words in
-    rw (c .before .put-words .ensures) (put-lane (a .x .now) (a .l) (a .m .kind) (a .m .left) (a .m .right) (w .result) (c .last-word .result) (s .pre .0) (s .pre .1) (w .ensures) (c .last-word .ensures))
+    let after-put-words = c .before in
+    let after-first-words = after-put-words .before in
+    let start = after-first-words .before .before in
+    let a = start .args in
+    let w = after-first-words .first-words in
+    rw (after-put-words .put-words .ensures) (put-lane (a .x .now) (a .l) (a .m .kind) (a .m .left) (a .m .right) (w .result) (c .last-word .result) (start .pre .0) (start .pre .1) (w .ensures) (c .last-word .ensures))
 
 pub put-message-spec : {M : Type 1} → statement M
 put-message-spec =

@@ -28,7 +28,7 @@ returns-3 c =
     let after-leads = c .before in
     let after-wide = after-leads .before .before in
     let s = storeOf (after-wide .before .before .args .store .now) .slots in
-    λ h. subst (Leads s) (omega (arith, after-wide .wide .ensures)) (passed-so (after-leads .leads .result) (c .if2 .left) (after-leads .leads .ensures))
+    λ h. subst (Leads s) (omega (arith, after-wide .wide .ensures .0)) (passed-so (after-leads .leads .result) (c .if2 .left) (after-leads .leads .ensures))
 
 pub kept-spec : {M : Type 1} → statement M
 kept-spec =

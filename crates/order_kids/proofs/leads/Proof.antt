@@ -40,7 +40,7 @@ returns-3 c =
     let after-wide2 = else2 .before in
     let after-wide-arg2 = after-wide2 .before in
     let s = storeOf (after-wide-arg2 .before .before .before .before .before .args .store .now) .slots in
-    subst (λ i. Passed (c .leads-at .result) (Leads s i)) (sym (after-wide2 .wide2 .ensures) ∙ else2 .if2 .left) (c .leads-at .ensures)
+    subst (λ i. Passed (c .leads-at .result) (Leads s i)) (sym (after-wide2 .wide2 .ensures .0) ∙ else2 .if2 .left) (c .leads-at .ensures)
 
 pub leads-spec : {M : Type 1} → statement M
 leads-spec =

@@ -45,7 +45,7 @@ node-before-requires : tie.Need-node-before-requires
 node-before-requires c κs =
     let after-wide = c .before .before in
     let start = start-from-wide after-wide in
-    (entry-formed (start .pre .0) (start .args .k - 1) (omega (arith, start .pre .1)) (after-wide .wide .ensures), entry-formed (start .pre .0) (start .args .k) (start .pre .1) (c .wide2 .ensures))
+    (entry-formed (start .pre .0) (start .args .k - 1) (omega (arith, start .pre .1)) (after-wide .wide .ensures .0), entry-formed (start .pre .0) (start .args .k) (start .pre .1) (c .wide2 .ensures .0))
 
 returns-2 : tie.Need-returns-2
 returns-2 c =
@@ -55,7 +55,7 @@ returns-2 c =
     let s = storeOf (start .args .store .now) .slots in
     pass-map (c .node-before .result)
     (λ h. leads-after (in-order (start .pre .0) (omega (arith, start .pre .1))) (start .args .k) (start .pre .1) (omega (arith, after-wide .before .before .if1 .left))
-    (subst₂ (λ i j. before (keyNo s i) (keyNo s j) ≡ true) (after-wide .wide .ensures) (after-wide2 .wide2 .ensures) h))
+    (subst₂ (λ i j. before (keyNo s i) (keyNo s j) ≡ true) (after-wide .wide .ensures .0) (after-wide2 .wide2 .ensures .0) h))
     (c .node-before .ensures)
 
 pub leads-at-spec : {M : Type 1} → statement M

@@ -55,7 +55,7 @@ returns c =
     let a = start .args in
     let x = slotIn counted (a .j) (a .store .now) in
     stands-before (all-of Byte (a .store .now) 0 (λ i _. omega (arith, after-wide .before .before .shared-slice-known .given i))) (start .pre .0) (start .pre .1)
-    (all-same _ (countIn x) _ (bitsIn x) _ (versionIn x) (after-wide .wide .ensures ∙ after-wide .before .count-at .ensures)
+    (all-same _ (countIn x) _ (bitsIn x) _ (versionIn x) (after-wide .wide .ensures .0 ∙ after-wide .before .count-at .ensures)
     (after-bits-of .bits-of .ensures .0 ∙ ap bitsIn (after-slot-of .slot-of .ensures .0)) (after-version-at .version-at .ensures))
     _ (after-compared .compared .ensures) (c .enum-told .given .1)
 

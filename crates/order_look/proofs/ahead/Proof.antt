@@ -57,7 +57,7 @@ returns c =
     let a = start .args in
     ahead-before (all-of Byte (start .args .store .now) 0 (λ i _. omega (arith, after-wide .before .before .shared-slice-known .given i))) (start .pre .0) (start .pre .1)
     (all-same _ (countIn (slotIn counted (a .j) (a .store .now))) _ (bitsIn (slotIn counted (a .j) (a .store .now))) _ (versionIn (slotIn counted (a .j) (a .store .now)))
-    (after-wide .wide .ensures ∙ after-wide .before .count-at .ensures) (after-bits-of .bits-of .ensures .0 ∙ ap bitsIn (after-slot-of .slot-of .ensures .0)) (after-version-at .version-at .ensures))
+    (after-wide .wide .ensures .0 ∙ after-wide .before .count-at .ensures) (after-bits-of .bits-of .ensures .0 ∙ ap bitsIn (after-slot-of .slot-of .ensures .0)) (after-version-at .version-at .ensures))
     _ (after-compared .compared .ensures) (c .enum-told .given .1)
 
 returns-2 : tie.Need-returns-2
@@ -74,7 +74,7 @@ returns-3 c =
     let a = start .args in
     ahead-same (all-of Byte (start .args .store .now) 0 (λ i _. omega (arith, after-wide .before .before .shared-slice-known .given i))) (start .pre .0) (start .pre .1)
     (all-same _ (countIn (slotIn counted (a .j) (a .store .now))) _ (bitsIn (slotIn counted (a .j) (a .store .now))) _ (versionIn (slotIn counted (a .j) (a .store .now)))
-    (after-wide .wide .ensures ∙ after-wide .before .count-at .ensures) (after-bits-of .bits-of .ensures .0 ∙ ap bitsIn (after-slot-of .slot-of .ensures .0)) (after-version-at .version-at .ensures))
+    (after-wide .wide .ensures .0 ∙ after-wide .before .count-at .ensures) (after-bits-of .bits-of .ensures .0 ∙ ap bitsIn (after-slot-of .slot-of .ensures .0)) (after-version-at .version-at .ensures))
     _ (after-compared .compared .ensures) (c .enum-told3 .given .1)
     (ltb (a .i) (a .j)) refl
 

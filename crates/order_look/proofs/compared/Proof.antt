@@ -30,14 +30,14 @@ returns c =
     let after-wide = c .before in
     let a = start-from-wide after-wide .args in
     let x = slotIn counted (a .i) (a .store .now) in
-    by-count (countIn x) (a .count) (bitsIn x) (a .bits .now) (versionIn x) (a .version) (omega (arith, after-wide .before .count-at .ensures, after-wide .wide .ensures, c .if1 .taken))
+    by-count (countIn x) (a .count) (bitsIn x) (a .bits .now) (versionIn x) (a .version) (omega (arith, after-wide .before .count-at .ensures, after-wide .wide .ensures .0, c .if1 .taken))
 
 returns-2 : tie.Need-returns-2
 returns-2 c =
     let after-wide = c .before .before in
     let a = start-from-wide after-wide .args in
     let x = slotIn counted (a .i) (a .store .now) in
-    by-count (a .count) (countIn x) (a .bits .now) (bitsIn x) (a .version) (versionIn x) (omega (arith, after-wide .before .count-at .ensures, after-wide .wide .ensures, c .if2 .taken))
+    by-count (a .count) (countIn x) (a .bits .now) (bitsIn x) (a .version) (versionIn x) (omega (arith, after-wide .before .count-at .ensures, after-wide .wide .ensures .0, c .if2 .taken))
 
 slot-of-requires : tie.Need-slot-of-requires
 slot-of-requires c κs = slot-within (start-from-wide (c .before .before) .pre .0)
@@ -73,7 +73,7 @@ returns-3 c =
     let x = slotIn counted (a .i) (a .store .now) in
     let own = after-bits-of .bits-of .ensures .0 ∙ ap bitsIn (after-slot-of .slot-of .ensures .0) in
     let told = subst (λ y. BytesStand (after-bits-stand .bits-stand .result) y (a .bits .now)) own (after-bits-stand .bits-stand .ensures) in
-    let count : countIn x ≡ a .count = omega (arith, after-wide .before .count-at .ensures, after-wide .wide .ensures, else1 .if1 .left, else2 .if2 .left) in
+    let count : countIn x ≡ a .count = omega (arith, after-wide .before .count-at .ensures, after-wide .wide .ensures .0, else1 .if1 .left, else2 .if2 .left) in
     by-bits (countIn x) (a .count) (bitsIn x) (a .bits .now) (versionIn x) (a .version) count
     (ap length (sym own) ∙ after-bits-of .bits-of .ensures .1 ∙ sym (start .pre .1)) (subst (λ l. BytesStand l (bitsIn x) (a .bits .now)) (c .enum-told .given .1) told)
 
@@ -90,7 +90,7 @@ returns-4 c =
     let x = slotIn counted (a .i) (a .store .now) in
     let own = after-bits-of .bits-of .ensures .0 ∙ ap bitsIn (after-slot-of .slot-of .ensures .0) in
     let told = subst (λ y. BytesStand (after-bits-stand .bits-stand .result) y (a .bits .now)) own (after-bits-stand .bits-stand .ensures) in
-    let count : a .count ≡ countIn x = omega (arith, after-wide .before .count-at .ensures, after-wide .wide .ensures, else1 .if1 .left, else2 .if2 .left) in
+    let count : a .count ≡ countIn x = omega (arith, after-wide .before .count-at .ensures, after-wide .wide .ensures .0, else1 .if1 .left, else2 .if2 .left) in
     by-bits (a .count) (countIn x) (a .bits .now) (bitsIn x) (a .version) (versionIn x) count
     (sym (ap length (sym own) ∙ after-bits-of .bits-of .ensures .1 ∙ sym (start .pre .1))) (subst (λ l. BytesStand l (bitsIn x) (a .bits .now)) (c .enum-told2 .given .1) told)
 
@@ -107,7 +107,7 @@ returns-5 c =
     let x = slotIn counted (a .i) (a .store .now) in
     let own = after-bits-of .bits-of .ensures .0 ∙ ap bitsIn (after-slot-of .slot-of .ensures .0) in
     let told = subst (λ y. BytesStand (after-bits-stand .bits-stand .result) y (a .bits .now)) own (after-bits-stand .bits-stand .ensures) in
-    let count : countIn x ≡ a .count = omega (arith, after-wide .before .count-at .ensures, after-wide .wide .ensures, else1 .if1 .left, else2 .if2 .left) in
+    let count : countIn x ≡ a .count = omega (arith, after-wide .before .count-at .ensures, after-wide .wide .ensures .0, else1 .if1 .left, else2 .if2 .left) in
     by-versions (countIn x) (a .count) (bitsIn x) (a .bits .now) (versionIn x) (a .version) count (subst (λ l. BytesStand l (bitsIn x) (a .bits .now)) (after-enum-told3 .enum-told3 .given .1) told)
     (c .version-stands .result) (c .version-stands .ensures)
 

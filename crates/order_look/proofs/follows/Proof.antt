@@ -36,7 +36,7 @@ returns-2 c =
     let after-names-form = else1 .before in
     let start = start-from-names-form after-names-form in
     let a = start .args in
-    order-next (a .store .now) (a .table .now) (a .k) (start .pre .2) (after-names-form .before .wide .ensures)
+    order-next (a .store .now) (a .table .now) (a .k) (start .pre .2) (after-names-form .before .wide .ensures .0)
     (passed-so (after-names-form .names-form .result) (else1 .if1 .left) (after-names-form .names-form .ensures)) (λ h. absurd (omega (arith, h, c .if2 .taken)))
 
 sub-wide : tie.Need-sub-wide
@@ -58,7 +58,7 @@ ahead-requires c κs =
     let after-names-form = else1 .before in
     let start = start-from-names-form after-names-form in
     let a = start .args in (
-      subst (Formed (a .store .now)) (sym (c .wide2 .ensures)) (start .pre .2 .each (a .k - 1) (omega (arith, else2 .if2 .left))),
+      subst (Formed (a .store .now)) (sym (c .wide2 .ensures .0)) (start .pre .2 .each (a .k - 1) (omega (arith, else2 .if2 .left))),
       passed-so (after-names-form .names-form .result) (else1 .if1 .left) (after-names-form .names-form .ensures),
     )
 
@@ -70,9 +70,9 @@ returns-3 c =
     let start = start-from-names-form after-names-form in
     let a = start .args in
     pass-map (c .ahead .result)
-    (λ up. order-next (a .store .now) (a .table .now) (a .k) (start .pre .2) (after-names-form .before .wide .ensures)
+    (λ up. order-next (a .store .now) (a .table .now) (a .k) (start .pre .2) (after-names-form .before .wide .ensures .0)
     (passed-so (after-names-form .names-form .result) (else1 .if1 .left) (after-names-form .names-form .ensures))
-    (λ h. subst (λ z. Ahead (storeOf (a .store .now) .slots) z (after-names-form .before .wide .result)) (after-wide2 .wide2 .ensures) up))
+    (λ h. subst (λ z. Ahead (storeOf (a .store .now) .slots) z (after-names-form .before .wide .result)) (after-wide2 .wide2 .ensures .0) up))
     (c .ahead .ensures)
 
 pub follows-spec : {M : Type 1} → statement M

@@ -51,7 +51,7 @@ returns-3 c =
     let else2 = c .before .before in
     let a = start-from-holds-record (else2 .before .before .before) .args in
     pass-map (eqb (c .wide2 .result) (a .i)) (λ n f. n)
-    (named-here (eqb (c .wide2 .result) (a .i)) (a .table .now) (a .i) {n = a .many} _ (omega (arith, else2 .if2 .left)) (c .wide2 .ensures) refl)
+    (named-here (eqb (c .wide2 .result) (a .i)) (a .table .now) (a .i) {n = a .many} _ (omega (arith, else2 .if2 .left)) (c .wide2 .ensures .0) refl)
 
 pub slot-named-spec : {M : Type 1} → statement M
 slot-named-spec =

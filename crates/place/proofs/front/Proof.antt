@@ -39,23 +39,24 @@ loop-holds : tie.Need-loop-holds Inv-loop μ-loop
 loop-holds c = (omega arith, c .top .ensures)
 
 -- `A-from-B` is the state A as the later state B has it.
+abbrev start-from-at-loop : tie.At-loop Inv-loop μ-loop → tie.Start Inv-loop μ-loop
+start-from-at-loop c = c .before .before .before
+
 abbrev start-from-key-bit : tie.After-key-bit Inv-loop μ-loop → tie.Start Inv-loop μ-loop
-start-from-key-bit c = c .before .before .before .before .before
+start-from-key-bit c = start-from-at-loop (c .before .before)
 
 abbrev start-from-child-place : tie.After-child-place Inv-loop μ-loop → tie.Start Inv-loop μ-loop
 start-from-child-place c = start-from-key-bit (c .before)
 
-abbrev start-from-at-loop : tie.At-loop Inv-loop μ-loop → tie.Start Inv-loop μ-loop
-start-from-at-loop c = c .before .before .before
-
 key-bit-requires : tie.Need-key-bit-requires Inv-loop μ-loop
 key-bit-requires c κs =
-    let at-loop = c .before in
-    let start = at-loop .before .before .before in
-    omega (arith, start .pre .0, start .pre .1, at-loop .loop .inv .0)
+    let start = start-from-at-loop (c .before) in
+    omega (arith, start .pre .0, start .pre .1, c .before .loop .inv .0)
 
 child-place-requires : tie.Need-child-place-requires Inv-loop μ-loop
-child-place-requires c κs = (c .before .before .loop .inv .1 .proper, omega (arith, start-from-key-bit c .pre .1, c .before .before .loop .inv .1 .count))
+child-place-requires c κs =
+    let at-loop = c .before .before in
+    (at-loop .loop .inv .1 .proper, omega (arith, start-from-at-loop at-loop .pre .1, at-loop .loop .inv .1 .count))
 
 add-i : tie.Need-add-i Inv-loop μ-loop
 add-i c = omega (arith, start-from-child-place c .pre .1)

@@ -16,8 +16,11 @@ abbrev μ-loop : tie.MeasureT-loop
 μ-loop b count whole i₀ i = length b - i
 
 -- `A-from-B` is the state A as the later state B has it.
+abbrev start-from-else2 : tie.Else2 Inv-loop μ-loop → tie.Start Inv-loop μ-loop
+start-from-else2 c = c .before .before .before
+
 abbrev start-from-at-loop : tie.At-loop Inv-loop μ-loop → tie.Start Inv-loop μ-loop
-start-from-at-loop c = c .before .before .before .before
+start-from-at-loop c = start-from-else2 (c .before)
 
 returns : tie.Need-returns Inv-loop μ-loop
 returns c = sym (unused-none (c .before .args .b .now) (c .before .args .count) (c .if1 .taken))
@@ -38,7 +41,7 @@ add-i : tie.Need-add-i Inv-loop μ-loop
 add-i c = omega arith
 
 loop-holds : tie.Need-loop-holds Inv-loop μ-loop
-loop-holds c = let a = c .before .before .before .args in (omega arith, unused-first (a .b .now) (a .count) (omega arith) (c .if2 .left))
+loop-holds c = let a = start-from-else2 c .args in (omega arith, unused-first (a .b .now) (a .count) (omega arith) (c .if2 .left))
 
 shared-slice-read-if3 : tie.Need-shared-slice-read-if3 Inv-loop μ-loop
 shared-slice-read-if3 c = omega arith

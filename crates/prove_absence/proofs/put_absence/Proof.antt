@@ -23,6 +23,24 @@ start-from-flag2 c = c .before .before .before .before .before
 abbrev start-from-neighbour-length : tie.After-neighbour-length → tie.Start
 start-from-neighbour-length c = start-from-flag2 (c .before)
 
+abbrev neighbour-length-from-put-u32 : tie.After-put-u32 → tie.After-neighbour-length
+neighbour-length-from-put-u32 c = c .before .before
+
+abbrev put-u32-from-put-u16 : tie.After-put-u16 → tie.After-put-u32
+put-u32-from-put-u16 c = c .before .before .before .before
+
+abbrev put-u16-from-put-u162 : tie.After-put-u162 → tie.After-put-u16
+put-u16-from-put-u162 c = c .before .before .before .before
+
+abbrev put-u162-from-copy : tie.After-copy → tie.After-put-u162
+put-u162-from-copy c = c .before .before .before .before
+
+abbrev copy-from-put-neighbour-arg : tie.After-put-neighbour-arg → tie.After-copy
+copy-from-put-neighbour-arg c = c .before .before .before
+
+abbrev put-neighbour-from-put-neighbour-arg2 : tie.After-put-neighbour-arg2 → tie.After-put-neighbour
+put-neighbour-from-put-neighbour-arg2 c = c .before .before .before
+
 add-flags : tie.Need-add-flags
 add-flags c = let a = start-from-flag2 c .args in omega (arith, flag-most (a .left) 1, flag-most (a .right) 2, c .flag2 .ensures, c .before .flag .ensures)
 
@@ -71,11 +89,11 @@ part-put-neighbour-end c = search needs
 
 put-neighbour-requires : tie.Need-put-neighbour-requires
 put-neighbour-requires c κs =
-    let after-copy = c .before .before .before in
-    let after-put-u162 = after-copy .before .before .before .before in
-    let after-put-u16 = after-put-u162 .before .before .before .before in
-    let after-put-u32 = after-put-u16 .before .before .before .before in
-    let after-neighbour-length = after-put-u32 .before .before in
+    let after-copy = copy-from-put-neighbour-arg c in
+    let after-put-u162 = put-u162-from-copy after-copy in
+    let after-put-u16 = put-u16-from-put-u162 after-put-u162 in
+    let after-put-u32 = put-u32-from-put-u16 after-put-u16 in
+    let after-neighbour-length = neighbour-length-from-put-u32 after-put-u32 in
     let start = start-from-neighbour-length after-neighbour-length in
     let e = after-neighbour-length .neighbour-length .ensures in
     let k = after-put-u162 .put-u162 .kept .0 ∙ after-put-u16 .put-u16 .kept .0 ∙ after-put-u32 .put-u32 .kept .0 in
@@ -96,12 +114,12 @@ part-put-neighbour-end-2 c = search needs
 
 put-neighbour-requires-2 : tie.Need-put-neighbour-requires-2
 put-neighbour-requires-2 c κs =
-    let after-put-neighbour = c .before .before .before in
-    let after-copy = after-put-neighbour .before .before .before .before in
-    let after-put-u162 = after-copy .before .before .before .before in
-    let after-put-u16 = after-put-u162 .before .before .before .before in
-    let after-put-u32 = after-put-u16 .before .before .before .before in
-    let after-neighbour-length = after-put-u32 .before .before in
+    let after-put-neighbour = put-neighbour-from-put-neighbour-arg2 c in
+    let after-copy = copy-from-put-neighbour-arg (after-put-neighbour .before) in
+    let after-put-u162 = put-u162-from-copy after-copy in
+    let after-put-u16 = put-u16-from-put-u162 after-put-u162 in
+    let after-put-u32 = put-u32-from-put-u16 after-put-u16 in
+    let after-neighbour-length = neighbour-length-from-put-u32 after-put-u32 in
     let start = start-from-neighbour-length after-neighbour-length in
     let e = after-neighbour-length .neighbour-length .ensures in
     let k = after-put-u162 .put-u162 .kept .0 ∙ after-put-u16 .put-u16 .kept .0 ∙ after-put-u32 .put-u32 .kept .0 in
@@ -122,12 +140,12 @@ same-length c = search needs
 returns : tie.Need-returns
 returns c =
     let after-put-neighbour2 = c .before .before in
-    let after-put-neighbour = after-put-neighbour2 .before .before .before .before in
-    let after-copy = after-put-neighbour .before .before .before .before in
-    let after-put-u162 = after-copy .before .before .before .before in
-    let after-put-u16 = after-put-u162 .before .before .before .before in
-    let after-put-u32 = after-put-u16 .before .before .before .before in
-    let after-neighbour-length = after-put-u32 .before .before in
+    let after-put-neighbour = put-neighbour-from-put-neighbour-arg2 (after-put-neighbour2 .before) in
+    let after-copy = copy-from-put-neighbour-arg (after-put-neighbour .before) in
+    let after-put-u162 = put-u162-from-copy after-copy in
+    let after-put-u16 = put-u16-from-put-u162 after-put-u162 in
+    let after-put-u32 = put-u32-from-put-u16 after-put-u16 in
+    let after-neighbour-length = neighbour-length-from-put-u32 after-put-u32 in
     let after-flag2 = after-neighbour-length .before in
     let start = start-from-flag2 after-flag2 in
     let a = start .args in

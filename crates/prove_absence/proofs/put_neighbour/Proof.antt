@@ -2,7 +2,7 @@
 use mathlib.Core.Path.{refl, ap, sym, _∙_}
 use Rattle.proofrecords.specs.ProofBytes.{neighbourBytes}
 use Rattle.prove_paths.specs.Neighbours.{wayAt, found, neighbourAt, roomFor}
-use Rattle.prove_paths.specs.declared.Way.the-variants.{Lost, Nobody}
+use Rattle.prove_paths.specs.declared.Way.the-variants.{Stopped, Nobody}
 use Rattle.prove_absence.proofs.Absences.{somebody-in, nobody-put}
 use borrow.Author.Needs.{needs}
 use Rattle.prove_absence.proofs.put_neighbour.Statement.{statement}
@@ -46,7 +46,7 @@ returns-2 c = let a = c .before .before .before .before .before in nobody-put (a
 
 returns-3 : tie.Need-returns-3
 unfolding neighbourAt roomFor
-returns-3 c = let a = c .before .before .before .before .before in nobody-put (a .args .store .now) (a .args .part .now) (a .args .n .path) (Lost _) (c .enum-told3 .given .1) refl refl (a .pre .1)
+returns-3 c = let a = c .before .before .before .before .before in nobody-put (a .args .store .now) (a .args .part .now) (a .args .n .path) (Stopped _) (c .enum-told3 .given .1) refl refl (a .pre .1)
 
 pub put-neighbour-spec : {M : Type 1} → statement M
 put-neighbour-spec =

@@ -18,14 +18,20 @@ abbrev μ-loop : tie.MeasureT-loop
 μ-loop part₀ store slots bits depth₀ start₀ part depth start = depth
 
 -- `A-from-B` is the state A as the later state B has it.
+abbrev start-from-bits : tie.After-bits Inv-loop μ-loop → tie.Start Inv-loop μ-loop
+start-from-bits c = c .before .before .before .before .before
+
+abbrev start-from-at-loop : tie.At-loop Inv-loop μ-loop → tie.Start Inv-loop μ-loop
+start-from-at-loop c = start-from-bits (c .before)
+
+abbrev at-loop-from-bits2 : tie.After-bits2 Inv-loop μ-loop → tie.At-loop Inv-loop μ-loop
+at-loop-from-bits2 c = c .before .before .before
+
 abbrev at-loop-from-key-bit : tie.After-key-bit Inv-loop μ-loop → tie.At-loop Inv-loop μ-loop
 at-loop-from-key-bit c = c .before .before .before .before
 
-abbrev start-from-at-loop : tie.At-loop Inv-loop μ-loop → tie.Start Inv-loop μ-loop
-start-from-at-loop c = c .before .before .before .before .before .before
-
 loop-holds : tie.Need-loop-holds Inv-loop μ-loop
-loop-holds c = steps-start _ _ _ _ _ (c .before .before .before .before .before .pre .1)
+loop-holds c = steps-start _ _ _ _ _ (start-from-bits c .pre .1)
 
 sub-depth : tie.Need-sub-depth Inv-loop μ-loop
 sub-depth c = omega arith
@@ -58,7 +64,7 @@ slice-aggregate-key-bit c = search needs
 
 key-bit-requires : tie.Need-key-bit-requires Inv-loop μ-loop
 key-bit-requires c κs =
-    let at-loop = c .before .before .before in
+    let at-loop = at-loop-from-bits2 c in
     let start = start-from-at-loop at-loop in
     omega (arith, proper-whole (start .args .path .place) (start .pre .0 .proper), start .pre .0 .proper .short, at-loop .loop .inv .within)
 
@@ -75,8 +81,9 @@ loop-again : tie.Need-loop-again Inv-loop μ-loop
 loop-again c =
     let after-put-step = c .before .before in
     let after-key-bit = after-put-step .before in
-    let at-loop = at-loop-from-key-bit after-key-bit in
-    steps-next (at-loop .loop .depth) (after-put-step .put-step .last .0) (at-loop .loop .inv) (after-key-bit .before .before .before .loop-test .taken)
+    let after-bits2 = after-key-bit .before in
+    let at-loop = at-loop-from-bits2 after-bits2 in
+    steps-next (at-loop .loop .depth) (after-put-step .put-step .last .0) (at-loop .loop .inv) (after-bits2 .before .before .loop-test .taken)
     (after-put-step .put-step .kept .0 ∙ simp (length-take, length-drop) (omega (arith, at-loop .loop .inv))) (after-key-bit .key-bit .ensures) (after-put-step .put-step .ensures)
 
 same-length : tie.Need-same-length Inv-loop μ-loop

@@ -1,5 +1,5 @@
 -- `prove_plan::plan_of` meets its contract, by where the walk ends. Assumes nothing.
-use Rattle.prove_plan.proofs.Ending.{ends-lost, ends-at-leaf, ends-at-gap}
+use Rattle.prove_plan.proofs.Ending.{ends-stopped, ends-at-leaf, ends-at-gap}
 use borrow.Author.Needs.{needs}
 use Rattle.prove_plan.proofs.plan_of.Statement.{statement}
 use Rattle.prove_plan.proofs.plan_of.Tie as tie
@@ -35,7 +35,7 @@ returns c =
     let after-seen = after-refusal .before .before in
     let after-walk = after-seen .before .before .before in
     let a = start-from-walk after-walk .args in
-    ends-lost (a .store .now) (a .index .now) (a .version) (a .key .now) (after-walk .walk .result) (after-walk .walk .ensures) _ (after-seen .seen .given .1)
+    ends-stopped (a .store .now) (a .index .now) (a .version) (a .key .now) (after-walk .walk .result) (after-walk .walk .ensures) _ (after-seen .seen .given .1)
     (after-refusal .refusal .ensures) (c .at-end .ensures)
 
 returns-2 : tie.Need-returns-2

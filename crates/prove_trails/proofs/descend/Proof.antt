@@ -3,9 +3,9 @@ use Prim.Native.Nat.{_-_}
 use native.Mathlib.Omega.{arith}
 use borrow.Author.Needs.{needs}
 use mathlib.Core.Path.{refl}
-use Rattle.read_step.specs.declared.Seen.the-variants.{Gap, Lost}
+use Rattle.read_step.specs.declared.Seen.the-variants.{Gap, Stopped}
 use Rattle.prove_trails.proofs.Trails.{at-inner}
-use Rattle.prove_trails.proofs.Searches.{Descent, descent-start, descent-next, descent-leaf, descent-lost}
+use Rattle.prove_trails.proofs.Searches.{Descent, descent-start, descent-next, descent-leaf, descent-stopped}
 use Rattle.read_step.specs.declared.Trouble.the-variants as trouble
 use Rattle.prove_trails.proofs.descend.Statement.{statement}
 use Rattle.prove_trails.proofs.descend.Tie as tie
@@ -72,7 +72,7 @@ answer-requires-2 : tie.Need-answer-requires-2 Inv-loop μ-loop
 answer-requires-2 c κs = search needs
 
 returns-2 : tie.Need-returns-2 Inv-loop μ-loop
-returns-2 c = descent-lost (c .before .before .before .loop .inv) Gap trouble.Lost (c .before .enum-told .given .1) refl (c .answer2 .ensures)
+returns-2 c = descent-stopped (c .before .before .before .loop .inv) Gap trouble.Lost (c .before .enum-told .given .1) refl (c .answer2 .ensures)
 
 enum-known-seen-3 : tie.Need-enum-known-seen-3 Inv-loop μ-loop
 enum-known-seen-3 c = search needs
@@ -83,7 +83,7 @@ answer-requires-3 c κs = search needs
 returns-3 : tie.Need-returns-3 Inv-loop μ-loop
 returns-3 c =
     let after-seen3 = c .before .before in
-    descent-lost (after-seen3 .before .before .loop .inv) (Lost _) _ (after-seen3 .seen3 .given .1) refl (c .answer3 .ensures)
+    descent-stopped (after-seen3 .before .before .loop .inv) (Stopped _) _ (after-seen3 .seen3 .given .1) refl (c .answer3 .ensures)
 
 pub descend-spec : {M : Type 1} → statement M
 descend-spec =

@@ -16,16 +16,21 @@ enum-known-read-2 c = search needs
 put-hash-requires : tie.Need-put-hash-requires
 put-hash-requires c κs = search needs
 
+-- `A-from-B` is the state A as the later state B has it.
+abbrev start-from-root : tie.After-root → tie.Start
+start-from-root c = c .before .before .before
+
 returns : tie.Need-returns
 returns c =
-    let d = c .before .before .before in
-    root-refused (d .root .ensures) (d .before .before .before .args .root .now) (c .before .read .given .1)
+    let after-read = c .before in
+    let after-root = after-read .before .before in
+    root-refused (after-root .root .ensures) (start-from-root after-root .args .root .now) (after-read .read .given .1)
 
 returns-2 : tie.Need-returns-2
 returns-2 c =
-    let r = c .before .before .before in
-    let d = r .before .before in
-    root-written (d .root .ensures) (d .before .before .before .args .root .now) (r .read2 .given .1) (search needs) (c .put-hash .ensures)
+    let after-read2 = c .before .before .before in
+    let after-root = after-read2 .before .before in
+    root-written (after-root .root .ensures) (start-from-root after-root .args .root .now) (after-read2 .read2 .given .1) (search needs) (c .put-hash .ensures)
 
 pub root-by-spec : {M : Type 1} → statement M
 root-by-spec =

@@ -14,9 +14,12 @@ as-many-requires c κs = search needs
 cast-result : tie.Need-cast-result
 cast-result c = search needs
 
+-- `A-from-B` is the state A as the later state B has it.
+abbrev start-from-as-many : tie.After-as-many → tie.Start
+start-from-as-many c = c .before .before .before
+
 returns : tie.Need-returns
-returns c =
-    let a = c .before .before .before .before .args in
+returns c = let a = start-from-as-many (c .before) .args in
     root-told-by (root-refusal 1 (a .root .now)
     (root-not-as-many (a .store .now) (a .index .now) (a .version) (sym (c .before .as-many .ensures) ∙ not-true _ (c .if1 .taken))))
 
@@ -27,7 +30,7 @@ returns-2 : tie.Need-returns-2
 returns-2 c =
     let else1 = c .before .before in
     let after-as-many = else1 .before in
-    let a = after-as-many .before .before .before .args in
+    let a = start-from-as-many after-as-many .args in
     root-told-by (root-as (root-as-many (a .store .now) (a .index .now) (a .version) (sym (after-as-many .as-many .ensures) ∙ not-false _ (else1 .if1 .left)))
     (c .root-by .ensures))
 

@@ -6,7 +6,7 @@ use Rattle.read_key.proofs.Walking.{
   Walked,
   set-out,
   ends-at-gap,
-  ends-lost,
+  ends-stopped,
   leaf-inside,
   ends-at-leaf,
   inner-short,
@@ -51,7 +51,7 @@ refusal-requires c κs = search needs
 returns-2 : tie.Need-returns-2 Inv-loop μ-loop
 returns-2 c =
     let after-seen = c .before .before in
-    ends-lost (after-seen .before .before .loop .inv) _ (after-seen .seen .given .1) (c .refusal .ensures)
+    ends-stopped (after-seen .before .before .loop .inv) _ (after-seen .seen .given .1) (c .refusal .ensures)
 
 enum-known-seen-2 : tie.Need-enum-known-seen-2 Inv-loop μ-loop
 enum-known-seen-2 c = search needs

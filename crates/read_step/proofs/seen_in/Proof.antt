@@ -1,7 +1,7 @@
 -- `read_step::seen_in` meets its contract: a record that is no leaf is an inner node; a leaf's key is compared with its place. Assumes nothing.
 use borrow.Author.Tests.{not-true, not-false}
 use Rattle.store.proofs.Slots.{slot-fits}
-use Rattle.read_step.proofs.Seeing.{inner-seen, leaf-lost, leaf-seen}
+use Rattle.read_step.proofs.Seeing.{inner-seen, leaf-stray, leaf-seen}
 use borrow.Author.Needs.{needs}
 use Rattle.read_step.proofs.seen_in.Statement.{statement}
 use Rattle.read_step.proofs.seen_in.Tie as tie
@@ -36,7 +36,7 @@ returns-2 c =
     let after-key-of = after-begins .before in
     let else1 = after-key-of .before in
     let after-is-leaf = else1 .before in
-    leaf-lost (start-from-is-leaf after-is-leaf .pre) (after-is-leaf .before .slot-of .ensures .0) (after-is-leaf .is-leaf .ensures) (not-false _ (else1 .if1 .left))
+    leaf-stray (start-from-is-leaf after-is-leaf .pre) (after-is-leaf .before .slot-of .ensures .0) (after-is-leaf .is-leaf .ensures) (not-false _ (else1 .if1 .left))
     (after-key-of .key-of .ensures .0) (after-begins .begins .ensures) (not-true _ (c .if2 .taken))
 
 returns-3 : tie.Need-returns-3

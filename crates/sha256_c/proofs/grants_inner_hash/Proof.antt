@@ -19,9 +19,12 @@ inner-hash-requires c κs = search needs
 put-hash-requires : tie.Need-put-hash-requires
 put-hash-requires c κs = search needs
 
+-- `A-from-B` is the state A as the later state B has it.
+abbrev start-from-hash-at : tie.After-hash-at → tie.Start
+start-from-hash-at c = c .before .before .before
+
 returns : tie.Need-returns
-returns c =
-    let a = c .before .before .before .before .before .before .before .args in
+returns c = let a = start-from-hash-at (c .before .before .before .before) .args in
     let l = c .before .before .before .before .hash-at .ensures .1 ∙ take-all 32 (a .left .now) (search needs) in
     let r = c .before .before .hash-at2 .ensures .1 ∙ take-all 32 (a .right .now) (search needs) in
     (refl, put-over _ (a .digest .now) _ (search needs) (c .put-hash .ensures) ∙ rw (← l, ← r) (c .before .inner-hash .ensures))

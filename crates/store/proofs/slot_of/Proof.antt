@@ -26,10 +26,12 @@ part-result-end c = search needs
 
 returns : tie.Need-returns
 returns c =
-    let start = c .before .before .before .before in
+    let after-slot-size = c .before in
+    let after-slot-start = after-slot-size .before in
+    let start = after-slot-start .before .before in
     let a = start .args in
-    let p = part-is (a .form) (a .i) (a .store .now) (c .before .before .slot-start .ensures .0) (c .before .slot-size .ensures .0) in
-    let l = part-long (a .form) (a .i) (a .store .now) (c .before .before .slot-start .ensures .0) (c .before .slot-size .ensures .0) (start .pre) in
+    let p = part-is (a .form) (a .i) (a .store .now) (after-slot-start .slot-start .ensures .0) (after-slot-size .slot-size .ensures .0) in
+    let l = part-long (a .form) (a .i) (a .store .now) (after-slot-start .slot-start .ensures .0) (after-slot-size .slot-size .ensures .0) (start .pre) in
     let t = size-small (a .form) in
     (p, l, (omega (arith, l), omega (arith, l)))
 

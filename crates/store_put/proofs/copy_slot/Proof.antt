@@ -31,9 +31,13 @@ part-copy-end : tie.Need-part-copy-end
 part-copy-end c =
     search needs
 
+-- `A-from-B` is the state A as the later state B has it.
+abbrev start-from-copy-arg : tie.After-copy-arg → tie.Start
+start-from-copy-arg c = c .before .before .before
+
 copy-requires : tie.Need-copy-requires
 copy-requires c κs =
-    let start = c .before .before .before in
+    let start = start-from-copy-arg c in
     start .pre .1 ∙ sym (part-long counted (start .args .i) (start .args .store .now) refl refl (start .pre .0))
 
 same-length : tie.Need-same-length
@@ -42,9 +46,9 @@ same-length c =
 
 returns : tie.Need-returns
 returns c =
-    let put = c .before .before in
-    let start = put .before .before .before .before in
-    part-put counted (start .args .i) (start .args .store .now) refl refl (start .pre .0) _ (put .copy .ensures) (put .copy .kept .0)
+    let after-copy = c .before .before in
+    let start = start-from-copy-arg (after-copy .before) in
+    part-put counted (start .args .i) (start .args .store .now) refl refl (start .pre .0) _ (after-copy .copy .ensures) (after-copy .copy .kept .0)
 
 pub copy-slot-spec : {M : Type 1} → statement M
 copy-slot-spec =

@@ -11,6 +11,7 @@ mod cases;
 #[path = "../../../common/bars.rs"]
 mod bars;
 #[path = "../ours.rs"]
+#[allow(dead_code)] // not every call has a bar
 mod ours;
 #[path = "../slow.rs"]
 mod slow;

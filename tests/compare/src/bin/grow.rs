@@ -5,7 +5,7 @@
 #[allow(dead_code)]
 mod cases;
 #[path = "../ours.rs"]
-#[allow(dead_code)]
+#[allow(dead_code)] // few calls are made here
 mod ours;
 
 use cases::Random;
