@@ -2,7 +2,7 @@
 -- asks for. Assumes nothing.
 use Prim.Native.Nat.{ℕ, zero, suc, _+_, _*_, _-_, _<_, _≤_, _/_, _%_}
 use native.Mathlib.Omega.{arith}
-use mathlib.Core.Path.{_≡_, refl, ap, ap₂, _∙_}
+use mathlib.Core.Path.{_≡_, refl, ap, ap₂, sym, _∙_}
 use mathlib.Core.Bool.{Bool, true, false, cond, _&&_}
 use mathlib.Core.List.{List, [], _∷_, _++_, map}
 use mathlib.Core.Option.{some, none}
@@ -18,7 +18,7 @@ use Rattle.terms.proofs.Lists.{all-map₂}
 use Rattle.terms.proofs.Fields.{all-of-tests, tests-all, test-passed, test-failed}
 use Rattle.meaning.specs.Calls.{ascending}
 use Rattle.batch.specs.Sizes.{recordSize, mostRecords}
-use Rattle.batch.specs.Batch.{askBytes, askForm, ask, records, count, recordsOf, asks, every, batchForm, batchOf, asksBytes}
+use Rattle.batch.specs.Batch.{askBytes, askForm, ask, records, count, recordsOf, asks, every, batchForm, batchOf, asksBytes, AskedBy}
 use Rattle.batch.specs.Records.{recordAt, askAt}
 use Rattle.batch.proofs.Asks.{length-ask, ask-form, ask-says, form-bytes}
 use Rattle.batch.proofs.Records.{length-records, length-asks, records-from, asks-from, records-whole, asks-whole}
@@ -87,6 +87,20 @@ batch-of-back b as′ h e = go (batchForm b) refl e
     go : (t : Bool) → batchForm b ≡ t → cond t (some (asks b)) none ≡ some as′ → (asksBytes as′ ≡ b) × (length as′ ≤ mostRecords) × All AskForm as′
     go true f d = let g : asks b ≡ as′ = cc in let k = form-batch b h f in rw (← g) (k .0, k .1, asks-whole b h)
     go false f d = let z : _≡_ {A = ℕ} 0 1 = cc in absurd (omega arith)
+
+-- a batch in form asks for what it is read as, and for nothing else
+module _ (batch : Bytes) (bytes : All Byte batch) where
+  pub asked-as : (as′ : List Ask) → AskedBy batch as′ → batchOf batch ≡ some as′
+  asked-as as′ w = ap batchOf (w .bytes) ∙ batch-of-bytes as′ (w .form) (w .few)
+
+  pub asked : (as′ : List Ask) → batchOf batch ≡ some as′ → AskedBy batch as′
+  asked as′ e = let w = batch-of-back batch as′ bytes e in record { bytes = sym (w .0); form = w .2; few = w .1 }
+
+  pub asked-none : batchOf batch ≡ none → (as′ : List Ask) → AskedBy batch as′ → ⊥
+  asked-none e as′ w = none-some (sym e ∙ asked-as as′ w)
+    where
+      none-some : none ≡ some as′ → ⊥
+      none-some z = let y : _≡_ {A = ℕ} 0 1 = cc in omega arith
 
 -- The form of a batch, test by test: whole records, at most 1,024, and each record in form.
 pub form-torn : (b : Bytes) → (length b % recordSize ≡ 0 → ⊥) → batchForm b ≡ false

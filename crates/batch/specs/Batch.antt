@@ -1,14 +1,16 @@
 -- Document 01, 'Bytes', batch record: what a batch asks for, and the bytes that ask it. A batch is whole records in
 -- form, at most 1,024; the order of its keys is judged after its form ('Numbers of refusal', 4 and 5). Assumes nothing.
-use Prim.Native.Nat.{ℕ, zero, suc, _/_, _%_}
+use Prim.Native.Nat.{ℕ, zero, suc, _/_, _%_, _≤_}
+use mathlib.Core.Path.{_≡_}
 use mathlib.Core.Bool.{Bool, true, cond, _&&_, _||_}
 use mathlib.Core.List.{List, [], _∷_, map}
 use mathlib.Core.Option.{Option, some, none}
 use lib.ListN.{length, take, drop}
 use lib.Dec.{eqb, leb}
-use Rattle.terms.specs.Bits.{Bytes}
+use Rattle.terms.specs.Bits.{Bytes, All}
 use Rattle.terms.specs.Fields.{le, field, slice, allZero, flat, allOf}
 use Rattle.terms.specs.Records.{Ask, insert, delete, askKey, zeros}
+use Rattle.terms.specs.Form.{AskForm}
 use Rattle.batch.specs.Sizes.{
   recordSize,
   insertLength,
@@ -90,3 +92,9 @@ batchOf b = cond (batchForm b) (some (asks b)) none
 -- The bytes of a batch: its records one after the other.
 unfoldable pub asksBytes : List Ask → Bytes
 asksBytes as′ = flat (map askBytes as′)
+
+-- The bytes of a batch are whole records in form, at most 1,024, and ask for this.
+pub record AskedBy (batch : Bytes) (as′ : List Ask) : Type 0 where
+  pub bytes : batch ≡ asksBytes as′
+  pub form : All AskForm as′
+  pub few : length as′ ≤ mostRecords

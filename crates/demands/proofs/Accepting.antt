@@ -18,8 +18,8 @@ use Rattle.meaning.specs.Answers.{numberOf, foundBytes, foundAfter}
 use Rattle.checker.proofs.Theorems.{accepted-exactly-if-holds, refused-with-11}
 use Rattle.nodehash.specs.Node.{leafHash, innerHash}
 use Rattle.proofrecords.specs.ProofBytes.{proofIn}
+use Rattle.proofrecords.proofs.Proofs.{read-as, proof-is}
 use Rattle.verify_rules.specs.Verify.{judged, verified}
-use Rattle.refusals.proofs.Proofs.{read-as, proof-is}
 use Rattle.contracts.specs.Contracts.{Verifies}
 use Rattle.demands.specs.Claims.{Accepts}
 

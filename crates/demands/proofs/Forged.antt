@@ -24,12 +24,12 @@ use Rattle.meaning.specs.Answers.{numberOf, toldOf, foundBytes}
 use Rattle.checker.proofs.Theorems.{accepted-exactly-if-holds, refused-with-11}
 use Rattle.sha256.specs.Sha256.{sha256}
 use Rattle.nodehash.specs.Node as node
-use Rattle.proofrecords.specs.ProofBytes.{proofIn}
+use Rattle.proofrecords.specs.ProofBytes.{proofIn, ProofIs}
+use Rattle.proofrecords.proofs.Proofs.{read-as, proof-is}
 use Rattle.layout.specs.Stores.{storeOf}
 use Rattle.promises.specs.Calls.{SoundBytes, Does, wrong-header, not-sound, refuses, accepts}
 use Rattle.promises.proofs.Calls.{one-outcome}
-use Rattle.refusals.specs.Rows.{ProofIs, rootOfVersion}
-use Rattle.refusals.proofs.Proofs.{read-as, proof-is}
+use Rattle.refusals.specs.Rows.{rootOfVersion}
 use Rattle.forgery.specs.Messages.{leafHash, innerHash}
 use Rattle.forgery.specs.Finding.{True, Finding, nothing, twoEqual, oneZero, Among, NamedFrom, finding}
 use Rattle.finding_rules.specs.Call.{noGrant, versionRoot, foundOf, foundAgainst, finds, findingBytes}

@@ -20,7 +20,7 @@ use Rattle.meaning.specs.Reading.{spoiltRecord, answerOf}
 use Rattle.meaning.specs.Proving.{HoldsGrant, proof, proofLength, fitted, prove}
 use Rattle.meaning.specs.Answers.{numberOf, foundAfter, foundBytes, toldOf}
 use Rattle.proofrecords.specs.ProofBytes.{proofIn}
-use Rattle.proofrecords.proofs.Proofs.{proof-back}
+use Rattle.proofrecords.proofs.Proofs.{proof-back, proof-is}
 use Rattle.layout.specs.Headers.{Headed, refusal, header, headerOf}
 use Rattle.layout.specs.Stores.{storeOf}
 use Rattle.promises.specs.Calls.{SoundBytes}
@@ -39,7 +39,7 @@ use Rattle.refusals.specs.Orders.{pocketHoldingRows}
 use Rattle.refusals.proofs.Exactly.{First, exactly}
 use Rattle.refusals.proofs.Headers.{records-formed}
 use Rattle.refusals.proofs.Stopped.{Stopped, stopped-first, stopped-names}
-use Rattle.refusals.proofs.Proofs.{off-form, proof-is}
+use Rattle.refusals.proofs.Proofs.{off-form}
 use Rattle.refusals.proofs.Pocket.{pocket-form-first, pocket-stopped}
 use Rattle.contracts.specs.Contracts.{ReadsRoot, Proves, Verifies, PocketProves, PocketVerifies}
 use Rattle.demands.specs.Tables.{pocketProveRows, pocketVerifyRows, testsOf}

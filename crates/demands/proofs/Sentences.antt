@@ -16,9 +16,9 @@ use Rattle.meaning.specs.Calls.{accepted}
 use Rattle.meaning.specs.Answers.{numberOf}
 use Rattle.shown.proofs.Theorems.{kept-test}
 use Rattle.proofrecords.specs.ProofBytes.{absenceKind, presenceKind, absenceHead, flagsOf, proofIn, neighbourBytes, proofBytes, absenceBytes, ProofForm}
+use Rattle.proofrecords.proofs.Proofs.{proof-is}
 use Rattle.layout.specs.Headers.{header, headerOf}
 use Rattle.layout.specs.Stores.{storeOf}
-use Rattle.refusals.proofs.Proofs.{proof-is}
 use Rattle.verify_rules.specs.Verify.{judged, verified}
 use Rattle.palette_rules.specs.Palette.{wholeKeys, keysIn, palette}
 use Rattle.contracts.specs.Palettes.{paletteAnswer, roomAfter, lengthBytes}

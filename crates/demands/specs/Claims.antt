@@ -16,7 +16,6 @@ use Rattle.meaning.specs.Sound.{At, Kept, NodeOf, Lives}
 use Rattle.meaning.specs.Calls.{accepted, Applied}
 use Rattle.meaning.specs.Reading.{Verdict, present, absent, answerOf}
 use Rattle.checker.specs.Holding as checker
-use Rattle.refusals.specs.Rows.{ProofIs}
 use Rattle.meaning.specs.Proving.{proof, proofLength}
 use Rattle.meaning.specs.History.{Call, Entry, ledger, grantsOf, Holds}
 use Rattle.histories.specs.Claims.{AfterApply, AfterPrune}
@@ -25,7 +24,7 @@ use Rattle.changed.specs.Compare.{changesOf, visitsOf}
 use Rattle.changed.specs.Claims.{WhatChanged}
 use Rattle.fields.specs.Written.{written}
 use Rattle.nodehash.specs.Node.{leafHash, innerHash}
-use Rattle.proofrecords.specs.ProofBytes.{presenceKind, absenceKind}
+use Rattle.proofrecords.specs.ProofBytes.{presenceKind, absenceKind, ProofIs}
 use Rattle.layout.specs.Sizes.{slotSize}
 use Rattle.layout.specs.Stores.{slotIn, storeOf, storeBytes}
 use Rattle.batch.specs.Batch.{batchOf}

@@ -13,9 +13,9 @@ use Rattle.meaning.specs.Answers.{numberOf}
 use Rattle.histories.proofs.Calls.{apply-cases}
 use Rattle.nodehash.specs.Node.{leafHash, innerHash}
 use Rattle.layout.specs.Stores.{storeOf}
-use Rattle.batch.specs.Batch.{asks, batchForm, batchOf}
-use Rattle.batch.proofs.Batches.{batch-of-bytes, batch-of-back}
-use Rattle.refusals.specs.Rows.{AskedBy, BatchOffForm, NotAscending, NotAbove, TooFewFree, newCount}
+use Rattle.batch.specs.Batch.{asks, batchForm, batchOf, AskedBy}
+use Rattle.batch.proofs.Batches.{asked-as, asked, asked-none}
+use Rattle.refusals.specs.Rows.{BatchOffForm, NotAscending, NotAbove, TooFewFree, newCount}
 use Rattle.refusals.specs.Orders.{batchRows}
 use Rattle.refusals.proofs.Exactly.{First}
 
@@ -38,14 +38,7 @@ no-asks : {A : Type 0} {x : List Ask} → none ≡ some x → A
 no-asks e = let z : _≡_ {A = ℕ} 0 1 = cc in absurd (omega arith)
 
 module _ (batch : Bytes) (bytes : All Byte batch) where
-  -- a batch in form asks for what it is read as, and for nothing else
-  asked-as : (as′ : List Ask) → AskedBy batch as′ → batchOf batch ≡ some as′
-  asked-as as′ w = ap batchOf (w .bytes) ∙ batch-of-bytes as′ (w .form) (w .few)
-
-  pub asked : (as′ : List Ask) → batchOf batch ≡ some as′ → AskedBy batch as′
-  asked as′ e = let w = batch-of-back batch as′ bytes e in record { bytes = sym (w .0); form = w .2; few = w .1 }
-
-  -- which are its whole records
+  -- what a batch in form asks for are its whole records
   read-asks : (as′ : List Ask) → batchOf batch ≡ some as′ → as′ ≡ asks batch
   unfolding batchOf
   read-asks as′ = go (batchForm batch)
@@ -62,10 +55,10 @@ module _ (batch : Bytes) (bytes : All Byte batch) where
     where
       go : (o : Option (List Ask)) → batchOf batch ≡ o →
           First (batchRows number batch s) (numberOf (apply leafHash innerHash number o (storeOf s) .answer))
-      go none e = let off-form : BatchOffForm batch = λ as′ w. no-asks (sym e ∙ asked-as as′ w) in inl (off-form, refl)
+      go none e = inl (asked-none batch bytes e, refl)
       go (some as′) e =
-          let w = asked as′ e in
-          let same : (bs : List Ask) → AskedBy batch bs → bs ≡ as′ = λ bs x. same-asks (sym (asked-as bs x) ∙ e) in
+          let w = asked batch bytes as′ e in
+          let same : (bs : List Ask) → AskedBy batch bs → bs ≡ as′ = λ bs x. same-asks (sym (asked-as batch bytes bs x) ∙ e) in
           let in-form : BatchOffForm batch → ⊥ = λ f. f as′ w in
           let rising : ascending as′ ≡ true → NotAscending batch → ⊥ =
           λ a x. true≢false (sym a ∙ ap ascending (read-asks as′ e) ∙ x) in

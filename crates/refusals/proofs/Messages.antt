@@ -14,16 +14,17 @@ use Rattle.terms.specs.Records.{Proof}
 use Rattle.meaning.specs.Calls.{Answer, refused, accepted}
 use Rattle.meaning.specs.Answers.{numberOf}
 use Rattle.sha256.specs.Sha256.{sha256}
-use Rattle.proofrecords.specs.ProofBytes.{proofIn}
+use Rattle.proofrecords.specs.ProofBytes.{proofIn, ProofIs}
+use Rattle.proofrecords.proofs.Proofs.{read-as, proof-is}
 use Rattle.messages.specs.Message.{messageBytes}
 use Rattle.messages.specs.Lending.{Lent, lentFits, rawProof, fitted, writtenFrom, written, recordOf, readFrom}
 use Rattle.messages.proofs.Back.{one-message}
 use Rattle.message_rules.specs.Contracts.{writtenInto, Encodes, Said, readInto}
 use Rattle.refusals.specs.Exactly.{Table}
-use Rattle.refusals.specs.Rows.{ProofIs, ProofOffForm, NotRaw, MessageTooLong, NoMessage, RecordTooLong}
+use Rattle.refusals.specs.Rows.{ProofOffForm, NotRaw, MessageTooLong, NoMessage, RecordTooLong}
 use Rattle.refusals.specs.Orders.{messageRows, readingRows}
 use Rattle.refusals.proofs.Exactly.{First}
-use Rattle.refusals.proofs.Proofs.{read-as, proof-is, off-form}
+use Rattle.refusals.proofs.Proofs.{off-form}
 
 -- Where two neighbouring rows are deserved at once, the answer is the number of the one that is tested first.
 ten-before-fifteen : (x : Bytes) (lent : Lent) (room : Bytes) → ProofOffForm x → First (messageRows x lent room) 10

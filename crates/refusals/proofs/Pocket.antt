@@ -15,6 +15,7 @@ use Rattle.meaning.specs.Proving.{proof, fitted}
 use Rattle.ways.proofs.Walking.{Formed}
 use Rattle.nodehash.specs.Node.{leafHash, innerHash}
 use Rattle.proofrecords.specs.ProofBytes.{proofIn}
+use Rattle.proofrecords.proofs.Proofs.{read-as, proof-is}
 use Rattle.layout.specs.Stores.{storeOf}
 use Rattle.pocket.specs.Pocket.{Outside, small, inProfile, pocketProve, pocketChecked}
 use Rattle.pocket.proofs.Theorems.{inside-they-agree, outside-is-refused, inside-shows-short, outside-shows-long}
@@ -23,7 +24,7 @@ use Rattle.refusals.specs.Rows.{ProofOffForm, OutsidePocket, DoesNotHold
 use Rattle.refusals.specs.Orders.{provingRows, pocketHoldingRows}
 use Rattle.refusals.proofs.Exactly.{First}
 use Rattle.refusals.proofs.Stopped.{Stopped}
-use Rattle.refusals.proofs.Proofs.{read-as, proof-is, form-first}
+use Rattle.refusals.proofs.Proofs.{form-first}
 use Rattle.refusals.proofs.Walks.{same-proof, proof-stopped, fits-first}
 
 -- Where two neighbouring rows are deserved at once, the answer is the number of the one that is tested first.

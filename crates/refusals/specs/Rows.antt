@@ -11,7 +11,6 @@ use Rattle.terms.specs.declared.Form.the-variants.{Counted as counted}
 use Rattle.terms.specs.Bits.{Bytes, All}
 use Rattle.terms.specs.Fields.{field, slice, flat, zeroBytes}
 use Rattle.terms.specs.Records.{Ask, Proof}
-use Rattle.terms.specs.Form.{AskForm}
 use Rattle.meaning.specs.Tree.{hash, unversioned, nextTree, grantsIn}
 use Rattle.meaning.specs.Store.{treeAtVersion, freeSlots, newRecords}
 use Rattle.meaning.specs.Sound.{Kept, Sound}
@@ -34,14 +33,13 @@ use Rattle.sha256.specs.Sha256.{sha256}
 use Rattle.messages.specs.Message.{messageBytes}
 use Rattle.messages.specs.Lending.{Lent, lentFits, rawProof, recordOf}
 use Rattle.message_rules.specs.Contracts.{Encodes}
-use Rattle.proofrecords.specs.ProofBytes.{proofBytes, ProofForm}
+use Rattle.proofrecords.specs.ProofBytes.{ProofIs}
 use Rattle.layout.specs.Sizes.{headerSize, headerKind, mostSlots, kindAt, capacityAt, oldestAt, latestAt, slotSize}
 use Rattle.layout.specs.Stores.{storeIn, storeOf}
 use Rattle.move_rules.specs.Moves.{other}
 use Rattle.shelf_rules.specs.Shelf.{mostBits, ShelfProof, shelfBytes, ShelfForm}
 use Rattle.shelf_rules.specs.Holding.{ShelfHolds}
-use Rattle.batch.specs.Sizes.{mostRecords}
-use Rattle.batch.specs.Batch.{asks, asksBytes}
+use Rattle.batch.specs.Batch.{asks, AskedBy}
 
 -- 1: the store's length isn't 24 + 128n, n in 1 to 16,384.
 abbrev pub WrongLength : Bytes → Type 0
@@ -94,12 +92,6 @@ Lost stops = stops lostRecord
 abbrev pub Unsound : (Trouble → Type 0) → Type 0
 Unsound stops = stops strayLeaf ⊎ ((i : ℕ) × stops (spoiltRecord i))
 
--- The bytes of a batch are whole records in form, at most 1,024, and ask for this.
-pub record AskedBy (batch : Bytes) (as′ : List Ask) : Type 0 where
-  pub bytes : batch ≡ asksBytes as′
-  pub form : All AskForm as′
-  pub few : length as′ ≤ mostRecords
-
 -- 4: the batch isn't whole records in form, or has over 1,024.
 abbrev pub BatchOffForm : Bytes → Type 0
 BatchOffForm batch = (as′ : List Ask) → AskedBy batch as′ → ⊥
@@ -130,11 +122,6 @@ NotKept s v = Kept (storeOf s) v → ⊥
 -- 9: the proof is longer than the buffer.
 abbrev pub TooLong : Bytes → ℕ → Bytes → Bytes → Type 0
 TooLong s v k room = (p : Proof) × (proof (storeOf s) v k ≡ accepted p) × (length room < proofLength p)
-
--- The bytes are one whole proof in form, no byte over.
-pub record ProofIs (x : Bytes) (p : Proof) : Type 0 where
-  pub bytes : x ≡ proofBytes p
-  pub form : ProofForm p
 
 -- 10: the proof isn't one whole record in form, no byte over.
 abbrev pub ProofOffForm : Bytes → Type 0
