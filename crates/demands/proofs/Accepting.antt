@@ -63,7 +63,7 @@ module _ {root k x f : Bytes} {r : ℕ} {g : Bytes} (bytes : All Byte x) (w : Ve
   accepted-so : Accepts root k x answer → verified root k x ≡ accepted answer
   unfolding verified
   accepted-so a =
-      rw (eq-eqb (length root) 32 (a .root32), eq-eqb (length k) 32 (a .key32), read-as x bytes (a .proof) (a .is-proof))
+      rw (eq-eqb (length root) 32 (a .root32), eq-eqb (length k) 32 (a .key32), read-as x (a .proof) (a .is-proof))
       (accepted-exactly-if-holds leafHash innerHash root k (a .proof) answer .1 (a .holds))
 
   back : Accepts root k x answer → (r ≡ 0) × (g ≡ foundBytes answer)

@@ -19,7 +19,7 @@ use Rattle.meaning.specs.Answers.{numberOf, foundAfter}
 use Rattle.sha256.specs.Sha256.{sha256}
 use Rattle.nodehash.specs.Node.{leafHash, innerHash}
 use Rattle.proofrecords.specs.ProofBytes.{proofBytes, proofIn, NeighbourForm, ProofForm, neighbourBytes}
-use Rattle.proofrecords.proofs.Proofs.{length-presence, length-absence, proof-back}
+use Rattle.proofrecords.proofs.Proofs.{length-presence, length-absence, proof-back, read-as}
 use Rattle.messages.specs.Message.{messageBytes, mostBytes, RawPresence, RawProof, ownProof}
 use Rattle.messages.specs.Lending.{Lent, LentBytes, rawProof, recordOf, lentIn}
 use Rattle.messages.specs.Spots.{spotsIn, Stand}
@@ -40,9 +40,9 @@ use Rattle.demands.specs.Tables.{writeMessageRows, readMessageRows}
 use Rattle.demands.specs.Messages.{PartnerAgrees, MessageGiven, MessageTaken, LedAlike}
 
 -- 10, 15, 9 exactly, and 10, 9.
-pub write-message-exactly : {x : Bytes} {lent : Lent} {room f t g : Bytes} {r : ℕ} → All Byte x → WritesMessage x lent room f r t g → Exactly (writeMessageRows x lent room) r
-write-message-exactly {x} {lent} {room} {r = r} b w =
-    exactly (writeMessageRows x lent room) r refl (subst (First (writeMessageRows x lent room)) (sym (w .answer)) (write-first x b lent room))
+pub write-message-exactly : {x : Bytes} {lent : Lent} {room f t g : Bytes} {r : ℕ} → WritesMessage x lent room f r t g → Exactly (writeMessageRows x lent room) r
+write-message-exactly {x} {lent} {room} {r = r} w =
+    exactly (writeMessageRows x lent room) r refl (subst (First (writeMessageRows x lent room)) (sym (w .answer)) (write-first x lent room (w .said) (w .exactly)))
 
 pub read-message-exactly : {m room f t g : Bytes} {r : ℕ} → ReadsMessage m room f r t g → Exactly (readMessageRows m room) r
 read-message-exactly {m} {room} {r = r} w =
@@ -106,7 +106,7 @@ partner-agrees x m q h is e = record {
 -- What was written is a message that reading gives back.
 pub message-is-given : {x : Bytes} {lent : Lent} {room f t g : Bytes} → All Byte x → LentBytes lent → WritesMessage x lent room f 0 t g → MessageGiven x lent t g
 message-is-given {x} {lent} {room} {f} {t} {g} b lb w =
-    let k = written-message b lb w in
+    let k = written-message lb w in
     let q = rawProof lent (k .proof) in
     let long : num g ≡ length (k .m) = ap num (k .told-is) ∙ num-le 4 (length (k .m)) (omega (arith, k .at-most, most q)) in
     let same : take (num g) t ≡ k .m = ap (take (num g)) (k .room-is) ∙ take-at (k .m) (drop (length (k .m)) room) (num g) (sym long) in
@@ -120,7 +120,7 @@ message-is-given {x} {lent} {room} {f} {t} {g} b lb w =
           let e = k .given-back fits (subst (λ m. ReadsMessage m room₁ f₁ r t₁ g₁) same v) in
           let is : take (length x) t₁ ≡ x = ap (take (length x)) (e .1) ∙ take-at x (drop (length x) room₁) (length x) refl in
           (subst (λ y. Verifies root key y f₂ r₂ g₂) is, subst (λ y. Verifies root key y f₂ r₂ g₂) (sym is));
-      partner = partner-agrees x (take (num g) t) q (k .raw) (k .is ∙ sym same) (k .proof-is ∙ ap some (sym (k .own)));
+      partner = partner-agrees x (take (num g) t) q (k .raw) (k .is ∙ sym same) (read-as x (k .proof) (k .proof-is) ∙ ap some (sym (k .own)));
     }
 
 -- a record in form is short

@@ -180,3 +180,8 @@ ProofForm (absence a) =
 pub record ProofIs (x : Bytes) (p : Proof) : Type 0 where
   pub bytes : x ≡ proofBytes p
   pub form : ProofForm p
+
+-- Which proof the bytes are; none, where they are none (10).
+abbrev pub ProofSaid : Bytes → Option Proof → Type 0
+ProofSaid x none = (p : Proof) → ProofIs x p → ⊥
+ProofSaid x (some p) = ProofIs x p
