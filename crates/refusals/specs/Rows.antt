@@ -37,8 +37,7 @@ use Rattle.proofrecords.specs.ProofBytes.{ProofIs}
 use Rattle.layout.specs.Sizes.{headerSize, headerKind, mostSlots, kindAt, capacityAt, oldestAt, latestAt, slotSize}
 use Rattle.layout.specs.Stores.{storeIn, storeOf}
 use Rattle.move_rules.specs.Moves.{other}
-use Rattle.shelf_rules.specs.Shelf.{mostBits, ShelfProof, shelfBytes, ShelfForm}
-use Rattle.shelf_rules.specs.Holding.{ShelfHolds}
+use Rattle.shelf_rules.specs.Shelf.{mostBits, ShelfProof, ShelfIs, ShelfHolds}
 use Rattle.batch.specs.Batch.{asks, AskedBy}
 
 -- 1: the store's length isn't 24 + 128n, n in 1 to 16,384.
@@ -247,13 +246,7 @@ NotSoundIn from s = Sound leafHash innerHash (storeIn from s) → ⊥
 abbrev pub TooManyBits : ℕ → Type 0
 TooManyBits b = mostBits < b
 
--- The bytes are one whole proof of a shelf in form, no byte over: the list's record, and the part's exactly if the
--- list's shows a presence.
-pub record ShelfIs (x : Bytes) (p : ShelfProof) : Type 0 where
-  pub bytes : x ≡ shelfBytes p
-  pub form : ShelfForm p
-
--- 10 of a shelf's proof: they aren't.
+-- 10 of a shelf's proof: the bytes aren't one whole one in form.
 abbrev pub ShelfOffForm : Bytes → Type 0
 ShelfOffForm x = (p : ShelfProof) → ShelfIs x p → ⊥
 

@@ -11,7 +11,7 @@ use lib.ListN.{length, take, drop, length-take, length-drop, drop-of-length-le}
 use lib.Seq.{take-all}
 use lib.Dec.{eqb, leb}
 use borrow.Author.Tests.{eq-eqb, ne-eqb, eqb-true, eqb-false, le-leb, lt-leb, leb-true, leb-false}
-use Rattle.terms.specs.Bits.{Bytes, bits, pack, sameBytes}
+use Rattle.terms.specs.Bits.{Bytes, Byte, All, bits, pack, sameBytes}
 use Rattle.terms.specs.Fields.{field, slice, zeroBytes}
 use Rattle.terms.specs.Records.{Presence, Absence, Proof, presence, absence}
 use Rattle.terms.proofs.Tests.{and-left, and-right}
@@ -26,7 +26,9 @@ use Rattle.proofrecords.specs.ProofBytes.{isPresence, presenceIn, isAbsence, ab
 use Rattle.proofrecords.proofs.Forms.{presence-off, absence-off, presence-whole}
 use Rattle.place.specs.declared.Place as declared
 use Rattle.place.specs.Place.{Stands}
-use Rattle.shelf_rules.specs.Shelf.{partKey, listRecord, partRecord, bySecond, byEnd, byFirst, shelfIn, byList, shelfJudged, shelfVerified, ShelfVerifies}
+use Rattle.shelf_rules.specs.Shelf.{partKey, ShelfVerifies}
+use Rattle.shelf_rules.specs.Reading.{listRecord, partRecord, bySecond, byEnd, byFirst, shelfIn, byList, shelfJudged, shelfVerified}
+use Rattle.shelf_rules.proofs.Told.{shelf-verifies}
 use Rattle.verify_rules.specs.Verify.{judged, verified, Verifies}
 use Rattle.verify.proofs.Boundary.{zeros-found}
 use Rattle.shelf_verify.specs.Both.{isProof, firstLength, isShelf, both, ChecksBoth}
@@ -316,11 +318,11 @@ module _ {root part k x : Bytes} {e : ℕ} (f : Bytes) where
       let j = ap₂ (λ z y. verified z k y) (t ∙ append-nil top) i ∙ ap go h in
       record { answer = w .answer ∙ ap (λ a. numberOf a) j; found = w .found ∙ ap (λ a. foundAfter a f) j }
 
-pub shelf-refused : {root k x : Bytes} {b n : ℕ} (f : Bytes) → refused n ≡ shelfVerified root b k x → ShelfVerifies root b k x f n f
-shelf-refused f e = record { answer = ap (λ a. numberOf a) e; found = ap (λ a. foundAfter a f) e }
+pub shelf-refused : {root k x : Bytes} {b n : ℕ} → All Byte x → (f : Bytes) → refused n ≡ shelfVerified root b k x → ShelfVerifies root b k x f n f
+shelf-refused {root} {k} {x} {b} bytes f e = shelf-verifies root b k x bytes (ap (λ a. numberOf a) e) (ap (λ a. foundAfter a f) e)
 
-pub as-both : {root part k x f g : Bytes} {e b r : ℕ} → both root (partKey b k) k (firstLength x) x ≡ shelfVerified root b k x →
+pub as-both : {root part k x f g : Bytes} {e b r : ℕ} → All Byte x → both root (partKey b k) k (firstLength x) x ≡ shelfVerified root b k x →
     part ≡ partKey b k → e ≡ firstLength x → ChecksBoth root part k e x f r g → ShelfVerifies root b k x f r g
-as-both {root} {k = k} {x} {f} h p i w =
+as-both {root} {k = k} {x} {f} {b = b} bytes h p i w =
     let j = ap₂ (λ z n. both root z k n x) p i ∙ h in
-    record { answer = w .answer ∙ ap (λ a. numberOf a) j; found = w .found ∙ ap (λ a. foundAfter a f) j }
+    shelf-verifies root b k x bytes (w .answer ∙ ap (λ a. numberOf a) j) (w .found ∙ ap (λ a. foundAfter a f) j)
