@@ -37,11 +37,8 @@ use Rattle.changed.specs.Compare.{compare}
 use Rattle.verify_rules.specs.Verify.{judged, verified}
 use Rattle.verify_rows.specs.Rows.{ownLength, cutsInto, answerSize, manyVerified}
 use Rattle.verify_rows.proofs.Cutting.{cut-exactly}
-use Rattle.sha256.specs.Sha256.{sha256}
 use Rattle.forgery.specs.Finding.{Finding}
-use Rattle.finding_rules.specs.Call.{finds}
-use Rattle.contracts.specs.Finds.{Answers}
-use Rattle.contracts.specs.Finds.{wrong-key, right-key}
+use Rattle.contracts.specs.Finds.{Answers, wrong-key, wrong-store, sound-store}
 use Rattle.ways.specs.Ways.{its-root}
 use Rattle.refusals.specs.Exactly.{Table, Exactly, NoneOf, low, Names}
 use Rattle.refusals.specs.Rows.{NotRootAndKeys, NotPieces, AnswersTooLong, NotKeys, StopsPalette, TooLongTogether, NotSound, Not32, StopsRoot, StopsGet, StopsAt, StopsProve, TooLong}
@@ -241,14 +238,23 @@ pub rescue-exactly : (oldest latest : ℕ) {s old f t g : Bytes} {r : ℕ} → R
 rescue-exactly oldest latest {s} {old} {r = r} w = exactly (rescuingRows s old oldest latest) r refl (rescue-first s old oldest latest w)
 
 -- What is found of a proof: 12; then 1, 2, 3; then 8, 14, 10, 11.
-pub finding-exactly : {s : Bytes} {v : ℕ} {k x f : Bytes} {r : ℕ} {g : Bytes} → All Byte x → Finds s v k x f r g → Exactly (findingRows s v k x) r
-finding-exactly {s} {v} {k} {x} {r = r} h w =
+pub finding-exactly : {s : Bytes} {v : ℕ} {k x f : Bytes} {r : ℕ} {g : Bytes} → Finds s v k x f r g → Exactly (findingRows s v k x) r
+finding-exactly {s} {v} {k} {x} {r = r} w =
     exactly (findingRows s v k x) r refl (subst (First (findingRows s v k x)) (sym (w .number)) (go (w .answers)))
   where
+    unsound : {m : ℕ} → check.Checked counted s m → (m ≡ 0 → ⊥) → First (headerRows s ++ (3, NotSound s) ∷ foundRows s v k x) m
+    unsound (check.refused n e) f = let h = header-row s e in within (headerRows s) ((3, NotSound s) ∷ foundRows s v k x) n (h .0) (h .1)
+    unsound (check.unsound c o l e n) f = past (headerRows s) ((3, NotSound s) ∷ foundRows s v k x) 3 (after-header s e) (inl (n, refl))
+    unsound (check.sound c o l e n) f = absurd (f refl)
+
     go : {a : Answer Finding} → Answers s v k x a → First (findingRows s v k x) (numberOf a)
     go (wrong-key n) = inl (λ z. n (z .0), refl)
-    go (right-key {a} e d) =
-        inr (λ n. n (e, tt), does-first (finds sha256 v k (proofIn x)) s (foundRows s v k x) a (finding-first s v k x h) d)
+    go (wrong-store {m} e c f) = inr (λ n. n (e, tt), unsound c f)
+    go (sound-store {a} e w d) =
+        inr (
+          λ n. n (e, tt),
+          past (headerRows s) ((3, NotSound s) ∷ foundRows s v k x) (numberOf a) (after-header s (w .headed)) (inr (λ n. n (w .sound), finding-first s v k x d)),
+        )
 
 -- A move over, and back: 1, 2, 3.
 pub over-exactly : {s old t : Bytes} {r : ℕ} → MovesOver s old r t → Exactly (moveRows plain s old) r

@@ -9,12 +9,14 @@ use lib.ListN.{length, take, drop, length-append}
 use lib.Seq.{take-at}
 use lib.Dec.{eqb}
 use borrow.Author.Tests.{eqb-false, eq-eqb}
-use Rattle.terms.specs.Bits.{Bytes, Byte, All}
+use Rattle.terms.specs.Bits.{Bytes, Byte, All, sameBytes}
 use Rattle.terms.specs.Fields.{le, num}
 use Rattle.terms.specs.Records.{Presence, Proof, presence, absence}
+use Rattle.terms.proofs.Tests.{same-bytes, bytes-same}
 use Rattle.terms.proofs.Fields.{num-le, length-le}
 use Rattle.meaning.specs.Calls.{refused, accepted}
 use Rattle.meaning.specs.Reading.{Verdict}
+use Rattle.meaning.specs.Checking.{leadsTo}
 use Rattle.meaning.specs.Answers.{numberOf, foundAfter}
 use Rattle.sha256.specs.Sha256.{sha256}
 use Rattle.nodehash.specs.Node.{leafHash, innerHash}
@@ -155,5 +157,9 @@ message-is-taken {m} {room} {f} {t} {g} b w =
 
 -- A partner's verifier is led as ours is.
 pub led-alike : (p : Presence) → RawPresence p → LedAlike p
-unfolding leafHash innerHash
-led-alike p h = record { led = λ root. led-as-ours sha256 (λ y. digest-whole y .0) root p h }
+unfolding leafHash innerHash leadsTo
+led-alike p h = record {
+  led = λ root.
+      let e = led-as-ours sha256 (λ y. digest-whole y .0) root p h in
+      (λ t. same-bytes _ root (sym e ∙ t), λ c. e ∙ ap (λ y. sameBytes y root) c ∙ bytes-same root);
+}

@@ -2,10 +2,15 @@
 -- both outcomes are the same term; the others are by cases that exclude each other. Assumes nothing.
 use Prim.Native.Nat.{ℕ}
 use mathlib.Core.Path.{_≡_, refl, ap, sym, _∙_}
+use Rattle.terms.specs.declared.Form.the-variants.{Counted as counted}
 use Rattle.terms.specs.Bits.{Bytes}
 use Rattle.promises.proofs.Check.{one-answer}
-use Rattle.meaning.specs.Calls.{Answer}
+use Rattle.meaning.specs.Calls.{Answer, refused}
 use Rattle.meaning.specs.Answers.{numberOf, toldOf}
+use Rattle.sha256.specs.Sha256.{sha256}
+use Rattle.layout.specs.Stores.{storeOf}
+use Rattle.promises.specs.Check.{Checked, sound}
+use Rattle.promises.specs.Calls.{SoundBytes}
 use Rattle.promises.proofs.Calls.{one-outcome, one-export}
 use Rattle.contracts.specs.Changes.{roomAfter, countBytes}
 use Rattle.rescue_bytes.proofs.Outcomes as rescue
@@ -13,15 +18,23 @@ use Rattle.move_rules.proofs.Outcomes as move
 use Rattle.contracts.specs.Contracts.{Formats, Checks, Applies, Prunes, ReadsRoot, ReadsKey, Counts, ReadsAt, Proves, Palettes, Changes, Verifies, VerifiesMany, TellsVersion, Hashes, Rescues, MovesOver, MovesBack, Finds}
 use Rattle.forgery.specs.Finding.{Finding}
 use Rattle.finding_rules.specs.Call.{findingBytes}
-use Rattle.contracts.specs.Finds.{Answers}
-use Rattle.contracts.specs.Finds.{wrong-key, right-key}
+use Rattle.finding_rules.proofs.Told as found
+use Rattle.contracts.specs.Finds.{Answers, wrong-key, wrong-store, sound-store}
 
 -- what is found of a proof has one answer
+sound-checked : {s : Bytes} → SoundBytes s → Checked counted s 0
+sound-checked w = sound (w .capacity) (w .oldest) (w .latest) (w .headed) (w .sound)
+
 one-found : {s : Bytes} {v : ℕ} {k x : Bytes} {p q : Answer Finding} → Answers s v k x p → Answers s v k x q → p ≡ q
 one-found (wrong-key m) (wrong-key n) = refl
-one-found (wrong-key m) (right-key l d) = absurd (m l)
-one-found (right-key l d) (wrong-key m) = absurd (m l)
-one-found (right-key l c) (right-key m d) = one-outcome c d .0
+one-found (wrong-key m) (wrong-store l c n) = absurd (m l)
+one-found (wrong-key m) (sound-store l w d) = absurd (m l)
+one-found (wrong-store l c n) (wrong-key m) = absurd (m l)
+one-found {s} (wrong-store {m} l c n) (wrong-store {m = o} i d k) = ap refused (one-answer s m o c d)
+one-found {s} (wrong-store {m} l c n) (sound-store i w d) = absurd (n (one-answer s m 0 c (sound-checked w)))
+one-found (sound-store l w d) (wrong-key m) = absurd (m l)
+one-found {s} (sound-store l w d) (wrong-store {m} i c n) = absurd (n (one-answer s m 0 c (sound-checked w)))
+one-found {s} {v} {k} {x} {p} {q} (sound-store l w c) (sound-store i u d) = found.one-found sha256 (storeOf s) v k x p q c d
 
 module _ {s : Bytes} {a b : ℕ} where
   pub one-format : {t u : Bytes} → Formats s a t → Formats s b u → (a ≡ b) × (t ≡ u)

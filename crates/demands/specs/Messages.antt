@@ -10,10 +10,10 @@ use Rattle.terms.specs.Bits.{Bytes}
 use Rattle.terms.specs.Fields.{le, num}
 use Rattle.terms.specs.Records.{Presence, Proof}
 use Rattle.meaning.specs.Answers.{foundBytes}
-use Rattle.meaning.specs.Checking.{leadsTo}
+use Rattle.meaning.specs.Checking.{climb}
 use Rattle.sha256.specs.Sha256.{sha256}
 use Rattle.nodehash.specs.Node.{leafHash, innerHash}
-use Rattle.messages.specs.Message.{mostBytes, ownPresence}
+use Rattle.messages.specs.Message.{mostBytes}
 use Rattle.messages.specs.Lending.{Lent, rawProof, recordOf, lentIn}
 use Rattle.messages.specs.Spots.{spotsIn, Stand}
 use Rattle.message_rules.specs.Contracts.{Encodes, spotsBytes}
@@ -67,4 +67,5 @@ pub record MessageTaken (m t g : Bytes) : Type 0 where
 -- A partner's check is led to a root by an existence proof of a message exactly if our own record of it is.
 pub record LedAlike (p : Presence) : Type 0 where
   pub led : (root : Bytes) →
-      isRoot root (calculated ourSpec sha256 (existenceOf p)) ≡ leadsTo leafHash innerHash root (ownPresence sha256 p)
+      (isRoot root (calculated ourSpec sha256 (existenceOf p)) ≡ true) ↔
+      (climb leafHash innerHash (leafHash (sha256 (p .key)) (sha256 (p .value))) (p .steps) ≡ root)

@@ -1,5 +1,5 @@
--- A shelf's proof by reading its bytes, test after test, as the rooms of code promise it to each other. No public promise
--- reaches this file. Assumes nothing.
+-- A shelf's proof by reading its bytes, test after test, as the rooms of code promise it to each other. No public
+-- promise reaches this file. Assumes nothing.
 use Prim.Native.Nat.{ℕ}
 use mathlib.Core.Bool.{cond, _&&_}
 use mathlib.Core.List.{[], _∷_}
