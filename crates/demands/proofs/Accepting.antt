@@ -19,7 +19,7 @@ use Rattle.checker.proofs.Theorems.{accepted-exactly-if-holds, refused-with-11}
 use Rattle.nodehash.specs.Node.{leafHash, innerHash}
 use Rattle.proofrecords.specs.ProofBytes.{proofIn}
 use Rattle.proofrecords.proofs.Proofs.{read-as, proof-is}
-use Rattle.verify_rules.specs.Verify.{judged, verified}
+use Rattle.verify_rules.specs.Reading.{judged, verified}
 use Rattle.contracts.specs.Contracts.{Verifies}
 use Rattle.demands.specs.Claims.{Accepts}
 
@@ -63,7 +63,7 @@ module _ {root k x f : Bytes} {r : ℕ} {g : Bytes} (bytes : All Byte x) (w : Ve
   accepted-so : Accepts root k x answer → verified root k x ≡ accepted answer
   unfolding verified
   accepted-so a =
-      rw (eq-eqb (length root) 32 (a .root32), eq-eqb (length k) 32 (a .key32), read-as x bytes (a .proof) (a .is-proof))
+      rw (eq-eqb (length root) 32 (a .root32), eq-eqb (length k) 32 (a .key32), read-as x (a .proof) (a .is-proof))
       (accepted-exactly-if-holds leafHash innerHash root k (a .proof) answer .1 (a .holds))
 
   back : Accepts root k x answer → (r ≡ 0) × (g ≡ foundBytes answer)

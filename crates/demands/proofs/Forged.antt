@@ -206,14 +206,14 @@ module _ {s : Bytes} {v : ℕ} {k x : Bytes} (w : SoundBytes s) (kept : Kept (st
       let p = c .proof in
       let holds = sym (same-check (storeOf s) v k p)
       ∙ accepted-exactly-if-holds node.leafHash node.innerHash (rootOfVersion s v) k p answer .1 (c .holds) in
-      let e = ap (λ o. finds sha256 v k o (storeOf s) .answer) (read-as x bytes p (c .is-proof))
+      let e = ap (λ o. finds sha256 v k o (storeOf s) .answer) (read-as x p (c .is-proof))
       ∙ judged-is-accepted sha256 (storeOf s) v k p answer kept granted holds in
       ap numberOf (one-outcome d (accepts w e) .0)
 
   -- the check has one answer
   one-verdict : {a b : Verdict} → Accepts (rootOfVersion s v) k x a → Accepts (rootOfVersion s v) k x b → a ≡ b
   one-verdict {a} {b} c d =
-      let same = same-some (sym (read-as x bytes (c .proof) (c .is-proof)) ∙ read-as x bytes (d .proof) (d .is-proof)) in
+      let same = same-some (sym (read-as x (c .proof) (c .is-proof)) ∙ read-as x (d .proof) (d .is-proof)) in
       let l = accepted-exactly-if-holds node.leafHash node.innerHash (rootOfVersion s v) k (c .proof) a .1 (c .holds) in
       let r = accepted-exactly-if-holds node.leafHash node.innerHash (rootOfVersion s v) k (d .proof) b .1 (d .holds) in
       same-verdict (sym l ∙ ap (checked node.leafHash node.innerHash (rootOfVersion s v) k) same ∙ r)

@@ -31,7 +31,7 @@ pub use Rattle.message_words.proofs.Theorems.{one-write, one-read, refused-writ
 use Rattle.partner.specs.Ours.{askedKey, verdictOf, partnerAccepts}
 use Rattle.partner.proofs.Agreement.{message-is-encoded}
 use Rattle.partner.proofs.Theorems.{checked-by-partner, accepted-root-32, led-as-ours}
-use Rattle.verify_rules.specs.Verify.{verified}
+use Rattle.verify_rules.specs.Reading.{verified}
 use Rattle.refusals.specs.Exactly.{Exactly}
 use Rattle.refusals.proofs.Exactly.{First, exactly}
 use Rattle.refusals.proofs.Messages.{write-first, read-first}

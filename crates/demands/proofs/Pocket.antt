@@ -30,8 +30,7 @@ use Rattle.contracts.specs.Proves.{proveAnswer, roomAfter}
 use Rattle.pocket.specs.Pocket.{Outside, small, inProfile, pocketProve}
 use Rattle.pocket.proofs.Theorems.{inside-shows-short, outside-shows-long, pocket-proofs-have-2296-bytes}
 use Rattle.contracts.specs.Pocket.{pocketAnswer, pocketInto}
-use Rattle.verify_rules.specs.Verify.{verified}
-use Rattle.verify_rules.specs.Pocket.{pocketJudged, pocketVerified}
+use Rattle.verify_rules.specs.Reading.{verified, pocketJudged, pocketVerified}
 use Rattle.verify_rules.proofs.Pocket.{inside-as-the-full-check, off-form-as-the-full-check}
 use Rattle.refusals.specs.Exactly.{Exactly, NoneOf, low, Names}
 use Rattle.refusals.specs.Rows.{Not32, StopsProve, TooLong, ProvedOutside, OutsidePocket}

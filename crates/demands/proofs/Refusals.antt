@@ -37,7 +37,7 @@ use Rattle.contracts.specs.Proves.{proveAnswer, roomAfter, provedInto, lengthBy
 use Rattle.contracts.specs.Changes as compared
 use Rattle.contracts.specs.Changes.{countBytes}
 use Rattle.finding_rules.specs.Call.{findingBytes}
-use Rattle.verify_rules.specs.Verify.{verified}
+use Rattle.verify_rules.specs.Reading.{verified}
 use Rattle.verify_rows.specs.Rows.{overFront, manyVerified}
 use Rattle.rescue_bytes.proofs.Outcomes.{refused-export-leaves}
 use Rattle.move_rules.proofs.Outcomes as move

@@ -19,7 +19,7 @@ use Rattle.proofrecords.specs.ProofBytes.{absenceKind, presenceKind, absenceHea
 use Rattle.proofrecords.proofs.Proofs.{proof-is}
 use Rattle.layout.specs.Headers.{header, headerOf}
 use Rattle.layout.specs.Stores.{storeOf}
-use Rattle.verify_rules.specs.Verify.{judged, verified}
+use Rattle.verify_rules.specs.Reading.{judged, verified}
 use Rattle.palette_rules.specs.Palette.{wholeKeys, keysIn, palette}
 use Rattle.contracts.specs.Palettes.{paletteAnswer, roomAfter, lengthBytes}
 use Rattle.contracts.specs.Contracts.{Verifies, Palettes}

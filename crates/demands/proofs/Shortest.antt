@@ -18,7 +18,7 @@ use Rattle.meaning.specs.Answers.{foundBytes}
 use Rattle.nodehash.specs.Node.{leafHash, innerHash}
 use Rattle.proofrecords.specs.ProofBytes.{proofBytes, PresenceForm, ProofForm}
 use Rattle.proofrecords.proofs.Proofs.{length-presence, length-absence, absence-has-112}
-use Rattle.verify_rules.specs.Verify.{verified}
+use Rattle.verify_rules.specs.Reading.{verified}
 use Rattle.verify_rules.proofs.Acceptance.{absent-is-shown}
 use Rattle.contracts.specs.Contracts.{Verifies}
 use Rattle.demands.proofs.Hashes.{leaf-hash-whole}

@@ -30,7 +30,7 @@ use Rattle.promises.proofs.Calls.{sound-form}
 use Rattle.contracts.specs.Reads.{rootAnswer, keyAnswer, rootBytes}
 use Rattle.contracts.proofs.Reading.{root-read-of-sound, key-read-of-sound}
 use Rattle.contracts.specs.Proves.{proveAnswer, provedInto}
-use Rattle.verify_rules.specs.Verify.{verified}
+use Rattle.verify_rules.specs.Reading.{verified}
 use Rattle.meaning.specs.Answers.{numberOf, foundBytes, foundAfter}
 use Rattle.contracts.specs.Contracts.{ReadsRoot, ReadsKey, Proves, Verifies}
 use Rattle.demands.specs.Claims.{treeOfVersion, grantsOfVersion, Shown, NothingToShow}

@@ -8,8 +8,9 @@ use Rattle.meaning.specs.Calls.{refused}
 use Rattle.meaning.specs.Answers.{numberOf, foundAfter}
 use Rattle.proofrecords.specs.ProofBytes.{isPresence, presenceIn, isAbsence, absenceIn, proofIn}
 use Rattle.pocket.specs.Pocket.{shortPath, small}
-use Rattle.verify_rules.specs.Verify.{verified, Verifies}
-use Rattle.verify_rules.specs.Pocket.{pocketVerified, PocketVerifies, outside}
+use Rattle.verify_rules.specs.Verify.{Verifies}
+use Rattle.verify_rules.specs.Reading.{verified, pocketVerified, outside}
+use Rattle.verify_rules.specs.Pocket.{PocketVerifies}
 
 -- which bytes are outside, by their form
 module _ (x : Bytes) where

@@ -445,15 +445,22 @@ proof-bytes x p h = go (isPresence x) (isAbsence x) refl refl
     go false false e d k = let z : _≡_ {A = ℕ} 0 1 = cc in absurd (omega arith)
 
 -- bytes are a proof exactly if they are read as it, and none if they are read as none
-module _ (x : Bytes) (bytes : All Byte x) where
+module _ (x : Bytes) where
   pub read-as : (p : Proof) → ProofIs x p → proofIn x ≡ some p
   read-as p w = ap proofIn (w .bytes) ∙ proof-back p (w .form)
 
-  pub proof-is : (p : Proof) → proofIn x ≡ some p → ProofIs x p
-  proof-is p e = let w = proof-bytes x p bytes e in record { bytes = sym (w .1); form = w .0 }
+  pub proof-is : All Byte x → (p : Proof) → proofIn x ≡ some p → ProofIs x p
+  proof-is bytes p e = let w = proof-bytes x p bytes e in record { bytes = sym (w .1); form = w .0 }
 
   pub no-proof-is : proofIn x ≡ none → (p : Proof) → ProofIs x p → ⊥
   no-proof-is e p w = none-some (sym e ∙ read-as p w)
     where
       none-some : none ≡ some p → ⊥
       none-some z = let y : _≡_ {A = ℕ} 0 1 = cc in omega arith
+
+  -- so they are one proof at most
+  pub one-proof-is : (p q : Proof) → ProofIs x p → ProofIs x q → p ≡ q
+  one-proof-is p q v w = same (sym (read-as p v) ∙ read-as q w)
+    where
+      same : some p ≡ some q → p ≡ q
+      same e = cc

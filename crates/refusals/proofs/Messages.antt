@@ -42,7 +42,7 @@ same-proof e = cc
 -- writing
 module _ (x : Bytes) (bytes : All Byte x) (lent : Lent) (room : Bytes) where
   one : {p q : Proof} → proofIn x ≡ some p → ProofIs x q → q ≡ p
-  one {p} {q} e is = same-proof (sym (read-as x bytes q is) ∙ e)
+  one {p} {q} e is = same-proof (sym (read-as x q is) ∙ e)
 
   room-first : (p : Proof) → proofIn x ≡ some p → First ((9, MessageTooLong x lent room) ∷ []) (numberOf (fitted sha256 (length room) (messageBytes (rawProof lent p)) (messageBytes (rawProof lent p))))
   unfolding fitted

@@ -44,7 +44,7 @@ module _ (x : Bytes) (bytes : All Byte x) (root k : Bytes) where
   pocket-form-first p e = inr (λ f. f p (proof-is x bytes p e), go (small p) refl)
     where
       not-outside : small p ≡ true → OutsidePocket x → ⊥
-      not-outside f (q, is, long) = inside-shows-short p f (subst Outside (same-read (sym (read-as x bytes q is) ∙ e)) long)
+      not-outside f (q, is, long) = inside-shows-short p f (subst Outside (same-read (sym (read-as x q is) ∙ e)) long)
 
       holding : First ((11, DoesNotHold root k x) ∷ []) (numberOf (pocketChecked leafHash innerHash root k p)) → small p ≡ true →
           First ((19, OutsidePocket x) ∷ (11, DoesNotHold root k x) ∷ []) (numberOf (pocketChecked leafHash innerHash root k p))

@@ -33,7 +33,7 @@ not-both e = let z : _≡_ {A = ℕ} 0 1 = cc in absurd (omega arith)
 module _ (x : Bytes) (bytes : All Byte x) where
   -- rows 10 and 11, by what the bytes are read as
   pub off-form : proofIn x ≡ none → ProofOffForm x
-  off-form = no-proof-is x bytes
+  off-form = no-proof-is x
 
   module _ (root k : Bytes) where
     pub form-first : (p : Proof) → proofIn x ≡ some p →
@@ -48,7 +48,7 @@ module _ (x : Bytes) (bytes : All Byte x) where
         go (accepted v) f =
             inr (
               λ d.
-                  let same = same-proof (sym e ∙ read-as x bytes (d .0) (d .1)) in
+                  let same = same-proof (sym e ∙ read-as x (d .0) (d .1)) in
                   d .2 v (subst (λ q. Holds leafHash innerHash root k q v) same (accepted-exactly-if-holds leafHash innerHash root k p v .0 f)),
               refl,
             )

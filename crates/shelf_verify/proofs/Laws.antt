@@ -27,7 +27,8 @@ use Rattle.proofrecords.proofs.Forms.{presence-off, absence-off, presence-whole
 use Rattle.place.specs.declared.Place as declared
 use Rattle.place.specs.Place.{Stands}
 use Rattle.shelf_rules.specs.Shelf.{partKey, listRecord, partRecord, bySecond, byEnd, byFirst, shelfIn, byList, shelfJudged, shelfVerified, ShelfVerifies}
-use Rattle.verify_rules.specs.Verify.{judged, verified, Verifies}
+use Rattle.verify_rules.specs.Verify.{Verifies}
+use Rattle.verify_rules.specs.Reading.{judged, verified}
 use Rattle.verify.proofs.Boundary.{zeros-found}
 use Rattle.shelf_verify.specs.Both.{isProof, firstLength, isShelf, both, ChecksBoth}
 

@@ -7,7 +7,7 @@ ghost use lib.ListN.{length, drop};
 ghost use Rattle.meaning.specs.Answers.{numberOf};
 ghost use Rattle.palette_rules.specs.Palette.{wholeKeys, keysFrom};
 ghost use Rattle.hash.specs.Hash.{hashBytes};
-ghost use Rattle.verify_rules.specs.Verify.{verified};
+ghost use Rattle.verify_rules.specs.Reading.{verified};
 ghost use Rattle.verify.specs.Says.{says};
 ghost use Rattle.verify_given.specs.Given.{Leading};
 ghost use Rattle.verify_rows.specs.Rows.{cutsInto, pieces, answerBytes, answersOf, VerifiesMany};

@@ -20,7 +20,7 @@ use Rattle.palette_rules.specs.Palette.{keySize, wholeKeys, keysIn}
 use Rattle.palette_rules.proofs.Keys.{keys-many}
 use Rattle.nodehash.specs.Node.{leafHash, innerHash}
 use Rattle.proofrecords.specs.ProofBytes.{presenceTests, isPresence, isAbsence, presenceIn, absenceIn, proofIn}
-use Rattle.verify_rules.specs.Verify.{judged, verified}
+use Rattle.verify_rules.specs.Reading.{judged, verified}
 use Rattle.verify_rows.specs.Rows.{cutsInto, pieces, answerSize, answerBytes, answersOf, manyVerified}
 use Rattle.verify_rows.proofs.Cutting.{Sized, row-cut, pieces-are}
 

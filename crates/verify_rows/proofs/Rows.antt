@@ -12,7 +12,7 @@ use Rattle.terms.specs.Bits.{Bytes}
 use Rattle.terms.proofs.Tests.{and-left, and-right}
 use Rattle.proofrecords.proofs.Lying.{one-less, none-left}
 use Rattle.palette_rules.specs.Palette.{keysFrom}
-use Rattle.verify_rules.specs.Verify.{verified}
+use Rattle.verify_rules.specs.Reading.{verified}
 use Rattle.verify_rows.specs.Rows.{ownLength, begins, cutsInto, pieces, pieceAt, answerBytes, answersOf}
 
 -- what the bytes begin with

@@ -13,7 +13,7 @@ use Rattle.meaning.specs.Calls.{Answer, refused, accepted}
 use Rattle.meaning.specs.Reading.{Verdict}
 use Rattle.meaning.specs.Answers.{numberOf, foundAfter, toldOf}
 use Rattle.palette_rules.specs.Palette.{keySize, wholeKeys, keysIn}
-use Rattle.verify_rules.specs.Verify.{verified}
+use Rattle.verify_rules.specs.Reading.{verified}
 
 -- A piece is as long as its first four bytes say.
 unfoldable pub ownLength : Bytes → ℕ
