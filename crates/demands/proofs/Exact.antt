@@ -35,7 +35,8 @@ use Rattle.palette_rules.proofs.Keys.{keys-many}
 use Rattle.contracts.specs.Palettes.{paletteAnswer}
 use Rattle.changed.specs.Compare.{compare}
 use Rattle.verify_rules.specs.Reading.{judged, verified}
-use Rattle.verify_rows.specs.Rows.{ownLength, cutsInto, answerSize, manyVerified}
+use Rattle.verify_rows.specs.Rows.{answerSize}
+use Rattle.verify_rows.specs.Reading.{ownLength, cutsInto, manyVerified}
 use Rattle.verify_rows.proofs.Cutting.{cut-exactly}
 use Rattle.sha256.specs.Sha256.{sha256}
 use Rattle.forgery.specs.Finding.{Finding}

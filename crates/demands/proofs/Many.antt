@@ -26,7 +26,8 @@ use Rattle.layout.specs.Stores.{storeOf}
 use Rattle.promises.specs.Calls.{SoundBytes}
 use Rattle.promises.proofs.Calls.{sound-form}
 use Rattle.contracts.specs.Palettes.{proofsBytes}
-use Rattle.verify_rows.specs.Rows.{ownLength, answerBytes, answersOf, overFront}
+use Rattle.verify_rows.specs.Rows.{answerBytes, overFront}
+use Rattle.verify_rows.specs.Reading.{ownLength, answersOf}
 use Rattle.verify_rows.proofs.Cutting.{proofs-sized}
 use Rattle.verify_rows.proofs.Answered.{accepted-if-0, row-pieces, answered-pieces, answers-long}
 use Rattle.contracts.specs.Contracts.{ReadsRoot, Palettes, VerifiesMany}

@@ -38,7 +38,8 @@ use Rattle.contracts.specs.Changes as compared
 use Rattle.contracts.specs.Changes.{countBytes}
 use Rattle.finding_rules.specs.Call.{findingBytes}
 use Rattle.verify_rules.specs.Reading.{verified}
-use Rattle.verify_rows.specs.Rows.{overFront, manyVerified}
+use Rattle.verify_rows.specs.Rows.{overFront}
+use Rattle.verify_rows.specs.Reading.{manyVerified}
 use Rattle.rescue_bytes.proofs.Outcomes.{refused-export-leaves}
 use Rattle.move_rules.proofs.Outcomes as move
 use Rattle.contracts.specs.Contracts.{Formats, Applies, Prunes, ReadsRoot, ReadsKey, Counts, ReadsAt, Proves, Changes, Rescues, MovesOver, MovesBack, Verifies, VerifiesMany, Finds}

@@ -18,6 +18,6 @@ pub data PocketJudged (root k : Bytes) (p : Proof) : Answer Verdict → Type 0 w
 -- is left as g.
 pub record PocketVerifies (root k x f : Bytes) (r : ℕ) (g : Bytes) : Type 0 where
   pub verdict : Answer Verdict
-  pub told : Told (PocketJudged root k) root k x verdict
+  pub told : Told PocketJudged root k x verdict
   pub answer : r ≡ numberOf verdict
   pub found : g ≡ foundAfter verdict f
