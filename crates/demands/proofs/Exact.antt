@@ -1,20 +1,19 @@
 -- Demand 1: a public call answers each number of document 01 exactly if its row deserves it and no earlier row of the call's order does, and
 -- 0 exactly if none does. By the cases of each contract, row by row. Assumes nothing.
-use Prim.Native.Nat.{ℕ, _*_, _/_}
+use Prim.Native.Nat.{ℕ}
 use native.Mathlib.Omega.{arith}
 use mathlib.Core.Path.{_≡_, refl, sym, _∙_, subst}
 use mathlib.Core.Logic.{inl, inr}
-use mathlib.Core.Bool.{Bool, true, false, cond, _&&_, true≢false}
+use mathlib.Core.Bool.{Bool, true, false, cond}
 use mathlib.Core.List.{[], _∷_, _++_}
-use mathlib.Core.Option.{Option, none, some}
 use lib.ListN.{length}
-use lib.Dec.{eqb, leb}
-use borrow.Author.Tests.{eqb-true, eqb-false, leb-true, leb-false}
+use lib.Dec.{eqb}
+use borrow.Author.Tests.{eqb-true, eqb-false}
 use Rattle.terms.specs.declared.Form.the-variants.{Plain as plain, Counted as counted}
 use Rattle.terms.specs.Bits.{Bytes, Byte, All}
-use Rattle.terms.specs.Records.{Store, Proof}
+use Rattle.terms.specs.Records.{Store}
 use Rattle.meaning.specs.Calls.{Answer, refused, accepted, Result, apply, prune}
-use Rattle.meaning.specs.Reading.{Trouble, lostRecord, spoiltRecord, readKey, readRoot}
+use Rattle.meaning.specs.Reading.{Verdict, Trouble, lostRecord, spoiltRecord, readKey, readRoot}
 use Rattle.meaning.specs.Proving.{prove}
 use Rattle.meaning.specs.Counting.{readNumber, readPosition}
 use Rattle.meaning.specs.Answers.{numberOf}
@@ -30,19 +29,17 @@ use Rattle.promises.specs.Headed.{byHeader}
 use Rattle.contracts.specs.Reads.{rootAnswer, keyAnswer}
 use Rattle.contracts.specs.Numbers.{numberAnswer, positionAnswer}
 use Rattle.contracts.specs.Proves.{proveAnswer}
-use Rattle.palette_rules.specs.Palette.{keySize, wholeKeys, keysIn, palette}
-use Rattle.palette_rules.proofs.Keys.{keys-many}
+use Rattle.palette_rules.specs.Palette.{wholeKeys, keysIn, palette}
 use Rattle.contracts.specs.Palettes.{paletteAnswer}
 use Rattle.changed.specs.Compare.{compare}
-use Rattle.verify_rules.specs.Verify.{judged, verified}
-use Rattle.verify_rows.specs.Rows.{ownLength, cutsInto, answerSize, manyVerified}
-use Rattle.verify_rows.proofs.Cutting.{cut-exactly}
+use Rattle.verify_rules.specs.Verify.{Judged, Told, not-32-bytes, not-in-form, in-form}
+use Rattle.verify_rows.specs.Rows.{RootAndKeys, ToldOfRow, not-whole, not-pieces, no-room, answered}
 use Rattle.forgery.specs.Finding.{Finding}
 use Rattle.contracts.specs.Finds.{Answers, wrong-key, wrong-store, sound-store}
 use Rattle.ways.specs.Ways.{its-root}
 use Rattle.refusals.specs.Exactly.{Table, Exactly, NoneOf, low, Names}
-use Rattle.refusals.specs.Rows.{NotRootAndKeys, NotPieces, AnswersTooLong, NotKeys, StopsPalette, TooLongTogether, NotSound, Not32, StopsRoot, StopsGet, StopsAt, StopsProve, TooLong}
-use Rattle.refusals.specs.Orders.{headerRows, batchRows, versionRows, comparisonRows, holdingRows, rowRows, foundRows}
+use Rattle.refusals.specs.Rows.{NotRootAndKeys, NotKeys, StopsPalette, TooLongTogether, NotSound, Not32, StopsRoot, StopsGet, StopsAt, StopsProve, TooLong}
+use Rattle.refusals.specs.Orders.{headerRows, batchRows, versionRows, comparisonRows, foundRows}
 use Rattle.refusals.proofs.Exactly.{First, past, within, exactly}
 use Rattle.refusals.proofs.Headers.{length-wrong, length-right, after-header, header-row, records-formed}
 use Rattle.refusals.proofs.Batches.{batch-first}
@@ -54,7 +51,7 @@ use Rattle.refusals.proofs.Changes.{changes-first}
 use Rattle.refusals.proofs.Rescues.{rescue-first}
 use Rattle.refusals.proofs.Findings.{finding-first}
 use Rattle.refusals.proofs.Moves.{move-first}
-use Rattle.refusals.proofs.Proofs.{off-form, form-first}
+use Rattle.refusals.proofs.Proofs.{judged-first}
 use Rattle.demands.specs.Tables.{formatRows, soundRows, applyRows, pruneRows, rootRows, getRows, atRows, proveRows, paletteRows, testsOf, changesRows, verifyRows, verifyManyRows, rescuingRows, moveRows, findingRows}
 use Rattle.contracts.specs.Contracts.{Formats, Checks, Applies, Prunes, ReadsRoot, ReadsKey, Counts, ReadsAt, Proves, Palettes, Changes, Verifies, VerifiesMany, Hashes, Rescues, MovesOver, MovesBack, Finds}
 
@@ -264,53 +261,34 @@ pub back-exactly : {s old t : Bytes} {r : ℕ} → MovesBack s old r t → Exact
 back-exactly {s} {old} {r = r} w = exactly (moveRows counted s old) r refl (move-first counted s old w)
 
 -- The proof check: 12, 10, 11.
-pub verify-exactly : {root k x f : Bytes} {r : ℕ} {g : Bytes} → All Byte x → Verifies root k x f r g → Exactly (verifyRows root k x) r
-unfolding verified
-verify-exactly {root} {k} {x} {r = r} h w =
-    exactly (verifyRows root k x) r refl
-    (subst (First (verifyRows root k x)) (sym (w .answer)) (sizes (eqb (length root) 32) (eqb (length k) 32) refl refl))
+pub verify-exactly : {root k x f : Bytes} {r : ℕ} {g : Bytes} → Verifies root k x f r g → Exactly (verifyRows root k x) r
+verify-exactly {root} {k} {x} {r = r} w = exactly (verifyRows root k x) r refl (subst (First (verifyRows root k x)) (sym (w .answer)) (go (w .told)))
   where
-    form : (o : Option Proof) → proofIn x ≡ o → First (holdingRows root k x) (numberOf (judged root k o))
-    form none e = inl (off-form x h e, refl)
-    form (some p) e = form-first x h root k p e
-
-    sizes : (a b : Bool) → eqb (length root) 32 ≡ a → eqb (length k) 32 ≡ b →
-        First (verifyRows root k x) (numberOf (cond (a && b) (judged root k (proofIn x)) (refused 12)))
-    sizes false b e f = inl (λ z. eqb-false (length root) 32 e (z .0), refl)
-    sizes true false e f = inl (λ z. eqb-false (length k) 32 f (z .1 .0), refl)
-    sizes true true e f = inr (λ n. n (eqb-true (length root) 32 e, (eqb-true (length k) 32 f, tt)), form (proofIn x) refl)
+    go : {a : Answer Verdict} → Told Judged root k x a → First (verifyRows root k x) (numberOf a)
+    go (not-32-bytes n) = inl (λ z. n (z .0, z .1 .0), refl)
+    go (not-in-form s n) = inr (λ z. z (s .0, (s .1, tt)), inl (n, refl))
+    go (in-form {p} s is h) = inr (λ z. z (s .0, (s .1, tt)), inr (λ f. f p is, judged-first p is h))
 
 -- Many proofs at once: 12, 10, 9.
 pub verify-many-exactly : {root list row old : Bytes} {r : ℕ} {new : Bytes} → VerifiesMany root list row old r new →
     Exactly (verifyManyRows root list row old) r
-unfolding manyVerified keysIn ownLength
 verify-many-exactly {root} {list} {row} {old} {r} w =
-    exactly (verifyManyRows root list row old) r refl
-    (subst (First (verifyManyRows root list row old)) (sym (w .answer))
-    (subst (λ n. First (rowRows root list n row old) (numberOf said)) (sym (keys-many many list))
-    (go (eqb (length root) 32) (wholeKeys list) (cutsInto many row) (leb (answerSize * many) (length old)) _ refl refl refl refl)))
+    exactly (verifyManyRows root list row old) r refl (subst (First (verifyManyRows root list row old)) (sym (w .answer)) (go (w .told)))
   where
-    many : ℕ
-    many = length list / keySize
+    right : RootAndKeys root list → NotRootAndKeys root list → ⊥
+    right h (inl z) = z (h .0, tt)
+    right h (inr z) = keys-whole list (h .1) z
 
-    said : Answer Bytes
-    said = manyVerified root list row (length old)
+    wrong : (a b : Bool) → eqb (length root) 32 ≡ a → wholeKeys list ≡ b → (RootAndKeys root list → ⊥) → NotRootAndKeys root list
+    wrong false b e f n = inl (λ z. eqb-false (length root) 32 e (z .0))
+    wrong true false e f n = inr (keys-torn list f)
+    wrong true true e f n = absurd (n (eqb-true (length root) 32 e, f))
 
-    right : eqb (length root) 32 ≡ true → wholeKeys list ≡ true → NotRootAndKeys root list → ⊥
-    right e f (inl z) = z (eqb-true (length root) 32 e, tt)
-    right e f (inr z) = keys-whole list f z
-
-    cut : cutsInto many row ≡ true → NotPieces many row → ⊥
-    cut g n = let w = cut-exactly many row .0 g in n (w .0) (w .1) (w .2) (w .3)
-
-    go : (a b c d : Bool) (x : Bytes) → eqb (length root) 32 ≡ a → wholeKeys list ≡ b → cutsInto many row ≡ c → leb (answerSize * many) (length old) ≡ d →
-        First (rowRows root list many row old) (numberOf (cond (a && b) (cond c (cond d (accepted x) (refused 9)) (refused 10)) (refused 12)))
-    go false b c d x e f g h = inl (inl (λ z. eqb-false (length root) 32 e (z .0)), refl)
-    go true false c d x e f g h = inl (inr (keys-torn list f), refl)
-    go true true false d x e f g h = inr (right e f, inl (λ xs s l z. true≢false (sym (cut-exactly many row .1 (xs, s, l, z)) ∙ g), refl))
-    go true true true false x e f g h = inr (right e f, inr (cut g, inl (leb-false (answerSize * many) (length old) h, refl)))
-    go true true true true x e f g h =
-        inr (right e f, inr (cut g, inr (λ z. absurd (omega (arith, leb-true (answerSize * many) (length old) h)), refl)))
+    go : {a : Answer Bytes} → ToldOfRow root list row (length old) a → First (verifyManyRows root list row old) (numberOf a)
+    go (not-whole n) = inl (wrong (eqb (length root) 32) (wholeKeys list) refl refl n, refl)
+    go (not-pieces h n) = inr (right h, inl (n, refl))
+    go (no-room {xs} h c l) = inr (right h, inr (λ n. n xs c, inl (l, refl)))
+    go (answered {xs} h c l q) = inr (right h, inr (λ n. n xs c, inr (λ z. absurd (omega arith), refl)))
 
 -- A hash is never refused.
 pub sha256-exactly : {x g : Bytes} {r : ℕ} → Hashes x r g → Exactly [] r

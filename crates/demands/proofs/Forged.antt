@@ -181,7 +181,7 @@ module _ {s : Bytes} {v : ℕ} {k x : Bytes} (w : SoundBytes s) (kept : Kept (st
       Verifies root k x f₂ 0 found → found ≡ foundBytes answer → Finds s v k x f r g →
       (r ≡ 0) × ((answerOf k (grantsOfVersion s v) ≡ answer) ⊎ Deceived s v x g)
   accepted-proof-is-true-or-found-out {f = f} {g = g} answer y z e h =
-      let c = subst (λ q. Accepts q k x answer) (root-of-tree w kept y .1) (accepted-exactly-if-it-holds bytes z answer .0 (refl, e)) in
+      let c = subst (λ q. Accepts q k x answer) (root-of-tree w kept y .1) (accepted-exactly-if-it-holds z answer .0 (refl, e)) in
       let zero = h .number ∙ answered c (h .answers) in
       (zero, decide c (accepted-finding-means (subst (λ n. Finds s v k x f n g) zero h)) (right-or-not (answerOf k (grantsOfVersion s v)) answer))
     where

@@ -2,11 +2,12 @@
 -- both outcomes are the same term; the others are by cases that exclude each other. Assumes nothing.
 use Prim.Native.Nat.{ℕ}
 use mathlib.Core.Path.{_≡_, refl, ap, sym, _∙_}
+use lib.ListN.{length}
 use Rattle.terms.specs.declared.Form.the-variants.{Counted as counted}
 use Rattle.terms.specs.Bits.{Bytes}
 use Rattle.promises.proofs.Check.{one-answer}
 use Rattle.meaning.specs.Calls.{Answer, refused}
-use Rattle.meaning.specs.Answers.{numberOf, toldOf}
+use Rattle.meaning.specs.Answers.{numberOf, toldOf, foundAfter}
 use Rattle.sha256.specs.Sha256.{sha256}
 use Rattle.layout.specs.Stores.{storeOf}
 use Rattle.promises.specs.Check.{Checked, sound}
@@ -20,6 +21,9 @@ use Rattle.forgery.specs.Finding.{Finding}
 use Rattle.finding_rules.specs.Call.{findingBytes}
 use Rattle.finding_rules.proofs.Told as found
 use Rattle.contracts.specs.Finds.{Answers, wrong-key, wrong-store, sound-store}
+use Rattle.verify_rules.proofs.Told.{one-verdict}
+use Rattle.verify_rows.specs.Rows.{overFront}
+use Rattle.verify_rows.proofs.Told.{one-told-of-row}
 
 -- what is found of a proof has one answer
 sound-checked : {s : Bytes} → SoundBytes s → Checked counted s 0
@@ -95,10 +99,14 @@ module _ {s : Bytes} {a b : ℕ} where
 
 module _ {a b : ℕ} where
   pub one-verify : {root k x f g h : Bytes} → Verifies root k x f a g → Verifies root k x f b h → (a ≡ b) × (g ≡ h)
-  one-verify x y = (x .answer ∙ sym (y .answer), x .found ∙ sym (y .found))
+  one-verify {root} {k} {x} {f} u w =
+      let e = one-verdict root k x (u .verdict) (w .verdict) (u .told) (w .told) in
+      (u .answer ∙ ap (λ v. numberOf v) e ∙ sym (w .answer), u .found ∙ ap (λ v. foundAfter v f) e ∙ sym (w .found))
 
   pub one-verify-many : {root list row old g h : Bytes} → VerifiesMany root list row old a g → VerifiesMany root list row old b h → (a ≡ b) × (g ≡ h)
-  one-verify-many x y = (x .answer ∙ sym (y .answer), x .told ∙ sym (y .told))
+  one-verify-many {root} {list} {row} {old} u w =
+      let e = one-told-of-row root list row (length old) (u .answers) (w .answers) (u .told) (w .told) in
+      (u .answer ∙ ap (λ v. numberOf v) e ∙ sym (w .answer), u .buffer ∙ ap (λ v. toldOf (λ b. overFront b old) v old) e ∙ sym (w .buffer))
 
   pub one-version : TellsVersion a → TellsVersion b → a ≡ b
   one-version x y = x ∙ sym y

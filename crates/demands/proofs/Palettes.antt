@@ -41,7 +41,7 @@ use Rattle.promises.proofs.Calls.{sound-form}
 use Rattle.promises.specs.Headed.{byHeader}
 use Rattle.contracts.specs.Proves.{proveAnswer}
 use Rattle.contracts.specs.Palettes.{paletteAnswer, proofsBytes, roomAfter, palettedInto, lengthBytes}
-use Rattle.verify_rules.specs.Verify.{verified}
+use Rattle.verify_rules.specs.Verify.{Judged, Told}
 use Rattle.contracts.specs.Contracts.{ReadsRoot, Proves, Palettes, Verifies}
 use Rattle.demands.specs.Claims.{treeOfVersion, grantsOfVersion}
 use Rattle.demands.specs.Palettes.{SingleCalls, none-asked, then-given, FirstRefusal, refused-here, refused-later, BesideSingleCalls, cutApart, EachAccepted, PaletteShown}
@@ -357,7 +357,7 @@ module _ (s : Bytes) (w : SoundBytes s) (v : ℕ) (kept : Kept (storeOf s) v) (s
     form : ProofForm p
     form = proof-form (storeOf s) v k p slots whole e
 
-    pub is-verified : {f₁ root : Bytes} {r₁ : ℕ} → ReadsRoot s v f₁ r₁ root → verified root k (proofBytes p) ≡ accepted (answerOf k (grantsOfVersion s v))
+    pub is-verified : {f₁ root : Bytes} {r₁ : ℕ} → ReadsRoot s v f₁ r₁ root → Told Judged root k (proofBytes p) (accepted (answerOf k (grantsOfVersion s v)))
     is-verified y =
         let a = root-of-tree w kept y in
         let h = hash leafHash innerHash (unversioned (treeOfVersion s v)) in
@@ -366,7 +366,7 @@ module _ (s : Bytes) (w : SoundBytes s) (v : ℕ) (kept : Kept (storeOf s) v) (s
         let holds : checked leafHash innerHash h k p ≡ accepted (answerOf k (grantsOfVersion s v)) =
         subst (λ q. checked leafHash innerHash h k q ≡ accepted (answerOf k (grantsOfVersion s v))) same (its k whole .2)
         in
-        ap (λ q. verified q k (proofBytes p)) (a .1) ∙ checker-on h k p long (whole .0) form holds
+        subst (λ q. Told Judged q k (proofBytes p) (accepted (answerOf k (grantsOfVersion s v)))) (sym (a .1)) (checker-on h k p long (whole .0) form holds)
 
     is-accepted : {f₁ root f₂ found : Bytes} {r₁ r₂ : ℕ} → ReadsRoot s v f₁ r₁ root → Verifies root k (proofBytes p) f₂ r₂ found →
         (r₂ ≡ 0) × (found ≡ foundBytes (answerOf k (grantsOfVersion s v)))

@@ -37,8 +37,7 @@ use Rattle.contracts.specs.Proves.{proveAnswer, roomAfter, provedInto, lengthBy
 use Rattle.contracts.specs.Changes as compared
 use Rattle.contracts.specs.Changes.{countBytes}
 use Rattle.finding_rules.specs.Call.{findingBytes}
-use Rattle.verify_rules.specs.Verify.{verified}
-use Rattle.verify_rows.specs.Rows.{overFront, manyVerified}
+use Rattle.verify_rows.specs.Rows.{overFront}
 use Rattle.rescue_bytes.proofs.Outcomes.{refused-export-leaves}
 use Rattle.move_rules.proofs.Outcomes as move
 use Rattle.contracts.specs.Contracts.{Formats, Applies, Prunes, ReadsRoot, ReadsKey, Counts, ReadsAt, Proves, Changes, Rescues, MovesOver, MovesBack, Verifies, VerifiesMany, Finds}
@@ -260,11 +259,11 @@ refused-back-writes-nothing w h = move.refused-writes-nothing w h
 -- The proof check.
 module _ {root k x f : Bytes} {r : ℕ} {g : Bytes} (w : Verifies root k x f r g) where
   pub refused-verify-writes-nothing : (r ≡ 0 → ⊥) → g ≡ f
-  refused-verify-writes-nothing = found-kept (verified root k x) (w .answer) (w .found)
+  refused-verify-writes-nothing = found-kept (w .verdict) (w .answer) (w .found)
 
 -- Many proofs at once.
 module _ {root list row old : Bytes} {r : ℕ} {new : Bytes} (w : VerifiesMany root list row old r new) where
   pub refused-verify-many-writes-nothing : (r ≡ 0 → ⊥) → new ≡ old
   refused-verify-many-writes-nothing h =
-      let e = refused-of (manyVerified root list row (length old)) (λ z. h (w .answer ∙ z)) in
-      w .told ∙ ap (λ a. toldOf (λ b. overFront b old) a old) (e .1)
+      let e = refused-of (w .answers) (λ z. h (w .answer ∙ z)) in
+      w .buffer ∙ ap (λ a. toldOf (λ b. overFront b old) a old) (e .1)

@@ -16,7 +16,7 @@ use Rattle.sha256.specs.Sha256.{sha256}
 use Rattle.nodehash.specs.Node as node
 use Rattle.proofrecords.specs.ProofBytes.{isPresence, presenceIn, isAbsence, absenceIn, proofIn}
 use Rattle.hash.specs.declared.Hash as declared-hash
-use Rattle.verify_rules.specs.Verify.{judged, verified}
+use Rattle.verify_rules.specs.Reading.{judged, verified}
 use Rattle.verify.specs.Says.{says}
 use Rattle.verify.specs.declared.Checked as declared
 use Rattle.verify.specs.declared.Checked.the-variants.{Refused, Present, Absent}

@@ -32,7 +32,7 @@ ghost use Rattle.promises.specs.Calls.{SoundBytes};
 ghost use Rattle.forgery.specs.Finding.{finding};
 ghost use Rattle.forged_nodes.specs.Nodes.{namedSays};
 ghost use Rattle.forged_truth.specs.Truth.{SoundVersion, grantsAt};
-ghost use Rattle.verify_rules.specs.Verify.{judged};
+ghost use Rattle.verify_rules.specs.Reading.{judged};
 ghost use Rattle.verify.specs.Says.{says};
 ghost use Rattle.finding_rules.specs.Reading.{noGrant, foundAgainst, finds};
 ghost use Rattle.contracts.specs.Finds.{Answers};

@@ -8,7 +8,8 @@ use Rattle.terms.specs.Bits.{Bytes}
 use Rattle.meaning.specs.Calls.{Answer}
 use Rattle.meaning.specs.Reading.{Verdict}
 use Rattle.meaning.specs.Answers.{numberOf}
-use Rattle.shelf_rules.specs.Shelf.{ShelfHolds, Sizes32, ShelfTold, not-32-bytes, too-many-bits, not-in-form, not-holding, holding}
+use Rattle.verify_rules.specs.Verify.{Sizes32}
+use Rattle.shelf_rules.specs.Shelf.{ShelfHolds, ShelfTold, not-32-bytes, too-many-bits, not-in-form, not-holding, holding}
 use Rattle.shelf_rules.proofs.Told.{one-shelf-is}
 use Rattle.refusals.specs.Rows.{Not32, TooManyBits, ShelfOffForm}
 use Rattle.refusals.specs.Orders.{shelfRows}

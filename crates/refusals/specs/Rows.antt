@@ -39,6 +39,7 @@ use Rattle.layout.specs.Stores.{storeIn, storeOf}
 use Rattle.move_rules.specs.Moves.{other}
 use Rattle.shelf_rules.specs.Shelf.{mostBits, ShelfProof, ShelfIs, ShelfHolds}
 use Rattle.batch.specs.Batch.{asks, AskedBy}
+use Rattle.verify_rows.specs.Rows.{Pieces}
 
 -- 1: the store's length isn't 24 + 128n, n in 1 to 16,384.
 abbrev pub WrongLength : Bytes → Type 0
@@ -171,13 +172,9 @@ TooLongTogether s v keys room =
 abbrev pub NotRootAndKeys : Bytes → Bytes → Type 0
 NotRootAndKeys root list = Not32 (root ∷ []) ⊎ NotKeys list
 
--- A piece is as long as its first four bytes say, at least 4.
-abbrev pub Piece : Bytes → Type 0
-Piece x = (4 ≤ length x) × (field 0 4 x ≡ length x)
-
 -- 10 of many proofs: the bytes aren't n pieces one after the other, none over.
 abbrev pub NotPieces : ℕ → Bytes → Type 0
-NotPieces n row = (xs : List Bytes) → All Piece xs → length xs ≡ n → row ≡ flat xs → ⊥
+NotPieces n row = (xs : List Bytes) → Pieces n row xs → ⊥
 
 -- 9 of many proofs: fewer than 34 bytes for each of n answers.
 abbrev pub AnswersTooLong : ℕ → Bytes → Type 0

@@ -13,7 +13,8 @@ use Rattle.terms.specs.Bits.{Bytes, Byte, All}
 use Rattle.meaning.specs.Calls.{Answer, refused, accepted}
 use Rattle.meaning.specs.Reading.{Verdict}
 use Rattle.meaning.specs.Answers.{numberOf, foundAfter}
-use Rattle.shelf_rules.specs.Shelf.{ShelfProof, ShelfIs, ShelfHolds, Sizes32, ShelfTold, not-32-bytes, too-many-bits, not-in-form, not-holding, holding, ShelfVerifies}
+use Rattle.verify_rules.specs.Verify.{Sizes32}
+use Rattle.shelf_rules.specs.Shelf.{ShelfProof, ShelfIs, ShelfHolds, ShelfTold, not-32-bytes, too-many-bits, not-in-form, not-holding, holding, ShelfVerifies}
 use Rattle.shelf_rules.specs.Reading.{shelfIn, shelfChecked, shelfJudged, shelfVerified}
 use Rattle.shelf_rules.proofs.Records.{shelf-back, shelf-bytes}
 use Rattle.shelf_rules.proofs.Theorems.{shelf-accepted-exactly-if-holds, shelf-refused-with-11}

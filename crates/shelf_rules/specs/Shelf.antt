@@ -4,7 +4,7 @@
 use Prim.Native.Nat.{ℕ, _≤_, _<_}
 use mathlib.Core.Path.{_≡_}
 use mathlib.Core.List.{_++_}
-use lib.ListN.{length, take}
+use lib.ListN.{take}
 use Rattle.terms.specs.Bits.{Bytes, bits, pack}
 use Rattle.terms.specs.Records.{Presence, Absence, Proof, presence, absence}
 use Rattle.meaning.specs.Calls.{Answer, refused, accepted}
@@ -13,6 +13,7 @@ use Rattle.meaning.specs.Answers.{numberOf, foundAfter}
 use Rattle.checker.specs.Holding.{Holds}
 use Rattle.nodehash.specs.Node.{leafHash, innerHash}
 use Rattle.proofrecords.specs.ProofBytes.{proofBytes, ProofForm}
+use Rattle.verify_rules.specs.Verify.{Sizes32}
 
 -- A shelf has 0 to 12 bits.
 abbrev pub mostBits : ℕ
@@ -51,10 +52,6 @@ pub data ShelfHolds (root : Bytes) (b : ℕ) (k : Bytes) : ShelfProof → Verdic
   in-part : {p : Presence} {q : Proof} {part : Bytes} {answer : Verdict} →
       Holds leafHash innerHash root (partKey b k) (presence p) (present part) →
       Holds leafHash innerHash part k q answer → ShelfHolds root b k (inPart p q) answer
-
--- The root and the key have 32 bytes.
-abbrev pub Sizes32 : Bytes → Bytes → Type 0
-Sizes32 root k = (length root ≡ 32) × (length k ≡ 32)
 
 -- What is said of the bytes x as a proof of the key k of a shelf of b bits, against the list's root.
 pub data ShelfTold (root : Bytes) (b : ℕ) (k x : Bytes) : Answer Verdict → Type 0 where

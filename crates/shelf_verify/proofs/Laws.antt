@@ -29,7 +29,8 @@ use Rattle.place.specs.Place.{Stands}
 use Rattle.shelf_rules.specs.Shelf.{partKey, ShelfVerifies}
 use Rattle.shelf_rules.specs.Reading.{listRecord, partRecord, bySecond, byEnd, byFirst, shelfIn, byList, shelfJudged, shelfVerified}
 use Rattle.shelf_rules.proofs.Told.{shelf-verifies}
-use Rattle.verify_rules.specs.Verify.{judged, verified, Verifies}
+use Rattle.verify_rules.specs.Verify.{Verifies}
+use Rattle.verify_rules.specs.Reading.{judged, verified}
 use Rattle.verify.proofs.Boundary.{zeros-found}
 use Rattle.shelf_verify.specs.Both.{isProof, firstLength, isShelf, both, ChecksBoth}
 

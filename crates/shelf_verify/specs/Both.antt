@@ -12,7 +12,7 @@ use Rattle.meaning.specs.Reading.{Verdict}
 use Rattle.meaning.specs.Answers.{numberOf, foundAfter}
 use Rattle.proofrecords.specs.ProofBytes.{isPresence, isAbsence}
 use Rattle.shelf_rules.specs.Reading.{byList}
-use Rattle.verify_rules.specs.Verify.{verified}
+use Rattle.verify_rules.specs.Reading.{verified}
 
 -- Bytes are one whole record in form.
 unfoldable pub isProof : Bytes → Bool

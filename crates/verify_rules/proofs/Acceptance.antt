@@ -15,7 +15,7 @@ use Rattle.meaning.specs.Checking.{climb, leadsTo, absenceHolds}
 use Rattle.nodehash.specs.Node.{leafHash, innerHash}
 use Rattle.proofrecords.specs.ProofBytes.{proofIn, proofBytes}
 use Rattle.proofrecords.proofs.Proofs.{proof-bytes}
-use Rattle.verify_rules.specs.Verify.{judged, verified}
+use Rattle.verify_rules.specs.Reading.{judged, verified}
 
 refused-not-accepted : {A : Type 0} {n : ℕ} {v : A} → _≡_ {A = Answer A} (refused n) (accepted v) → ⊥
 refused-not-accepted e = let z : _≡_ {A = ℕ} 0 1 = cc in omega arith

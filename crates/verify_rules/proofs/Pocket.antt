@@ -13,8 +13,8 @@ use Rattle.nodehash.specs.Node.{leafHash, innerHash}
 use Rattle.proofrecords.specs.ProofBytes.{proofIn}
 use Rattle.pocket.specs.Pocket.{small}
 use Rattle.pocket.proofs.Theorems.{inside-they-agree, outside-is-refused}
-use Rattle.verify_rules.specs.Verify.{judged, verified}
-use Rattle.verify_rules.specs.Pocket.{pocketJudged, pocketVerified, outsideOf, outside}
+use Rattle.verify_rules.specs.Reading.{judged, verified}
+use Rattle.verify_rules.specs.Reading.{pocketJudged, pocketVerified, outsideOf, outside}
 
 module _ (root k x : Bytes) where
   -- 12

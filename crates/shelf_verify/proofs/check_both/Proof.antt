@@ -2,7 +2,7 @@
 use mathlib.Core.Path.{ap, sym, _∙_}
 use Rattle.proofrecords.proofs.Forms.{rest-part}
 use Rattle.verify.specs.Says.{says}
-use Rattle.verify_rules.specs.Verify.{verified}
+use Rattle.verify_rules.specs.Reading.{verified}
 use Rattle.shelf_verify.proofs.Laws.{front-part, list-refused, list-present, list-absent}
 use borrow.Author.Needs.{needs}
 use Rattle.shelf_verify.proofs.check_both.Statement.{statement}
