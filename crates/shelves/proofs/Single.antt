@@ -17,15 +17,14 @@ use Rattle.meaning.specs.Calls.{Answer, refused, accepted}
 use Rattle.meaning.specs.Reading.{Verdict, present, absent, answerOf}
 use Rattle.meaning.specs.Answers.{numberOf, foundBytes, foundAfter}
 use Rattle.checker.specs.Holding.{Holds, shown, only-left, only-right, both}
-use Rattle.checker.proofs.Theorems.{accepted-exactly-if-holds}
 use Rattle.nodehash.specs.Node.{leafHash, innerHash}
 use Rattle.proofrecords.specs.ProofBytes.{proofBytes, ProofForm}
 use Rattle.shelf_rules.specs.Shelf.{partKey, ShelfProof, noPart, inPart, shelfBytes, ShelfForm, shelfIn, shelfChecked, shelfJudged, shelfVerified}
 use Rattle.shelf_rules.specs.Holding.{ShelfHolds, no-part, in-part}
 use Rattle.shelf_rules.proofs.Records.{shelf-bytes}
 use Rattle.shelf_rules.proofs.Theorems.{shelf-accepted-exactly-if-holds, shelf-refused-with-11}
+use Rattle.verify_rules.specs.Verify.{holding, in-form}
 use Rattle.contracts.specs.Contracts.{Verifies, ShelfVerifies}
-use Rattle.demands.proofs.Showing.{checker-on}
 use Rattle.shelves.specs.Shelf.{BySingleChecks, list-alone, both-records}
 
 -- what was accepted
@@ -74,8 +73,7 @@ what-was-accepted {root} {k} {y} {f} {g} {b} w = sizes (eqb (length root) 32) (e
 pub accepted-alone : (root k : Bytes) (p : Proof) (a : Verdict) (f : Bytes) → length root ≡ 32 → length k ≡ 32 → ProofForm p →
     Holds leafHash innerHash root k p a → Verifies root k (proofBytes p) f 0 (foundBytes a)
 accepted-alone root k p a f r l h i =
-    let e = checker-on root k p r l h (accepted-exactly-if-holds leafHash innerHash root k p a .1 i) in
-    record { answer = sym (ap (λ c. numberOf c) e); found = sym (ap (λ c. foundAfter c f) e) }
+    record { verdict = accepted a; told = in-form (r, l) (record { bytes = refl; form = h }) (holding i); answer = refl; found = refl }
 
 pub key-32 : (b : ℕ) (k : Bytes) → length (partKey b k) ≡ 32
 unfolding partKey
