@@ -1,6 +1,7 @@
 -- Many proofs checked at once, over the contracts: the answers are those of the single checks; and what a palette gave is cut back into its
 -- proofs, each of which is answered with 0 and what its key read finds. Assumes nothing.
 use Prim.Native.Nat.{ℕ, suc, _*_, _≤_}
+use native.Mathlib.Omega.{arith}
 use mathlib.Core.Path.{_≡_, refl, ap, ap₂, sym, _∙_, subst}
 use mathlib.Core.Bool.{true}
 use mathlib.Core.List.{List, [], _∷_, _++_, map}
@@ -43,7 +44,7 @@ use Rattle.demands.proofs.Palettes.{there-are, its-given, room-is, told
 single-answers : {root : Bytes} {keys xs answers : List Bytes} → SingleChecks root keys xs answers → Answers root keys xs (flat answers)
 unfolding answerBytes
 single-answers none-checked = nothing-left
-single-answers {root} (then-checked {k} {x} {g} {r} {keys} {xs} {answers} w c) =
+single-answers {root} (then-checked {k} {x} {g} {r} {keys} {pieces = xs} {answers} w c) =
     subst (λ b. Answers root (k ∷ keys) (x ∷ xs) (b ++ flat answers)) (sym (ap₂ _∷_ (w .answer) (w .found))) (next (w .told) (single-answers c))
 
 as-many : {root : Bytes} {keys xs answers : List Bytes} → SingleChecks root keys xs answers → length xs ≡ length keys

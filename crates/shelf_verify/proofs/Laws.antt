@@ -15,6 +15,7 @@ use Rattle.terms.specs.Bits.{Bytes, Byte, All, bits, pack, sameBytes}
 use Rattle.terms.specs.Fields.{field, slice, zeroBytes}
 use Rattle.terms.specs.Records.{Presence, Absence, Proof, presence, absence}
 use Rattle.terms.proofs.Tests.{and-left, and-right}
+use Rattle.terms.proofs.Lists.{all-drop}
 use Rattle.terms.proofs.Fields.{length-slice}
 use Rattle.terms.proofs.Places.{length-pack}
 use Rattle.meaning.specs.Calls.{Answer, refused, accepted}
@@ -31,6 +32,7 @@ use Rattle.shelf_rules.specs.Reading.{listRecord, partRecord, bySecond, byEnd, 
 use Rattle.shelf_rules.proofs.Told.{shelf-verifies}
 use Rattle.verify_rules.specs.Verify.{Verifies}
 use Rattle.verify_rules.specs.Reading.{judged, verified}
+use Rattle.verify_rules.proofs.Told.{told-exactly}
 use Rattle.verify.proofs.Boundary.{zeros-found}
 use Rattle.shelf_verify.specs.Both.{isProof, firstLength, isShelf, both, ChecksBoth}
 
@@ -311,12 +313,13 @@ module _ {root part k x : Bytes} {e : ℕ} (f : Bytes) where
       let go : Answer Verdict → Answer Verdict = λ a. byList a (λ top. verified top k (drop e x)) in
       record { answer = ap (λ a. numberOf (go a)) h; found = z ∙ zeros-found f l ∙ ap (λ a. foundAfter (go a) f) h }
 
-  pub list-present : {top tops y g : Bytes} {r : ℕ} → accepted (present top) ≡ verified root part (take e x) → tops ≡ top ++ [] → y ≡ drop e x →
+  pub list-present : All Byte x → {top tops y g : Bytes} {r : ℕ} → accepted (present top) ≡ verified root part (take e x) → tops ≡ top ++ [] → y ≡ drop e x →
       Verifies tops k y f r g → ChecksBoth root part k e x f r g
   unfolding both
-  list-present {top} h t i w =
+  list-present bytes {top} {tops} {y} h t i w =
       let go : Answer Verdict → Answer Verdict = λ a. byList a (λ top. verified top k (drop e x)) in
-      let j = ap₂ (λ z y. verified z k y) (t ∙ append-nil top) i ∙ ap go h in
+      let is = told-exactly tops k y (subst (All Byte) (sym i) (all-drop Byte e x bytes)) (w .verdict) .0 (w .told) in
+      let j = is ∙ ap₂ (λ z y. verified z k y) (t ∙ append-nil top) i ∙ ap go h in
       record { answer = w .answer ∙ ap (λ a. numberOf a) j; found = w .found ∙ ap (λ a. foundAfter a f) j }
 
 pub shelf-refused : {root k x : Bytes} {b n : ℕ} → All Byte x → (f : Bytes) → refused n ≡ shelfVerified root b k x → ShelfVerifies root b k x f n f

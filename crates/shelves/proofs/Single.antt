@@ -7,16 +7,15 @@ use lib.ListN.{length}
 use Rattle.terms.specs.Bits.{Bytes}
 use Rattle.terms.specs.Records.{Proof, presence, absence}
 use Rattle.terms.proofs.Places.{length-pack}
-use Rattle.meaning.specs.Calls.{Answer}
+use Rattle.meaning.specs.Calls.{Answer, accepted}
 use Rattle.meaning.specs.Reading.{Verdict, present, absent}
 use Rattle.meaning.specs.Answers.{numberOf, foundBytes, foundAfter}
 use Rattle.checker.specs.Holding.{Holds, shown, only-left, only-right, both}
-use Rattle.checker.proofs.Theorems.{accepted-exactly-if-holds}
 use Rattle.nodehash.specs.Node.{leafHash, innerHash}
 use Rattle.proofrecords.specs.ProofBytes.{proofBytes, ProofForm}
 use Rattle.shelf_rules.specs.Shelf.{partKey, ShelfProof, shelfBytes, ShelfForm, ShelfIs, ShelfHolds, no-part, in-part, ShelfTold, not-32-bytes, too-many-bits, not-in-form, not-holding, holding}
+use Rattle.verify_rules.specs.Verify.{holding as holding-alone, in-form}
 use Rattle.contracts.specs.Contracts.{Verifies, ShelfVerifies}
-use Rattle.demands.proofs.Showing.{checker-on}
 use Rattle.shelves.specs.Shelf.{BySingleChecks, list-alone, both-records}
 
 -- what was accepted
@@ -45,8 +44,7 @@ what-was-accepted {root} {k} {y} {f} {g} {b} w = go (w .told) (w .answer) (w .fo
 pub accepted-alone : (root k : Bytes) (p : Proof) (a : Verdict) (f : Bytes) → length root ≡ 32 → length k ≡ 32 → ProofForm p →
     Holds leafHash innerHash root k p a → Verifies root k (proofBytes p) f 0 (foundBytes a)
 accepted-alone root k p a f r l h i =
-    let e = checker-on root k p r l h (accepted-exactly-if-holds leafHash innerHash root k p a .1 i) in
-    record { answer = sym (ap (λ c. numberOf c) e); found = sym (ap (λ c. foundAfter c f) e) }
+    record { verdict = accepted a; told = in-form (r, l) (record { bytes = refl; form = h }) (holding-alone i); answer = refl; found = refl }
 
 pub key-32 : (b : ℕ) (k : Bytes) → length (partKey b k) ≡ 32
 unfolding partKey

@@ -1,5 +1,5 @@
--- Many proofs checked by cutting the row, test after test, as the code's rooms promise it to each other. No public
--- promise reaches this file. Assumes nothing.
+-- Many proofs checked by cutting the row, test after test, as rooms of code promise it to each other. No public promise
+-- reaches this file. Assumes nothing.
 use Prim.Native.Nat.{ℕ, zero, suc, _+_, _*_, _/_}
 use mathlib.Core.Bool.{Bool, cond, _&&_}
 use mathlib.Core.List.{List, [], _∷_, _++_}

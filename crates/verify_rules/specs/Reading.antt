@@ -1,4 +1,4 @@
--- The proof check and that of the pocket profile by reading the bytes, test after test, as the code's rooms promise them
+-- The proof check and that of the pocket profile by reading the bytes, test after test, as rooms of code promise them
 -- to each other. No public promise reaches this file. Assumes nothing.
 use mathlib.Core.Bool.{Bool, false, cond, _&&_, not}
 use mathlib.Core.Option.{Option, none, some}
