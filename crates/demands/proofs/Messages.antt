@@ -12,7 +12,6 @@ use borrow.Author.Tests.{eqb-true, eqb-false}
 use Rattle.terms.specs.Bits.{Bytes, Byte, All}
 use Rattle.terms.specs.Fields.{le, num}
 use Rattle.terms.specs.Records.{Presence, Proof, presence, absence}
-use Rattle.terms.proofs.Tests.{same-bytes, bytes-same}
 use Rattle.terms.proofs.Fields.{num-le, length-le}
 use Rattle.terms.proofs.Tests.{same-bytes, bytes-same}
 use Rattle.meaning.specs.Calls.{Answer, refused, accepted}

@@ -13,7 +13,7 @@ use Rattle.meaning.specs.Answers.{foundBytes}
 use Rattle.checker.specs.Holding.{Leads}
 use Rattle.sha256.specs.Sha256.{sha256}
 use Rattle.nodehash.specs.Node.{leafHash, innerHash}
-use Rattle.messages.specs.Message.{mostBytes}
+use Rattle.messages.specs.Message.{mostBytes, ownPresence}
 use Rattle.messages.specs.Lending.{Lent, rawProof, recordOf, lentIn}
 use Rattle.messages.specs.Spots.{spotsIn, Stand}
 use Rattle.message_rules.specs.Contracts.{Encodes, spotsBytes}
