@@ -1,4 +1,5 @@
--- Document 02, request 2026-14, the pocket checker as it is tested. No public promise reaches this file. Assumes nothing.
+-- Document 02, request 2026-14: the pocket checker as it is tested. No public promise reaches this file. Assumes
+-- nothing.
 use mathlib.Core.Bool.{cond}
 use Rattle.terms.specs.Bits.{Bytes}
 use Rattle.terms.specs.Records.{Proof}
