@@ -4,9 +4,8 @@ use Prim.Native.Nat.{ℕ}
 use native.Mathlib.Omega.{arith}
 use mathlib.Core.Path.{_≡_, refl, ap, sym, _∙_, subst}
 use mathlib.Core.Logic.{_↔_}
-use mathlib.Core.List.{_∷_}
 use Rattle.terms.specs.Bits.{Bytes}
-use Rattle.meaning.specs.Calls.{Answer, accepted}
+use Rattle.meaning.specs.Calls.{Answer}
 use Rattle.meaning.specs.Reading.{Verdict, present, absent}
 use Rattle.meaning.specs.Answers.{numberOf, foundBytes, foundAfter}
 use Rattle.checker.specs.Holding.{Holds}

@@ -1,5 +1,5 @@
 -- What is told of a row is one answer alone, and it is what cutting and reading it gives; each answer is 34 bytes. Assumes nothing.
-use Prim.Native.Nat.{ℕ, suc, _*_, _/_, _≤_, _<_}
+use Prim.Native.Nat.{ℕ, suc, _*_, _/_}
 use native.Mathlib.Omega.{arith}
 use mathlib.Core.Path.{_≡_, refl, ap, ap₂, sym, _∙_, subst}
 use mathlib.Core.Logic.{_↔_}
@@ -10,10 +10,10 @@ use lib.Dec.{eqb, leb}
 use borrow.Author.Tests.{eq-eqb, eqb-true, leb-true, leb-false}
 use Rattle.terms.specs.Bits.{Bytes, Byte, All}
 use Rattle.terms.specs.Fields.{zeroBytes, flat}
-use Rattle.terms.specs.Records.{Proof, presence, zeros}
+use Rattle.terms.specs.Records.{Proof, zeros}
 use Rattle.terms.proofs.Tests.{and-left, and-right}
 use Rattle.meaning.specs.Calls.{Answer, refused, accepted}
-use Rattle.meaning.specs.Reading.{Verdict, present, absent}
+use Rattle.meaning.specs.Reading.{Verdict}
 use Rattle.meaning.specs.Answers.{foundAfter}
 use Rattle.checker.specs.Holding.{Holds, shown, only-left, only-right, both}
 use Rattle.palette_rules.specs.Palette.{keySize, wholeKeys, keysIn}
@@ -23,7 +23,7 @@ use Rattle.proofrecords.specs.ProofBytes.{ProofForm}
 use Rattle.verify_rules.specs.Verify.{Judged, holding, not-holding, Told, not-32-bytes, not-in-form, in-form}
 use Rattle.verify_rules.specs.Reading.{verified}
 use Rattle.verify_rules.proofs.Told.{told-exactly, one-verdict}
-use Rattle.verify_rows.specs.Rows.{Piece, Pieces, answerSize, answerBytes, Answers, nothing-left, next, RootAndKeys, ToldOfRow, not-whole, not-pieces, no-room, answered}
+use Rattle.verify_rows.specs.Rows.{Pieces, answerSize, answerBytes, Answers, nothing-left, next, RootAndKeys, ToldOfRow, not-whole, not-pieces, no-room, answered}
 use Rattle.verify_rows.specs.Reading.{cutsInto, pieces, answersOf, manyVerified}
 use Rattle.verify_rows.proofs.Cutting.{pieces-are, cut-exactly, one-row}
 

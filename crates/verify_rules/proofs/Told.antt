@@ -16,12 +16,11 @@ use Rattle.meaning.specs.Calls.{Answer, refused, accepted}
 use Rattle.meaning.specs.Reading.{Verdict}
 use Rattle.meaning.specs.Checking.{checked}
 use Rattle.meaning.specs.Answers.{numberOf, foundAfter}
-use Rattle.checker.specs.Holding.{Holds}
 use Rattle.checker.proofs.Theorems.{accepted-exactly-if-holds, refused-with-11}
 use Rattle.nodehash.specs.Node.{leafHash, innerHash}
 use Rattle.proofrecords.specs.ProofBytes.{proofIn}
 use Rattle.proofrecords.proofs.Proofs.{proof-is, no-proof-is, one-proof-is}
-use Rattle.pocket.specs.Pocket.{small, Outside}
+use Rattle.pocket.specs.Pocket.{small}
 use Rattle.pocket.proofs.Theorems.{inside-they-agree, outside-is-refused, inside-shows-short, outside-shows-long}
 use Rattle.verify_rules.specs.Verify.{Judged, holding, not-holding, Sizes32, Judgement, Told, not-32-bytes, not-in-form, in-form, Verifies}
 use Rattle.verify_rules.specs.Pocket.{PocketJudged, outside, inside, PocketVerifies}

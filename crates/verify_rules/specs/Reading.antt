@@ -9,7 +9,8 @@ use Rattle.terms.specs.Records.{Proof}
 use Rattle.meaning.specs.Calls.{Answer, refused}
 use Rattle.meaning.specs.Reading.{Verdict}
 use Rattle.meaning.specs.Checking.{checked}
-use Rattle.pocket.specs.Pocket.{small, pocketChecked}
+use Rattle.pocket.specs.Pocket.{small}
+use Rattle.pocket.specs.Checking.{pocketChecked}
 use Rattle.nodehash.specs.Node.{leafHash, innerHash}
 use Rattle.proofrecords.specs.ProofBytes.{proofIn}
 
