@@ -22,7 +22,6 @@ use Rattle.nodehash.specs.Node.{leafHash, innerHash}
 use Rattle.proofrecords.specs.ProofBytes.{proofIn}
 use Rattle.layout.specs.Headers.{Headed, refusal, header, sizeRight, headerOf}
 use Rattle.layout.specs.Stores.{storeOf}
-use Rattle.batch.specs.Batch.{batchOf}
 use Rattle.contracts.specs.Format.{formatAnswer}
 use Rattle.promises.specs.Check as check
 use Rattle.promises.specs.Calls.{Does, wrong-header, not-sound, refuses, accepts, Exports, exports-refusal, exports-answer}
@@ -97,11 +96,10 @@ export-first call s more f (exports-refusal {m} d) = does-first call s more (ref
 export-first call s more f (exports-answer {a} d) = does-first call s more (accepted a) f d
 
 -- Apply: 1, 2, 3, 4, 5, 18, 7.
-pub apply-exactly : (number : ℕ) (batch : Bytes) {s f t g : Bytes} {r : ℕ} → All Byte batch → Applies number batch s f r t g →
-    Exactly (applyRows number batch s) r
-apply-exactly number batch {s} {r = r} h w =
+pub apply-exactly : (number : ℕ) (batch : Bytes) {s f t g : Bytes} {r : ℕ} → Applies number batch s f r t g → Exactly (applyRows number batch s) r
+apply-exactly number batch {s} {r = r} w =
     exactly (applyRows number batch s) r refl
-    (export-first (apply leafHash innerHash number (batchOf batch)) s (batchRows number batch s) (batch-first batch h number s) w)
+    (export-first (apply leafHash innerHash number (w .asked)) s (batchRows number batch s) (batch-first number batch s (w .asked) (w .asks)) (w .applied))
 
 -- Prune: 1, 2, 3, 8.
 pub prune-exactly : (n : ℕ) {s f t g : Bytes} {r : ℕ} → Prunes n s f r t g → Exactly (pruneRows n s) r

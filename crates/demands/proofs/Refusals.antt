@@ -133,7 +133,7 @@ prune-refusals n st m e = inl (prune-refuses-exactly leafHash innerHash n st m .
 
 module _ (number : ℕ) (batch : Bytes) {s f t g : Bytes} {r : ℕ} (w : Applies number batch s f r t g) where
   pub refused-apply-writes-nothing : (r ≡ 0 → ⊥) → (t ≡ s) × (g ≡ f)
-  refused-apply-writes-nothing = export-writes-nothing w
+  refused-apply-writes-nothing = export-writes-nothing (w .applied)
 
 module _ (n : ℕ) {s f t g : Bytes} {r : ℕ} (w : Prunes n s f r t g) where
   pub refused-prune-writes-nothing : (r ≡ 0 → ⊥) → (t ≡ s) × (g ≡ f)

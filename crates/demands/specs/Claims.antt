@@ -27,7 +27,7 @@ use Rattle.nodehash.specs.Node.{leafHash, innerHash}
 use Rattle.proofrecords.specs.ProofBytes.{presenceKind, absenceKind, ProofIs}
 use Rattle.layout.specs.Sizes.{slotSize}
 use Rattle.layout.specs.Stores.{slotIn, storeOf, storeBytes}
-use Rattle.batch.specs.Batch.{batchOf}
+use Rattle.batch.specs.Asked.{AskedBy}
 use Rattle.promises.specs.Calls.{SoundBytes}
 use Rattle.rescue_rules.specs.Rescue.{sourceTree}
 use Rattle.rescue_bytes.specs.Rescues.{slotsIn, Report, reportBytes}
@@ -122,7 +122,7 @@ pub record ComparesAs (t : Bytes) (v v′ : ℕ) (s : Bytes) (w w′ : ℕ) : Ty
 -- version 4, root 32, count 4. By 2026-13 the next version is that of the given number.
 pub record NextVersion (number : ℕ) (batch s t g : Bytes) : Type 0 where
   pub asks : List Ask
-  pub asked : batchOf batch ≡ some asks
+  pub asked : AskedBy batch asks
   pub was : SoundBytes s
   pub sound : SoundBytes t
   pub bytes : t ≡ storeBytes (storeOf t)
