@@ -4,14 +4,14 @@ use Prim.Native.Nat.{ℕ}
 use mathlib.Core.Path.{_≡_}
 use mathlib.Core.Bool.{cond}
 use mathlib.Core.List.{List, [], _∷_, _++_}
-use lib.ListN.{length, drop}
+use lib.ListN.{length}
 use Rattle.terms.specs.declared.Form.the-variants.{Counted as counted}
 use Rattle.terms.specs.Bits.{Bytes}
 use Rattle.terms.specs.Records.{Proof}
 use Rattle.terms.specs.Fields.{le}
-use Rattle.meaning.specs.Calls.{Answer, refused, accepted}
+use Rattle.meaning.specs.Calls.{Answer, refused}
 use Rattle.meaning.specs.Proving.{proofBy}
-use Rattle.meaning.specs.Answers.{numberOf, toldOf}
+use Rattle.meaning.specs.Answers.{numberOf, toldOf, roomAfter}
 use Rattle.palette_rules.specs.Palette.{wholeKeys, keysIn, paletteOf, palette, lengthTogether}
 use Rattle.indexed.specs.Index.{byTable}
 use Rattle.layout.specs.Headers.{headerOf}
@@ -38,11 +38,6 @@ abbrev pub proofsBytes : List Proof → Bytes
 proofsBytes [] = []
 proofsBytes (p ∷ ps) = proofBytes p ++ proofsBytes ps
 
--- Accepted proofs fill the front of the buffer, the rest stays; a refusal writes nothing.
-abbrev pub roomAfter : Answer (List Proof) → Bytes → Bytes
-roomAfter (refused n) room = room
-roomAfter (accepted ps) room = proofsBytes ps ++ drop (length (proofsBytes ps)) room
-
 -- The proofs for a list of keys in version v of the store s, into a room.
 abbrev pub palettedInto : Bytes → ℕ → Bytes → Bytes → Answer (List Proof)
 palettedInto s v list room = paletteAnswer s v list (length room)
@@ -55,11 +50,11 @@ lengthBytes a old = toldOf (λ ps. le 4 (lengthTogether ps)) a old
 -- of all together as g.
 pub record Palettes (s : Bytes) (v : ℕ) (list room f : Bytes) (r : ℕ) (t g : Bytes) : Type 0 where
   pub answer : r ≡ numberOf (palettedInto s v list room)
-  pub proofs : t ≡ roomAfter (palettedInto s v list room) room
+  pub proofs : t ≡ roomAfter proofsBytes (palettedInto s v list room) room
   pub told : g ≡ lengthBytes (palettedInto s v list room) f
 
 -- The same by a table lent with the store (2026-05).
 pub record PalettesBy (s : Bytes) (table : List ℕ) (v : ℕ) (list room f : Bytes) (r : ℕ) (t g : Bytes) : Type 0 where
   pub answer : r ≡ numberOf (paletteIndexed s table v list (length room))
-  pub proofs : t ≡ roomAfter (paletteIndexed s table v list (length room)) room
+  pub proofs : t ≡ roomAfter proofsBytes (paletteIndexed s table v list (length room)) room
   pub told : g ≡ lengthBytes (paletteIndexed s table v list (length room)) f

@@ -3,16 +3,16 @@
 use Prim.Native.Nat.{ℕ}
 use mathlib.Core.Path.{_≡_}
 use mathlib.Core.Bool.{cond}
-use mathlib.Core.List.{List, _++_}
-use lib.ListN.{length, drop}
+use mathlib.Core.List.{List}
+use lib.ListN.{length}
 use lib.Dec.{eqb}
 use Rattle.terms.specs.declared.Form.the-variants.{Counted as counted}
 use Rattle.terms.specs.Bits.{Bytes}
 use Rattle.terms.specs.Records.{Proof}
 use Rattle.terms.specs.Fields.{le}
-use Rattle.meaning.specs.Calls.{Answer, refused, accepted}
+use Rattle.meaning.specs.Calls.{Answer, refused}
 use Rattle.meaning.specs.Proving.{proveBy, prove, proofLength}
-use Rattle.meaning.specs.Answers.{numberOf, toldOf}
+use Rattle.meaning.specs.Answers.{numberOf, toldOf, roomAfter}
 use Rattle.indexed.specs.Index.{byTable}
 use Rattle.layout.specs.Headers.{headerOf}
 use Rattle.layout.specs.Stores.{storeOf}
@@ -31,11 +31,6 @@ proveIndexed s table v k room =
     cond (eqb (length k) 32) (byHeader (headerWith s table) (proveBy (byTable table (storeOf s)) (storeOf s) v k room))
     (refused 12)
 
--- An accepted proof fills the front of the buffer, the rest stays; a refusal writes nothing.
-abbrev pub roomAfter : Answer Proof → Bytes → Bytes
-roomAfter (refused n) room = room
-roomAfter (accepted p) room = proofBytes p ++ drop (length (proofBytes p)) room
-
 -- The proof for key k in version v of the store s, into a room.
 abbrev pub provedInto : Bytes → ℕ → Bytes → Bytes → Answer Proof
 provedInto s v k room = proveAnswer s v k (length room)
@@ -48,11 +43,11 @@ lengthBytes a old = toldOf (λ p. le 4 (proofLength p)) a old
 -- g.
 pub record Proves (s : Bytes) (v : ℕ) (k room f : Bytes) (r : ℕ) (t g : Bytes) : Type 0 where
   pub answer : r ≡ numberOf (provedInto s v k room)
-  pub proof : t ≡ roomAfter (provedInto s v k room) room
+  pub proof : t ≡ roomAfter proofBytes (provedInto s v k room) room
   pub told : g ≡ lengthBytes (provedInto s v k room) f
 
 -- The same by a table lent with the store (2026-05).
 pub record ProvesBy (s : Bytes) (table : List ℕ) (v : ℕ) (k room f : Bytes) (r : ℕ) (t g : Bytes) : Type 0 where
   pub answer : r ≡ numberOf (proveIndexed s table v k (length room))
-  pub proof : t ≡ roomAfter (proveIndexed s table v k (length room)) room
+  pub proof : t ≡ roomAfter proofBytes (proveIndexed s table v k (length room)) room
   pub told : g ≡ lengthBytes (proveIndexed s table v k (length room)) f

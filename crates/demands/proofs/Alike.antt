@@ -17,10 +17,10 @@ use Rattle.meaning.specs.Sound.{Kept}
 use Rattle.meaning.specs.Calls.{Answer, refused, accepted, Result, isKept}
 use Rattle.meaning.specs.Reading.{answerOf}
 use Rattle.meaning.specs.Counting.{grantAt}
-use Rattle.meaning.specs.Answers.{numberOf, toldOf, foundBytes}
+use Rattle.meaning.specs.Answers.{numberOf, toldOf, foundBytes, roomAfter}
 use Rattle.meaning.specs.Proving.{proof, fitted, prove}
 use Rattle.shown.proofs.Theorems.{kept-test, same-tree-same-proofs}
-use Rattle.changed.specs.Changes.{Item, changed, items, itemSize}
+use Rattle.changed.specs.Changes.{Item, changed, items, itemSize, listBytes}
 use Rattle.changed.specs.Visits.{visits}
 use Rattle.changed.specs.Compare.{compare}
 use Rattle.nodehash.specs.Node.{leafHash, innerHash}
@@ -29,8 +29,9 @@ use Rattle.layout.specs.Stores.{storeOf}
 use Rattle.promises.specs.Calls.{SoundBytes, Does, wrong-header, not-sound, refuses, accepts}
 use Rattle.palette_rules.specs.Palette.{wholeKeys, keysIn, inTurn, fittedTogether, palette}
 use Rattle.move_rules.proofs.Theorems.{comparedBy, by-trees}
-use Rattle.contracts.specs.Proves.{proveAnswer, roomAfter, lengthBytes}
-use Rattle.contracts.specs.Palettes.{paletteAnswer}
+use Rattle.proofrecords.specs.ProofBytes.{proofBytes}
+use Rattle.contracts.specs.Proves.{proveAnswer, lengthBytes}
+use Rattle.contracts.specs.Palettes.{paletteAnswer, proofsBytes}
 use Rattle.contracts.specs.Palettes as palettes
 use Rattle.contracts.specs.Changes as listed
 use Rattle.contracts.specs.Changes.{countBytes}
@@ -85,13 +86,13 @@ module _ {t s : Bytes} (a : SoundBytes t) (b : SoundBytes s) {v w : ℕ} (kept :
     proof = λ {k} {room} {f} x y.
         let is = same-proved k (length room) in (
           x .answer ∙ ap (λ p. numberOf p) is ∙ sym (y .answer),
-          x .proof ∙ ap (λ p. roomAfter p room) is ∙ sym (y .proof),
+          x .proof ∙ ap (λ p. roomAfter proofBytes p room) is ∙ sym (y .proof),
           x .told ∙ ap (λ p. lengthBytes p f) is ∙ sym (y .told),
         );
     palette = λ {list} {room} {f} x y.
         let is = same-palette list (length room) in (
           x .answer ∙ ap (λ p. numberOf p) is ∙ sym (y .answer),
-          x .proofs ∙ ap (λ p. palettes.roomAfter p room) is ∙ sym (y .proofs),
+          x .proofs ∙ ap (λ p. roomAfter proofsBytes p room) is ∙ sym (y .proofs),
           x .told ∙ ap (λ p. palettes.lengthBytes p f) is ∙ sym (y .told),
         );
   }
@@ -118,7 +119,7 @@ same-trees-compare-as {t} {s} a b {v} {v′} {w} {w′} kv kv′ kw kw′ e e′
       ∙ sym (asked b (y .does) ∙ compared-kept (storeOf s) w w′ limit (length room) kw kw′)
       in (
         x .number ∙ ap (λ p. numberOf p) is ∙ sym (y .number),
-        x .list ∙ ap (λ p. listed.roomAfter p room) is ∙ sym (y .list),
+        x .list ∙ ap (λ p. roomAfter listBytes p room) is ∙ sym (y .list),
         x .told ∙ ap (λ p. countBytes p f) is ∙ sym (y .told),
       );
 }

@@ -22,7 +22,8 @@ use Rattle.proofrecords.proofs.Proofs.{length-presence, length-absence}
 use Rattle.layout.specs.Headers.{Headed, refusal, header, headerOf}
 use Rattle.layout.specs.Stores.{storeOf}
 use Rattle.promises.specs.Headed.{byHeader}
-use Rattle.contracts.specs.Proves.{proveAnswer, roomAfter, provedInto, lengthBytes}
+use Rattle.meaning.specs.Answers.{roomAfter}
+use Rattle.contracts.specs.Proves.{proveAnswer, provedInto, lengthBytes}
 use Rattle.contracts.specs.Contracts.{Proves}
 use Rattle.demands.proofs.Refusals.{clash, accepted-of, prove-nonzero}
 
@@ -122,7 +123,7 @@ module _ {s : Bytes} {v : ℕ} {k room f t g : Bytes} (w : Proves s v k room f 0
   told-short = omega (arith, told-length, its-length)
 
   room-is : t ≡ proofBytes its-proof ++ drop (length (proofBytes its-proof)) room
-  room-is = w .proof ∙ ap (λ a. roomAfter a room) is-given
+  room-is = w .proof ∙ ap (λ a. roomAfter proofBytes a room) is-given
 
   pub kind-told : field 4 2 t ≡ kindOf its-proof
   kind-told = ap (field 4 2) room-is ∙ kind-is its-proof _

@@ -13,7 +13,7 @@ use Rattle.terms.specs.declared.Form.the-variants.{Counted as counted}
 use Rattle.terms.specs.Bits.{Bytes, Byte, All}
 use Rattle.terms.specs.Fields.{le}
 use Rattle.meaning.specs.Calls.{Answer, refused}
-use Rattle.meaning.specs.Answers.{numberOf, toldOf, foundAfter}
+use Rattle.meaning.specs.Answers.{numberOf, toldOf, foundAfter, roomAfter}
 use Rattle.meaning.specs.Reading.{Trouble, lostRecord, spoiltRecord, readKeyBy, readRootBy}
 use Rattle.meaning.specs.Proving.{proofBy, proveBy}
 use Rattle.meaning.specs.Counting.{readNumberBy, readPositionBy}
@@ -27,11 +27,12 @@ use Rattle.layout.specs.Stores.{storeOf}
 use Rattle.layout.proofs.Headers.{room-of}
 use Rattle.promises.specs.Calls.{SoundBytes}
 use Rattle.promises.specs.Headed.{byHeader, asMany, headerWith}
+use Rattle.proofrecords.specs.ProofBytes.{proofBytes}
 use Rattle.contracts.specs.Reads.{rootAnswer, rootIndexed, keyAnswer, keyIndexed, rootBytes}
 use Rattle.contracts.specs.Numbers.{numberAnswer, numberIndexed, positionAnswer, positionIndexed, grantBytes}
-use Rattle.contracts.specs.Proves.{proveAnswer, proveIndexed, roomAfter, lengthBytes}
+use Rattle.contracts.specs.Proves.{proveAnswer, proveIndexed, lengthBytes}
 use Rattle.contracts.specs.Palettes as palettes
-use Rattle.contracts.specs.Palettes.{paletteAnswer, paletteIndexed}
+use Rattle.contracts.specs.Palettes.{paletteAnswer, paletteIndexed, proofsBytes}
 use Rattle.refusals.specs.Exactly.{Table, Exactly, NoneOf, low, Names}
 use Rattle.refusals.specs.Rows.{WrongLength, StopsRoot, StopsGet, StopsAt, StopsProve, StopsPalette, TooLong, TooLongTogether}
 use Rattle.refusals.proofs.Exactly.{exactly}
@@ -87,12 +88,12 @@ module _ {s : Bytes} {table : List ℕ} {v r : ℕ} (not-0 : r ≡ 0 → ⊥) wh
   pub refused-prove-by-writes-nothing : {k room f t g : Bytes} → ProvesBy s table v k room f r t g → (t ≡ room) × (g ≡ f)
   refused-prove-by-writes-nothing {k} {room} {f} w =
       let e = refusal-of not-0 (proveIndexed s table v k (length room)) (w .answer) .1 in
-      (w .proof ∙ ap (λ a. roomAfter a room) e, w .told ∙ ap (λ a. lengthBytes a f) e)
+      (w .proof ∙ ap (λ a. roomAfter proofBytes a room) e, w .told ∙ ap (λ a. lengthBytes a f) e)
 
   pub refused-palette-by-writes-nothing : {list room f t g : Bytes} → PalettesBy s table v list room f r t g → (t ≡ room) × (g ≡ f)
   refused-palette-by-writes-nothing {list} {room} {f} w =
       let e = refusal-of not-0 (paletteIndexed s table v list (length room)) (w .answer) .1 in
-      (w .proofs ∙ ap (λ a. palettes.roomAfter a room) e, w .told ∙ ap (λ a. palettes.lengthBytes a f) e)
+      (w .proofs ∙ ap (λ a. roomAfter proofsBytes a room) e, w .told ∙ ap (λ a. palettes.lengthBytes a f) e)
 
 -- A table of the right length, and no two slots that match: the answers are the plain ones.
 module _ (s : Bytes) (table : List ℕ) (v : ℕ) (many : length table ≡ roomOf counted (length s)) (once : NoneTwice s v) where
@@ -144,13 +145,13 @@ module _ (s : Bytes) (table : List ℕ) (v : ℕ) (many : length table ≡ roomO
     proof = λ {k} {room} {f} x y.
         let e = same-proof k (length room) in (
           x .answer ∙ ap numberOf e ∙ sym (y .answer),
-          x .proof ∙ ap (λ a. roomAfter a room) e ∙ sym (y .proof),
+          x .proof ∙ ap (λ a. roomAfter proofBytes a room) e ∙ sym (y .proof),
           x .told ∙ ap (λ a. lengthBytes a f) e ∙ sym (y .told),
         );
     palette = λ {list} {room} {f} x y.
         let e = same-palette list (length room) in (
           x .answer ∙ ap numberOf e ∙ sym (y .answer),
-          x .proofs ∙ ap (λ a. palettes.roomAfter a room) e ∙ sym (y .proofs),
+          x .proofs ∙ ap (λ a. roomAfter proofsBytes a room) e ∙ sym (y .proofs),
           x .told ∙ ap (λ a. palettes.lengthBytes a f) e ∙ sym (y .told),
         );
   }

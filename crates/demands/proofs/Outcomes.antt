@@ -5,13 +5,14 @@ use mathlib.Core.Path.{_≡_, refl, ap, sym, _∙_, subst}
 use Rattle.terms.specs.Bits.{Bytes}
 use Rattle.promises.proofs.Check.{one-answer}
 use Rattle.meaning.specs.Calls.{Answer, apply}
-use Rattle.meaning.specs.Answers.{numberOf, toldOf}
+use Rattle.meaning.specs.Answers.{numberOf, toldOf, roomAfter}
 use Rattle.nodehash.specs.Node.{leafHash, innerHash}
 use Rattle.batch.proofs.Batches.{asks-one}
 use Rattle.promises.specs.Calls.{Exports}
 use Rattle.promises.proofs.Calls.{one-outcome, one-export}
+use Rattle.changed.specs.Changes.{listBytes}
 use Rattle.contracts.specs.Apply.{told}
-use Rattle.contracts.specs.Changes.{roomAfter, countBytes}
+use Rattle.contracts.specs.Changes.{countBytes}
 use Rattle.rescue_bytes.proofs.Outcomes as rescue
 use Rattle.move_rules.proofs.Outcomes as move
 use Rattle.contracts.specs.Contracts.{Formats, Checks, Applies, Prunes, ReadsRoot, ReadsKey, Counts, ReadsAt, Proves, Palettes, Changes, Verifies, VerifiesMany, TellsVersion, Hashes, Rescues, MovesOver, MovesBack, Finds}
@@ -66,7 +67,7 @@ module _ {s : Bytes} {a b : ℕ} where
   one-changes {room = room} {f = f} x y =
       let o = one-outcome (x .does) (y .does) .0 in (
         x .number ∙ ap numberOf o ∙ sym (y .number),
-        x .list ∙ ap (λ z. roomAfter z room) o ∙ sym (y .list),
+        x .list ∙ ap (λ z. roomAfter listBytes z room) o ∙ sym (y .list),
         x .told ∙ ap (λ z. countBytes z f) o ∙ sym (y .told),
       )
 

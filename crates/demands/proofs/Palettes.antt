@@ -21,7 +21,7 @@ use Rattle.meaning.specs.Calls.{Answer, refused, accepted, isKept}
 use Rattle.meaning.specs.Reading.{answerOf}
 use Rattle.meaning.specs.Proving.{HoldsGrant, proof, presenceLength, proofLength, fitted, prove}
 use Rattle.meaning.specs.Checking.{checked}
-use Rattle.meaning.specs.Answers.{numberOf, foundBytes}
+use Rattle.meaning.specs.Answers.{numberOf, foundBytes, roomAfter}
 use Rattle.shown.proofs.Verdicts.{accepted-same}
 use Rattle.shown.proofs.Theorems.{proofs-have-17080-bytes, root-read-is-hash, shown}
 use Rattle.palette_rules.specs.Palette.{wholeKeys, keysIn, followed, inTurn, lengthTogether, fittedTogether, palette}
@@ -40,7 +40,7 @@ use Rattle.promises.specs.Calls.{SoundBytes}
 use Rattle.promises.proofs.Calls.{sound-form}
 use Rattle.promises.specs.Headed.{byHeader}
 use Rattle.contracts.specs.Proves.{proveAnswer}
-use Rattle.contracts.specs.Palettes.{paletteAnswer, proofsBytes, roomAfter, palettedInto, lengthBytes}
+use Rattle.contracts.specs.Palettes.{paletteAnswer, proofsBytes, palettedInto, lengthBytes}
 use Rattle.verify_rules.specs.Verify.{verified}
 use Rattle.contracts.specs.Contracts.{ReadsRoot, Proves, Palettes, Verifies}
 use Rattle.demands.specs.Claims.{treeOfVersion, grantsOfVersion}
@@ -56,7 +56,7 @@ module _ {s : Bytes} {v : ℕ} {list room f : Bytes} {r : ℕ} {t g : Bytes} (w 
   pub refused-palette-writes-nothing : (r ≡ 0 → ⊥) → (t ≡ room) × (g ≡ f)
   refused-palette-writes-nothing h =
       let e = refused-of (palettedInto s v list room) (λ z. h (w .answer ∙ z)) in
-      (w .proofs ∙ ap (λ a. roomAfter a room) (e .1), w .told ∙ ap (λ a. lengthBytes a f) (e .1))
+      (w .proofs ∙ ap (λ a. roomAfter proofsBytes a room) (e .1), w .told ∙ ap (λ a. lengthBytes a f) (e .1))
 
 -- by the header: 1 or 2 as a single call, else the rest
 in-header : (s : Bytes) (v : ℕ) (list : Bytes) (room : ℕ) {c o l : ℕ} → wholeKeys list ≡ true → headerOf counted s ≡ header c o l →
@@ -177,7 +177,7 @@ module _ {s : Bytes} {v : ℕ} {list room f t g : Bytes} (w : Palettes s v list 
   its-given = given-is s v list (length room) (there-are .0) (there-are .1)
 
   pub room-is : t ≡ proofsBytes (there-are .0) ++ drop (length (proofsBytes (there-are .0))) room
-  room-is = w .proofs ∙ ap (λ a. roomAfter a room) (there-are .1)
+  room-is = w .proofs ∙ ap (λ a. roomAfter proofsBytes a room) (there-are .1)
 
   pub told-is : wholeKeys list ≡ true → num g ≡ lengthTogether (there-are .0)
   told-is whole =

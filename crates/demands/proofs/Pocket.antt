@@ -18,15 +18,15 @@ use Rattle.meaning.specs.Sound.{Kept}
 use Rattle.meaning.specs.Calls.{Answer, refused, accepted}
 use Rattle.meaning.specs.Reading.{spoiltRecord, answerOf}
 use Rattle.meaning.specs.Proving.{HoldsGrant, proof, proofLength, fitted, prove}
-use Rattle.meaning.specs.Answers.{numberOf, foundAfter, foundBytes, toldOf}
-use Rattle.proofrecords.specs.ProofBytes.{proofIn}
+use Rattle.meaning.specs.Answers.{numberOf, foundAfter, foundBytes, toldOf, roomAfter}
+use Rattle.proofrecords.specs.ProofBytes.{proofIn, proofBytes}
 use Rattle.proofrecords.proofs.Proofs.{proof-back, proof-is}
 use Rattle.layout.specs.Headers.{Headed, refusal, header, headerOf}
 use Rattle.layout.specs.Stores.{storeOf}
 use Rattle.promises.specs.Calls.{SoundBytes}
 use Rattle.promises.proofs.Calls.{sound-form}
 use Rattle.promises.specs.Headed.{byHeader}
-use Rattle.contracts.specs.Proves.{proveAnswer, roomAfter}
+use Rattle.contracts.specs.Proves.{proveAnswer}
 use Rattle.pocket.specs.Pocket.{Outside, small, inProfile, pocketProve}
 use Rattle.pocket.proofs.Theorems.{inside-shows-short, outside-shows-long, pocket-proofs-have-2296-bytes}
 use Rattle.contracts.specs.Pocket.{pocketAnswer, pocketInto}
@@ -78,7 +78,7 @@ pub refused-pocket-prove-writes-nothing : {s : Bytes} {v : ℕ} {k room f : Byte
     (t ≡ room) × (g ≡ f)
 refused-pocket-prove-writes-nothing {s} {v} {k} {room} {f} w h =
     let e = refused-of (pocketInto s v k room) (λ z. h (w .answer ∙ z)) in
-    (w .proof ∙ ap (λ a. roomAfter a room) (e .1), w .told ∙ ap (λ a. toldOf (λ p. le 4 (proofLength p)) a f) (e .1))
+    (w .proof ∙ ap (λ a. roomAfter proofBytes a room) (e .1), w .told ∙ ap (λ a. toldOf (λ p. le 4 (proofLength p)) a f) (e .1))
 
 -- The check: 12, 10, 19, 11.
 pub pocket-verify-exactly : {root k x f : Bytes} {r : ℕ} {g : Bytes} → All Byte x → PocketVerifies root k x f r g → Exactly (pocketVerifyRows root k x) r
@@ -190,7 +190,7 @@ module _ (s : Bytes) (v : ℕ) (k : Bytes) where
   as-proves {room} {f} h w =
       let e = as-proved (length room) h in record {
         answer = w .answer ∙ ap (λ a. numberOf a) e;
-        proof = w .proof ∙ ap (λ a. roomAfter a room) e;
+        proof = w .proof ∙ ap (λ a. roomAfter proofBytes a room) e;
         told = w .told ∙ ap (λ a. toldOf (λ p. le 4 (proofLength p)) a f) e;
       }
 

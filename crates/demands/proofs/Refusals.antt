@@ -26,14 +26,16 @@ use Rattle.nodehash.specs.Node.{leafHash, innerHash}
 use Rattle.layout.specs.Headers.{Headed, refusal, header, sizeRight, headerOf}
 use Rattle.layout.specs.Stores.{storeOf}
 use Rattle.layout.proofs.Headers.{header-refused}
+use Rattle.proofrecords.specs.ProofBytes.{proofBytes}
+use Rattle.changed.specs.Changes.{listBytes}
 use Rattle.contracts.specs.Format.{formatAnswer, formatBytes}
 use Rattle.promises.specs.Calls.{Does, wrong-header, not-sound, refuses, Exports, exports-refusal, exports-answer}
 use Rattle.promises.proofs.Calls.{refused-writes-nothing}
-use Rattle.meaning.specs.Answers.{numberOf, toldOf, foundAfter}
+use Rattle.meaning.specs.Answers.{numberOf, toldOf, foundAfter, roomAfter}
 use Rattle.promises.specs.Headed.{byHeader}
 use Rattle.contracts.specs.Reads.{rootAnswer, keyAnswer, rootBytes}
 use Rattle.contracts.specs.Numbers.{numberAnswer, positionAnswer, grantBytes}
-use Rattle.contracts.specs.Proves.{proveAnswer, roomAfter, provedInto, lengthBytes}
+use Rattle.contracts.specs.Proves.{proveAnswer, provedInto, lengthBytes}
 use Rattle.contracts.specs.Changes as compared
 use Rattle.contracts.specs.Changes.{countBytes}
 use Rattle.finding_rules.specs.Call.{findingBytes}
@@ -230,14 +232,14 @@ module _ {s : Bytes} {v : ℕ} {k room f : Bytes} {r : ℕ} {t g : Bytes} (w : P
   pub refused-prove-writes-nothing : (r ≡ 0 → ⊥) → (t ≡ room) × (g ≡ f)
   refused-prove-writes-nothing h =
       let e = refused-of (provedInto s v k room) (λ z. h (w .answer ∙ z)) in
-      (w .proof ∙ ap (λ a. roomAfter a room) (e .1), w .told ∙ ap (λ a. lengthBytes a f) (e .1))
+      (w .proof ∙ ap (λ a. roomAfter proofBytes a room) (e .1), w .told ∙ ap (λ a. lengthBytes a f) (e .1))
 
 -- A comparison.
 module _ {first second limit : ℕ} {s room f : Bytes} {r : ℕ} {t g : Bytes} (w : Changes first second limit s room f r t g) where
   pub refused-changes-writes-nothing : (r ≡ 0 → ⊥) → (t ≡ room) × (g ≡ f)
   refused-changes-writes-nothing h =
       let e = refused-of (w .answer) (λ z. h (w .number ∙ z)) in
-      (w .list ∙ ap (λ a. compared.roomAfter a room) (e .1), w .told ∙ ap (λ a. countBytes a f) (e .1))
+      (w .list ∙ ap (λ a. roomAfter listBytes a room) (e .1), w .told ∙ ap (λ a. countBytes a f) (e .1))
 
 -- A rescue.
 pub refused-rescue-writes-nothing : {oldest latest : ℕ} {s old f t g : Bytes} {r : ℕ} → Rescues oldest latest s old f r t g → (r ≡ 0 → ⊥) →

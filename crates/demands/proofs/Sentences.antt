@@ -13,7 +13,7 @@ use Rattle.terms.specs.Records.{Presence, Absence, Proof, presence, absence}
 use Rattle.terms.proofs.Fields.{num-le, length-le, slice-between}
 use Rattle.meaning.specs.Sound.{Kept}
 use Rattle.meaning.specs.Calls.{accepted}
-use Rattle.meaning.specs.Answers.{numberOf}
+use Rattle.meaning.specs.Answers.{numberOf, roomAfter}
 use Rattle.shown.proofs.Theorems.{kept-test}
 use Rattle.proofrecords.specs.ProofBytes.{absenceKind, presenceKind, absenceHead, flagsOf, proofIn, neighbourBytes, proofBytes, absenceBytes, ProofForm}
 use Rattle.proofrecords.proofs.Proofs.{proof-is}
@@ -21,7 +21,7 @@ use Rattle.layout.specs.Headers.{header, headerOf}
 use Rattle.layout.specs.Stores.{storeOf}
 use Rattle.verify_rules.specs.Verify.{judged, verified}
 use Rattle.palette_rules.specs.Palette.{wholeKeys, keysIn, palette}
-use Rattle.contracts.specs.Palettes.{paletteAnswer, roomAfter, lengthBytes}
+use Rattle.contracts.specs.Palettes.{paletteAnswer, lengthBytes, proofsBytes}
 use Rattle.contracts.specs.Contracts.{Verifies, Palettes}
 use Rattle.demands.proofs.Given.{kindOf, kind-is}
 
@@ -72,4 +72,4 @@ pub no-keys-are-accepted : {s room f t g : Bytes} {v r c o l : ℕ} → headerOf
 unfolding paletteAnswer palette wholeKeys keysIn
 no-keys-are-accepted {s} {room} {f} {v = v} headed kept w =
     let is : paletteAnswer s v [] (length room) ≡ accepted [] = rw (headed, kept-test (storeOf s) v kept) (rw (le-ltb (length room) 0 (omega arith))) in
-    (w .answer ∙ ap (λ a. numberOf a) is, w .proofs ∙ ap (λ a. roomAfter a room) is, w .told ∙ ap (λ a. lengthBytes a f) is)
+    (w .answer ∙ ap (λ a. numberOf a) is, w .proofs ∙ ap (λ a. roomAfter proofsBytes a room) is, w .told ∙ ap (λ a. lengthBytes a f) is)

@@ -34,16 +34,17 @@ use Rattle.palette_rules.proofs.Turns.{in-turn-same}
 use Rattle.prove.specs.Parts.{provedSays}
 use Rattle.prove.specs.declared.Proved as declared
 use Rattle.prove.specs.declared.Proved.the-variants.{Refused, Length}
-use Rattle.contracts.specs.Palettes.{paletteAnswer, paletteIndexed, proofsBytes, roomAfter}
+use Rattle.meaning.specs.Answers.{roomAfter}
+use Rattle.contracts.specs.Palettes.{paletteAnswer, paletteIndexed, proofsBytes}
 use Rattle.promises.proofs.Heading.{as-many, not-as-many}
 use Rattle.palette.specs.Parts.{paletteAnswerBy, plannedFor, plannedIn, togetherLength, togetherBytes, Gives}
 
 pub gives-refusal : {a : Answer (List Proof)} (n : ℕ) (room : Bytes) → a ≡ refused n → Gives a room room (Refused n)
 unfolding provedSays
-gives-refusal n room e = record { answer = sym (ap togetherLength e); bytes = sym (ap (λ a. roomAfter a room) e) }
+gives-refusal n room e = record { answer = sym (ap togetherLength e); bytes = sym (ap (λ a. roomAfter proofsBytes a room) e) }
 
 pub gives-as : {a b : Answer (List Proof)} {room after : Bytes} {r : declared.Proved} → a ≡ b → Gives a room after r → Gives b room after r
-gives-as {room = room} e g = record { answer = g .answer ∙ ap togetherLength e; bytes = g .bytes ∙ ap (λ a. roomAfter a room) e }
+gives-as {room = room} e g = record { answer = g .answer ∙ ap togetherLength e; bytes = g .bytes ∙ ap (λ a. roomAfter proofsBytes a room) e }
 
 -- what is left of the room whose front was lent and came back as y
 abbrev front : ℕ → Bytes → Bytes → Bytes
@@ -90,7 +91,7 @@ module _ (a : Answer (List Proof)) (len : ℕ) (room : Bytes) (e : togetherLengt
       let n : length (proofsBytes (m .0)) ≡ len = ap length (sym its) ∙ l ∙ part-room 0 len len room (omega arith) h in
       record {
         answer = ap accepted (sym (m .2)) ∙ sym (ap togetherLength fits);
-        bytes = ap (front len room) its ∙ front-filled len room (proofsBytes (m .0)) n ∙ sym (ap (λ b. roomAfter b room) fits);
+        bytes = ap (front len room) its ∙ front-filled len room (proofsBytes (m .0)) n ∙ sym (ap (λ b. roomAfter proofsBytes b room) fits);
       }
 
 -- 12

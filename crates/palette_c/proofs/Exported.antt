@@ -9,13 +9,13 @@ use Rattle.fields.specs.Written.{written}
 use Rattle.fields.proofs.Written.{number-fills}
 use Rattle.terms.specs.Records.{Proof}
 use Rattle.meaning.specs.Calls.{Answer, refused}
-use Rattle.meaning.specs.Answers.{numberOf}
+use Rattle.meaning.specs.Answers.{numberOf, roomAfter}
 use Rattle.meaning.proofs.Told.{told-refused, told-given}
 use Rattle.palette_rules.specs.Palette.{lengthTogether}
 use Rattle.prove.specs.Parts.{provedSays}
 use Rattle.prove.specs.declared.Proved as declared
 use Rattle.prove.specs.declared.Proved.the-variants.{Refused, Length}
-use Rattle.contracts.specs.Palettes.{paletteIndexed, roomAfter, palettedInto, lengthBytes, Palettes, PalettesBy}
+use Rattle.contracts.specs.Palettes.{paletteIndexed, palettedInto, lengthBytes, Palettes, PalettesBy, proofsBytes}
 use Rattle.palette.specs.Parts.{Gives}
 use Rattle.palette_c.specs.Export.{PaletteTold}
 
@@ -36,12 +36,12 @@ module _ {a : Answer (List Proof)} {room after : Bytes} {r : declared.Proved} (g
 pub palette-as : {a b : Answer (List Proof)} {room f t g : Bytes} {r : ℕ} → a ≡ b → PaletteTold a room f r t g → PaletteTold b room f r t g
 palette-as {room = room} {f = f} e w = record {
   answer = w .answer ∙ ap numberOf e;
-  proofs = w .proofs ∙ ap (λ x. roomAfter x room) e;
+  proofs = w .proofs ∙ ap (λ x. roomAfter proofsBytes x room) e;
   told = w .told ∙ ap (λ x. lengthBytes x f) e;
 }
 
 pub palette-refusal : {b : Answer (List Proof)} (n : ℕ) (room f : Bytes) → refused n ≡ b → PaletteTold b room f n room f
-palette-refusal n room f e = record { answer = ap numberOf e; proofs = ap (λ x. roomAfter x room) e; told = ap (λ x. lengthBytes x f) e }
+palette-refusal n room f e = record { answer = ap numberOf e; proofs = ap (λ x. roomAfter proofsBytes x room) e; told = ap (λ x. lengthBytes x f) e }
 
 -- an answer that is told is what the contract says
 module _ {s : Bytes} {v : ℕ} {list room f : Bytes} {r : ℕ} {t g : Bytes} where

@@ -24,7 +24,9 @@ use Rattle.read_open.proofs.Opening as opening
 use Rattle.prove_plan.specs.Plans.{planSays, Plans}
 use Rattle.prove_plan.specs.declared.Plan as declared-plan
 use Rattle.prove_plan.proofs.Ending.{by-searches}
-use Rattle.contracts.specs.Proves.{proveAnswer, proveIndexed, roomAfter}
+use Rattle.meaning.specs.Answers.{roomAfter}
+use Rattle.proofrecords.specs.ProofBytes.{proofBytes}
+use Rattle.contracts.specs.Proves.{proveAnswer, proveIndexed}
 use Rattle.promises.proofs.Heading.{as-many, not-as-many}
 use Rattle.prove.specs.Parts.{proveAnswerBy, Gives, lengthAnswer, provedSays}
 use Rattle.prove.specs.declared.Proved as declared
@@ -34,11 +36,11 @@ use Rattle.prove.proofs.Giving.{gives-refusal}
 -- the call's answer and room
 abbrev Answers : Bytes → List ℕ → ℕ → Bytes → Bytes → Bytes → declared.Proved → Type 0
 Answers s table v k room after r =
-    (provedSays r ≡ lengthAnswer (proveAnswerBy s table v k (length room))) × (after ≡ roomAfter (proveAnswerBy s table v k (length room)) room)
+    (provedSays r ≡ lengthAnswer (proveAnswerBy s table v k (length room))) × (after ≡ roomAfter proofBytes (proveAnswerBy s table v k (length room)) room)
 
 answers : {a : Answer Proof} (s : Bytes) (table : List ℕ) (v : ℕ) (k room after : Bytes) (r : declared.Proved) → Gives a room after r → a ≡ proveAnswerBy s table v k (length room) →
     Answers s table v k room after r
-answers s table v k room after r g e = (g .answer ∙ ap lengthAnswer e, g .bytes ∙ ap (λ a. roomAfter a room) e)
+answers s table v k room after r g e = (g .answer ∙ ap lengthAnswer e, g .bytes ∙ ap (λ a. roomAfter proofBytes a room) e)
 
 fitted-kept : (n : ℕ) (b : Bool) (a : Answer Proof) → fitted n (cond b a (refused 8)) ≡ cond b (fitted n a) (refused 8)
 fitted-kept n true a = refl
