@@ -5,6 +5,7 @@ use native.Mathlib.Omega.{arith}
 use mathlib.Core.Path.{_≡_, refl, ap, ap₂, sym, _∙_, fun-ext}
 use mathlib.Core.Bool.{cond}
 use mathlib.Core.List.{List}
+use mathlib.Core.Option.{none}
 use lib.ListN.{length}
 use lib.Dec.{eqb, ltb}
 use Rattle.terms.specs.declared.Form.the-variants.{Counted as counted}
@@ -54,12 +55,12 @@ module _ {t s : Bytes} (a : SoundBytes t) (b : SoundBytes s) {v w : ℕ} (kept :
   same-proof : (k : Bytes) → proof (storeOf t) v k ≡ proof (storeOf s) w k
   same-proof = same-tree-same-proofs leafHash innerHash (storeOf t) (storeOf s) (a .sound) (b .sound) v w kept kept′ e
 
-  same-proved : (k : Bytes) (room : ℕ) → proveAnswer t v k room ≡ proveAnswer s w k room
-  unfolding proveAnswer prove
+  same-proved : (k : Bytes) (room : ℕ) → proveAnswer t none v k room ≡ proveAnswer s none w k room
+  unfolding proveAnswer prove proof
   same-proved k room = rw (a .headed, b .headed) (ap (λ p. cond (eqb (length k) 32) (fitted room p) (refused 12)) (same-proof k))
 
-  same-palette : (list : Bytes) (room : ℕ) → paletteAnswer t v list room ≡ paletteAnswer s w list room
-  unfolding paletteAnswer palette
+  same-palette : (list : Bytes) (room : ℕ) → paletteAnswer t none v list room ≡ paletteAnswer s none w list room
+  unfolding paletteAnswer palette proof
   same-palette list room =
       rw (a .headed, b .headed, kept-test (storeOf t) v kept, kept-test (storeOf s) w kept′)
       (ap (λ (single : Bytes → Answer Proof). cond (wholeKeys list) (fittedTogether room (inTurn single (keysIn list))) (refused 12)) (fun-ext same-proof))

@@ -6,7 +6,7 @@ use mathlib.Core.Path.{_≡_, refl, ap, sym, _∙_, subst}
 use mathlib.Core.Logic.{_↔_}
 use mathlib.Core.Bool.{Bool, true, _&&_}
 use mathlib.Core.List.{List, [], _∷_}
-use mathlib.Core.Option.{some}
+use mathlib.Core.Option.{some, none}
 use lib.ListN.{length, getD}
 use lib.Dec.{eqb, ltb, leb}
 use borrow.Author.Tests.{eqb-true, ltb-true, leb-true}
@@ -105,8 +105,8 @@ RowReady (prunes st n answer end) = Whole st
 RowReady (reads st v answer) = Whole st
 
 -- a root read on the bytes of a sound store
-root-said : (st : Store) → Whole st → (v : ℕ) → rootAnswer (storeBytes st) v ≡ readRoot leafHash innerHash st v
-unfolding rootAnswer
+root-said : (st : Store) → Whole st → (v : ℕ) → rootAnswer (storeBytes st) none v ≡ readRoot leafHash innerHash st v
+unfolding rootAnswer readRoot
 root-said st s v = rw (stored-sound st (s .0) (s .1) .headed) (ap (λ x. readRoot leafHash innerHash x v) (stored-is st (s .0) (s .1)))
 
 row-over-bytes : (row : Row) → RowHolds leafHash innerHash row → RowReady row → RowOverBytes row

@@ -15,7 +15,7 @@ use Rattle.terms.specs.Bits.{Bytes, Byte, All}
 use Rattle.terms.specs.Records.{Store, Proof}
 use Rattle.meaning.specs.Calls.{Answer, refused, accepted, Result, apply, prune}
 use Rattle.meaning.specs.Reading.{Trouble, lostRecord, spoiltRecord, readKey, readRoot}
-use Rattle.meaning.specs.Proving.{prove}
+use Rattle.meaning.specs.Proving.{prove, proof}
 use Rattle.meaning.specs.Counting.{readNumber, readPosition}
 use Rattle.meaning.specs.Answers.{numberOf}
 use Rattle.nodehash.specs.Node.{leafHash, innerHash}
@@ -131,7 +131,7 @@ never-lost s v t e (its-root i n m) = let z : _≡_ {A = ℕ} 0 1 = cc in omega 
 -- A root read: 1, 2, 8, 3, and the slot beside 3.
 module _ {s : Bytes} {v : ℕ} {f : Bytes} {r : ℕ} {g : Bytes} (w : ReadsRoot s v f r g) where
   root-answers : Stopped (testsOf (rootRows s v)) [] (StopsRoot s v) r
-  unfolding rootAnswer
+  unfolding rootAnswer readRoot
   root-answers =
       subst (Stopped (testsOf (rootRows s v)) [] (StopsRoot s v)) (sym (w .answer))
       (read-stopped s (readRoot leafHash innerHash (storeOf s) v) (λ c o l e. root-stopped leafHash innerHash s v))
@@ -145,7 +145,7 @@ module _ {s : Bytes} {v : ℕ} {f : Bytes} {r : ℕ} {g : Bytes} (w : ReadsRoot 
 -- A key read: 12, 1, 2, 8, 17 or 3, and the slot beside 3.
 module _ {s : Bytes} {v : ℕ} {k f : Bytes} {r : ℕ} {g : Bytes} (h : All Byte s) (w : ReadsKey s v k f r g) where
   get-answers : Stopped (testsOf (getRows s v k)) [] (StopsGet s v k) r
-  unfolding keyAnswer
+  unfolding keyAnswer readKey
   get-answers =
       subst (Stopped (testsOf (getRows s v k)) [] (StopsGet s v k)) (sym (w .answer))
       (key-stopped k (byHeader (headerOf counted s) (readKey (storeOf s) v k))
@@ -160,7 +160,7 @@ module _ {s : Bytes} {v : ℕ} {k f : Bytes} {r : ℕ} {g : Bytes} (h : All Byte
 -- The number of grants: 1, 2, 8, 3, and the slot beside 3.
 module _ {s : Bytes} {v : ℕ} {f : Bytes} {r : ℕ} {g : Bytes} (w : Counts s v f r g) where
   count-answers : Stopped (testsOf (rootRows s v)) [] (StopsRoot s v) r
-  unfolding numberAnswer
+  unfolding numberAnswer readNumber
   count-answers =
       subst (Stopped (testsOf (rootRows s v)) [] (StopsRoot s v)) (sym (w .answer))
       (read-stopped s (readNumber (storeOf s) v) (λ c o l e. number-stopped leafHash innerHash s v))
@@ -174,7 +174,7 @@ module _ {s : Bytes} {v : ℕ} {f : Bytes} {r : ℕ} {g : Bytes} (w : Counts s v
 -- The grant at a position: 1, 2, 8, 20, 17 or 3, and the slot beside 3.
 module _ {s : Bytes} {v i : ℕ} {f : Bytes} {r : ℕ} {g : Bytes} (h : All Byte s) (w : ReadsAt s v i f r g) where
   at-answers : Stopped (testsOf (atRows s v i)) [] (StopsAt s v i) r
-  unfolding positionAnswer
+  unfolding positionAnswer readPosition
   at-answers =
       subst (Stopped (testsOf (atRows s v i)) [] (StopsAt s v i)) (sym (w .answer))
       (read-stopped s (readPosition (storeOf s) v i) (λ c o l e. position-stopped s (records-formed s h e) v i))
@@ -188,7 +188,7 @@ module _ {s : Bytes} {v i : ℕ} {f : Bytes} {r : ℕ} {g : Bytes} (h : All Byte
 -- Proving: 12, 1, 2, 8, 14, 17 or 3, 9, and the slot beside 3.
 module _ {s : Bytes} {v : ℕ} {k room f : Bytes} {r : ℕ} {t g : Bytes} (h : All Byte s) (w : Proves s v k room f r t g) where
   prove-answers : Stopped (testsOf (proveRows s v k room)) ((9, TooLong s v k room) ∷ []) (StopsProve s v k) r
-  unfolding proveAnswer
+  unfolding proveAnswer prove proof
   prove-answers =
       subst (Stopped (testsOf (proveRows s v k room)) ((9, TooLong s v k room) ∷ []) (StopsProve s v k)) (sym (w .answer))
       (key-stopped k (byHeader (headerOf counted s) (prove (storeOf s) v k (length room)))
@@ -212,7 +212,7 @@ list-stopped {early = early} {later = later} {stops = stops} list a w = go (whol
 -- A palette: 12, 1, 2, 8, 14, 17 or 3, 9, and the slot beside 3.
 module _ {s : Bytes} {v : ℕ} {list room f : Bytes} {r : ℕ} {t g : Bytes} (h : All Byte s) (w : Palettes s v list room f r t g) where
   palette-answers : Stopped (testsOf (paletteRows s v list room)) ((9, TooLongTogether s v (keysIn list) room) ∷ []) (StopsPalette s v (keysIn list)) r
-  unfolding paletteAnswer
+  unfolding paletteAnswer palette proof
   palette-answers =
       subst (Stopped (testsOf (paletteRows s v list room)) ((9, TooLongTogether s v (keysIn list) room) ∷ []) (StopsPalette s v (keysIn list))) (sym (w .answer))
       (list-stopped list (byHeader (headerOf counted s) (palette (storeOf s) v (keysIn list) (length room)))

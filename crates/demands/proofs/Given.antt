@@ -37,8 +37,8 @@ pub record Given (s : Bytes) (v : ℕ) (k : Bytes) (room : ℕ) (p : Proof) : Ty
   pub proved : proof (storeOf s) v k ≡ accepted p
   pub fits : proofLength p ≤ room
 
-given-is : (s : Bytes) (v : ℕ) (k : Bytes) (room : ℕ) (p : Proof) → proveAnswer s v k room ≡ accepted p → Given s v k room p
-unfolding proveAnswer prove
+given-is : (s : Bytes) (v : ℕ) (k : Bytes) (room : ℕ) (p : Proof) → proveAnswer s none v k room ≡ accepted p → Given s v k room p
+unfolding proveAnswer prove proof
 given-is s v k room p = go (eqb (length k) 32) (headerOf counted s) (proof (storeOf s) v k) refl refl refl
   where
     within : (q : Proof) (b : Bool) → ltb room (proofLength q) ≡ b → cond b (refused 9) (accepted q) ≡ accepted p →
@@ -98,13 +98,13 @@ kind-is (absence a) rest =
     kind-after _ absenceKind (le 2 (flagsOf l r) ∷ a .key ∷ neighbourBytes l ∷ neighbourBytes r ∷ []) rest (omega arith)
 
 module _ {s : Bytes} {v : ℕ} {k room f t g : Bytes} (w : Proves s v k room f 0 t g) where
-  there-is : (p : Proof) × (provedInto s v k room ≡ accepted p)
-  there-is = accepted-of (provedInto s v k room) (prove-nonzero s v k (length room)) (w .answer)
+  there-is : (p : Proof) × (provedInto s none v k room ≡ accepted p)
+  there-is = accepted-of (provedInto s none v k room) (prove-nonzero s v k (length room)) (w .answer)
 
   pub its-proof : Proof
   its-proof = there-is .0
 
-  is-given : provedInto s v k room ≡ accepted its-proof
+  is-given : provedInto s none v k room ≡ accepted its-proof
   unfolding its-proof
   is-given = there-is .1
 

@@ -180,8 +180,8 @@ same-in-profile room (refused n) h = refl
 same-in-profile room (accepted p) h = ap (λ b. fitted room (cond b (accepted p) (refused 19))) (h p refl)
 
 module _ (s : Bytes) (v : ℕ) (k : Bytes) where
-  as-proved : (room : ℕ) → (ProvedOutside s v k → ⊥) → pocketAnswer s v k room ≡ proveAnswer s v k room
-  unfolding pocketAnswer proveAnswer pocketProve prove
+  as-proved : (room : ℕ) → (ProvedOutside s v k → ⊥) → pocketAnswer s v k room ≡ proveAnswer s none v k room
+  unfolding pocketAnswer proveAnswer pocketProve prove proof
   as-proved room h =
       ap (λ a. cond (eqb (length k) 32) (byHeader (headerOf counted s) a) (refused 12))
       (same-in-profile room (proof (storeOf s) v k) (λ p e. not-outside p (λ o. h (p, e, o))))

@@ -2,6 +2,7 @@
 use Prim.Native.Nat.{ℕ}
 use mathlib.Core.Path.{_≡_, ap, sym, _∙_}
 use mathlib.Core.List.{List}
+use mathlib.Core.Option.{none, some}
 use lib.ListN.{length}
 use Rattle.terms.specs.Bits.{Bytes}
 use Rattle.terms.specs.Fields.{le}
@@ -15,7 +16,7 @@ use Rattle.palette_rules.specs.Palette.{lengthTogether}
 use Rattle.prove.specs.Parts.{provedSays}
 use Rattle.prove.specs.declared.Proved as declared
 use Rattle.prove.specs.declared.Proved.the-variants.{Refused, Length}
-use Rattle.contracts.specs.Palettes.{paletteIndexed, palettedInto, lengthBytes, Palettes, PalettesBy, proofsBytes}
+use Rattle.contracts.specs.Palettes.{paletteAnswer, palettedInto, lengthBytes, Palettes, PalettesBy, proofsBytes}
 use Rattle.palette.specs.Parts.{Gives}
 use Rattle.palette_c.specs.Export.{PaletteTold}
 
@@ -45,9 +46,9 @@ palette-refusal n room f e = record { answer = ap numberOf e; proofs = ap (λ x.
 
 -- an answer that is told is what the contract says
 module _ {s : Bytes} {v : ℕ} {list room f : Bytes} {r : ℕ} {t g : Bytes} where
-  pub palette-told : PaletteTold (palettedInto s v list room) room f r t g → Palettes s v list room f r t g
+  pub palette-told : PaletteTold (palettedInto s none v list room) room f r t g → Palettes s v list room f r t g
   palette-told w = record { answer = w .answer; proofs = w .proofs; told = w .told }
 
-  pub palette-told-by : {table : List ℕ} → PaletteTold (paletteIndexed s table v list (length room)) room f r t g →
+  pub palette-told-by : {table : List ℕ} → PaletteTold (paletteAnswer s (some table) v list (length room)) room f r t g →
       PalettesBy s table v list room f r t g
   palette-told-by w = record { answer = w .answer; proofs = w .proofs; told = w .told }

@@ -2,6 +2,7 @@
 use Prim.Native.Nat.{ℕ}
 use mathlib.Core.Path.{_≡_, ap, sym, _∙_}
 use mathlib.Core.List.{List}
+use mathlib.Core.Option.{none, some}
 use lib.ListN.{length}
 use Rattle.terms.specs.Bits.{Bytes}
 use Rattle.terms.specs.Fields.{le}
@@ -12,7 +13,7 @@ use Rattle.meaning.specs.Calls.{Answer, refused}
 use Rattle.meaning.specs.Answers.{numberOf, roomAfter}
 use Rattle.meaning.specs.Proving.{proofLength}
 use Rattle.proofrecords.specs.ProofBytes.{proofBytes}
-use Rattle.contracts.specs.Proves.{proveIndexed, provedInto, lengthBytes, Proves, ProvesBy}
+use Rattle.contracts.specs.Proves.{proveAnswer, provedInto, lengthBytes, Proves, ProvesBy}
 use Rattle.prove.specs.Parts.{lengthAnswer, provedSays}
 use Rattle.prove.specs.declared.Proved as declared
 use Rattle.prove.specs.declared.Proved.the-variants.{Refused, Length}
@@ -45,8 +46,8 @@ proof-refusal n room f e = record { answer = ap numberOf e; proof = ap (λ x. ro
 
 -- an answer that is told is what the contract says
 module _ {s : Bytes} {v : ℕ} {k room f : Bytes} {r : ℕ} {t g : Bytes} where
-  pub proof-told : ProofTold (provedInto s v k room) room f r t g → Proves s v k room f r t g
+  pub proof-told : ProofTold (provedInto s none v k room) room f r t g → Proves s v k room f r t g
   proof-told w = record { answer = w .answer; proof = w .proof; told = w .told }
 
-  pub proof-told-by : {table : List ℕ} → ProofTold (proveIndexed s table v k (length room)) room f r t g → ProvesBy s table v k room f r t g
+  pub proof-told-by : {table : List ℕ} → ProofTold (proveAnswer s (some table) v k (length room)) room f r t g → ProvesBy s table v k room f r t g
   proof-told-by w = record { answer = w .answer; proof = w .proof; told = w .told }
