@@ -14,13 +14,12 @@ use Rattle.terms.specs.Bits.{Bytes, Byte, All}
 use Rattle.terms.specs.Records.{Store}
 use Rattle.meaning.specs.Calls.{Answer, refused, accepted, Result, apply, prune}
 use Rattle.meaning.specs.Reading.{Verdict, Trouble, lostRecord, spoiltRecord, readKey, readRoot}
-use Rattle.meaning.specs.Proving.{prove}
+use Rattle.meaning.specs.Proving.{prove, proof}
 use Rattle.meaning.specs.Counting.{readNumber, readPosition}
 use Rattle.meaning.specs.Answers.{numberOf}
 use Rattle.nodehash.specs.Node.{leafHash, innerHash}
 use Rattle.layout.specs.Headers.{Headed, refusal, header, sizeRight, headerOf}
 use Rattle.layout.specs.Stores.{storeOf}
-use Rattle.batch.specs.Batch.{batchOf}
 use Rattle.contracts.specs.Format.{formatAnswer}
 use Rattle.promises.specs.Check as check
 use Rattle.promises.specs.Calls.{Does, wrong-header, not-sound, refuses, accepts, Exports, exports-refusal, exports-answer}
@@ -90,11 +89,10 @@ export-first call s more f (exports-refusal {m} d) = does-first call s more (ref
 export-first call s more f (exports-answer {a} d) = does-first call s more (accepted a) f d
 
 -- Apply: 1, 2, 3, 4, 5, 18, 7.
-pub apply-exactly : (number : ℕ) (batch : Bytes) {s f t g : Bytes} {r : ℕ} → All Byte batch → Applies number batch s f r t g →
-    Exactly (applyRows number batch s) r
-apply-exactly number batch {s} {r = r} h w =
+pub apply-exactly : (number : ℕ) (batch : Bytes) {s f t g : Bytes} {r : ℕ} → Applies number batch s f r t g → Exactly (applyRows number batch s) r
+apply-exactly number batch {s} {r = r} w =
     exactly (applyRows number batch s) r refl
-    (export-first (apply leafHash innerHash number (batchOf batch)) s (batchRows number batch s) (batch-first batch h number s) w)
+    (export-first (apply leafHash innerHash number (w .asked)) s (batchRows number batch s) (batch-first number batch s (w .asked) (w .asks)) (w .applied))
 
 -- Prune: 1, 2, 3, 8.
 pub prune-exactly : (n : ℕ) {s f t g : Bytes} {r : ℕ} → Prunes n s f r t g → Exactly (pruneRows n s) r
@@ -126,7 +124,7 @@ never-lost s v t e (its-root i n m) = let z : _≡_ {A = ℕ} 0 1 = cc in omega 
 -- A root read: 1, 2, 8, 3, and the slot beside 3.
 module _ {s : Bytes} {v : ℕ} {f : Bytes} {r : ℕ} {g : Bytes} (w : ReadsRoot s v f r g) where
   root-answers : Stopped (testsOf (rootRows s v)) [] (StopsRoot s v) r
-  unfolding rootAnswer
+  unfolding rootAnswer readRoot
   root-answers =
       subst (Stopped (testsOf (rootRows s v)) [] (StopsRoot s v)) (sym (w .answer))
       (read-stopped s (readRoot leafHash innerHash (storeOf s) v) (λ c o l e. root-stopped leafHash innerHash s v))
@@ -140,7 +138,7 @@ module _ {s : Bytes} {v : ℕ} {f : Bytes} {r : ℕ} {g : Bytes} (w : ReadsRoot 
 -- A key read: 12, 1, 2, 8, 17 or 3, and the slot beside 3.
 module _ {s : Bytes} {v : ℕ} {k f : Bytes} {r : ℕ} {g : Bytes} (h : All Byte s) (w : ReadsKey s v k f r g) where
   get-answers : Stopped (testsOf (getRows s v k)) [] (StopsGet s v k) r
-  unfolding keyAnswer
+  unfolding keyAnswer readKey
   get-answers =
       subst (Stopped (testsOf (getRows s v k)) [] (StopsGet s v k)) (sym (w .answer))
       (key-stopped k (byHeader (headerOf counted s) (readKey (storeOf s) v k))
@@ -155,7 +153,7 @@ module _ {s : Bytes} {v : ℕ} {k f : Bytes} {r : ℕ} {g : Bytes} (h : All Byte
 -- The number of grants: 1, 2, 8, 3, and the slot beside 3.
 module _ {s : Bytes} {v : ℕ} {f : Bytes} {r : ℕ} {g : Bytes} (w : Counts s v f r g) where
   count-answers : Stopped (testsOf (rootRows s v)) [] (StopsRoot s v) r
-  unfolding numberAnswer
+  unfolding numberAnswer readNumber
   count-answers =
       subst (Stopped (testsOf (rootRows s v)) [] (StopsRoot s v)) (sym (w .answer))
       (read-stopped s (readNumber (storeOf s) v) (λ c o l e. number-stopped leafHash innerHash s v))
@@ -169,7 +167,7 @@ module _ {s : Bytes} {v : ℕ} {f : Bytes} {r : ℕ} {g : Bytes} (w : Counts s v
 -- The grant at a position: 1, 2, 8, 20, 17 or 3, and the slot beside 3.
 module _ {s : Bytes} {v i : ℕ} {f : Bytes} {r : ℕ} {g : Bytes} (h : All Byte s) (w : ReadsAt s v i f r g) where
   at-answers : Stopped (testsOf (atRows s v i)) [] (StopsAt s v i) r
-  unfolding positionAnswer
+  unfolding positionAnswer readPosition
   at-answers =
       subst (Stopped (testsOf (atRows s v i)) [] (StopsAt s v i)) (sym (w .answer))
       (read-stopped s (readPosition (storeOf s) v i) (λ c o l e. position-stopped s (records-formed s h e) v i))
@@ -183,7 +181,7 @@ module _ {s : Bytes} {v i : ℕ} {f : Bytes} {r : ℕ} {g : Bytes} (h : All Byte
 -- Proving: 12, 1, 2, 8, 14, 17 or 3, 9, and the slot beside 3.
 module _ {s : Bytes} {v : ℕ} {k room f : Bytes} {r : ℕ} {t g : Bytes} (h : All Byte s) (w : Proves s v k room f r t g) where
   prove-answers : Stopped (testsOf (proveRows s v k room)) ((9, TooLong s v k room) ∷ []) (StopsProve s v k) r
-  unfolding proveAnswer
+  unfolding proveAnswer prove proof
   prove-answers =
       subst (Stopped (testsOf (proveRows s v k room)) ((9, TooLong s v k room) ∷ []) (StopsProve s v k)) (sym (w .answer))
       (key-stopped k (byHeader (headerOf counted s) (prove (storeOf s) v k (length room)))
@@ -207,7 +205,7 @@ list-stopped {early = early} {later = later} {stops = stops} list a w = go (whol
 -- A palette: 12, 1, 2, 8, 14, 17 or 3, 9, and the slot beside 3.
 module _ {s : Bytes} {v : ℕ} {list room f : Bytes} {r : ℕ} {t g : Bytes} (h : All Byte s) (w : Palettes s v list room f r t g) where
   palette-answers : Stopped (testsOf (paletteRows s v list room)) ((9, TooLongTogether s v (keysIn list) room) ∷ []) (StopsPalette s v (keysIn list)) r
-  unfolding paletteAnswer
+  unfolding paletteAnswer palette proof
   palette-answers =
       subst (Stopped (testsOf (paletteRows s v list room)) ((9, TooLongTogether s v (keysIn list) room) ∷ []) (StopsPalette s v (keysIn list))) (sym (w .answer))
       (list-stopped list (byHeader (headerOf counted s) (palette (storeOf s) v (keysIn list) (length room)))

@@ -1,19 +1,23 @@
 -- Demand 1: two outcomes that the contract of a public call allows are equal, in the answer and in every byte. Most contracts are equations, so
 -- both outcomes are the same term; the others are by cases that exclude each other. Assumes nothing.
 use Prim.Native.Nat.{ℕ}
-use mathlib.Core.Path.{_≡_, refl, ap, sym, _∙_}
+use mathlib.Core.Path.{_≡_, refl, ap, sym, _∙_, subst}
 use lib.ListN.{length}
 use Rattle.terms.specs.declared.Form.the-variants.{Counted as counted}
 use Rattle.terms.specs.Bits.{Bytes}
 use Rattle.promises.proofs.Check.{one-answer}
-use Rattle.meaning.specs.Calls.{Answer, refused}
-use Rattle.meaning.specs.Answers.{numberOf, toldOf, foundAfter}
+use Rattle.meaning.specs.Calls.{Answer, refused, apply}
+use Rattle.meaning.specs.Answers.{numberOf, toldOf, foundAfter, roomAfter}
 use Rattle.sha256.specs.Sha256.{sha256}
 use Rattle.layout.specs.Stores.{storeOf}
 use Rattle.promises.specs.Check.{Checked, sound}
-use Rattle.promises.specs.Calls.{SoundBytes}
+use Rattle.promises.specs.Calls.{SoundBytes, Exports}
+use Rattle.nodehash.specs.Node.{leafHash, innerHash}
+use Rattle.batch.proofs.Batches.{asks-one}
 use Rattle.promises.proofs.Calls.{one-outcome, one-export}
-use Rattle.contracts.specs.Changes.{roomAfter, countBytes}
+use Rattle.changed.specs.Changes.{listBytes}
+use Rattle.contracts.specs.Apply.{told}
+use Rattle.contracts.specs.Changes.{countBytes}
 use Rattle.rescue_bytes.proofs.Outcomes as rescue
 use Rattle.move_rules.proofs.Outcomes as move
 use Rattle.contracts.specs.Contracts.{Formats, Checks, Applies, Prunes, ReadsRoot, ReadsKey, Counts, ReadsAt, Proves, Palettes, Changes, Verifies, VerifiesMany, TellsVersion, Hashes, Rescues, MovesOver, MovesBack, Finds}
@@ -49,7 +53,9 @@ module _ {s : Bytes} {a b : ℕ} where
 
   pub one-apply : (number : ℕ) (batch : Bytes) {f t u g h : Bytes} → Applies number batch s f a t g → Applies number batch s f b u h →
       (a ≡ b) × (t ≡ u) × (g ≡ h)
-  one-apply number batch x y = one-export x y
+  one-apply number batch {f} {u = u} {h = h} x y =
+      one-export (x .applied) (subst (λ o. Exports (apply leafHash innerHash number o) told s f b u h)
+      (asks-one batch (y .asked) (x .asked) (y .asks) (x .asks)) (y .applied))
 
   pub one-prune : (n : ℕ) {f t u g h : Bytes} → Prunes n s f a t g → Prunes n s f b u h → (a ≡ b) × (t ≡ u) × (g ≡ h)
   one-prune n x y = one-export x y
@@ -77,7 +83,7 @@ module _ {s : Bytes} {a b : ℕ} where
   one-changes {room = room} {f = f} x y =
       let o = one-outcome (x .does) (y .does) .0 in (
         x .number ∙ ap numberOf o ∙ sym (y .number),
-        x .list ∙ ap (λ z. roomAfter z room) o ∙ sym (y .list),
+        x .list ∙ ap (λ z. roomAfter listBytes z room) o ∙ sym (y .list),
         x .told ∙ ap (λ z. countBytes z f) o ∙ sym (y .told),
       )
 

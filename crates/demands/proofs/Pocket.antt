@@ -17,15 +17,15 @@ use Rattle.meaning.specs.Sound.{Kept}
 use Rattle.meaning.specs.Calls.{Answer, refused, accepted}
 use Rattle.meaning.specs.Reading.{Verdict, spoiltRecord, answerOf}
 use Rattle.meaning.specs.Proving.{HoldsGrant, proof, proofLength, fitted, prove}
-use Rattle.meaning.specs.Answers.{numberOf, foundAfter, foundBytes, toldOf}
-use Rattle.proofrecords.specs.ProofBytes.{ProofIs}
+use Rattle.meaning.specs.Answers.{numberOf, foundAfter, foundBytes, toldOf, roomAfter}
+use Rattle.proofrecords.specs.ProofBytes.{ProofIs, proofBytes}
 use Rattle.proofrecords.proofs.Proofs.{one-proof-is}
 use Rattle.layout.specs.Headers.{Headed, refusal, header, headerOf}
 use Rattle.layout.specs.Stores.{storeOf}
 use Rattle.promises.specs.Calls.{SoundBytes}
 use Rattle.promises.proofs.Calls.{sound-form}
 use Rattle.promises.specs.Headed.{byHeader}
-use Rattle.contracts.specs.Proves.{proveAnswer, roomAfter}
+use Rattle.contracts.specs.Proves.{proveAnswer}
 use Rattle.pocket.specs.Pocket.{Outside, small, inProfile, pocketProve}
 use Rattle.pocket.proofs.Theorems.{inside-shows-short, outside-shows-long, pocket-proofs-have-2296-bytes}
 use Rattle.contracts.specs.Pocket.{pocketAnswer, pocketInto}
@@ -79,7 +79,7 @@ pub refused-pocket-prove-writes-nothing : {s : Bytes} {v : ℕ} {k room f : Byte
     (t ≡ room) × (g ≡ f)
 refused-pocket-prove-writes-nothing {s} {v} {k} {room} {f} w h =
     let e = refused-of (pocketInto s v k room) (λ z. h (w .answer ∙ z)) in
-    (w .proof ∙ ap (λ a. roomAfter a room) (e .1), w .told ∙ ap (λ a. toldOf (λ p. le 4 (proofLength p)) a f) (e .1))
+    (w .proof ∙ ap (λ a. roomAfter proofBytes a room) (e .1), w .told ∙ ap (λ a. toldOf (λ p. le 4 (proofLength p)) a f) (e .1))
 
 -- The check: 12, 10, 19, 11.
 pub pocket-verify-exactly : {root k x f : Bytes} {r : ℕ} {g : Bytes} → PocketVerifies root k x f r g → Exactly (pocketVerifyRows root k x) r
@@ -167,8 +167,8 @@ same-in-profile room (refused n) h = refl
 same-in-profile room (accepted p) h = ap (λ b. fitted room (cond b (accepted p) (refused 19))) (h p refl)
 
 module _ (s : Bytes) (v : ℕ) (k : Bytes) where
-  as-proved : (room : ℕ) → (ProvedOutside s v k → ⊥) → pocketAnswer s v k room ≡ proveAnswer s v k room
-  unfolding pocketAnswer proveAnswer pocketProve prove
+  as-proved : (room : ℕ) → (ProvedOutside s v k → ⊥) → pocketAnswer s v k room ≡ proveAnswer s none v k room
+  unfolding pocketAnswer proveAnswer pocketProve prove proof
   as-proved room h =
       ap (λ a. cond (eqb (length k) 32) (byHeader (headerOf counted s) a) (refused 12))
       (same-in-profile room (proof (storeOf s) v k) (λ p e. not-outside p (λ o. h (p, e, o))))
@@ -177,7 +177,7 @@ module _ (s : Bytes) (v : ℕ) (k : Bytes) where
   as-proves {room} {f} h w =
       let e = as-proved (length room) h in record {
         answer = w .answer ∙ ap (λ a. numberOf a) e;
-        proof = w .proof ∙ ap (λ a. roomAfter a room) e;
+        proof = w .proof ∙ ap (λ a. roomAfter proofBytes a room) e;
         told = w .told ∙ ap (λ a. toldOf (λ p. le 4 (proofLength p)) a f) e;
       }
 

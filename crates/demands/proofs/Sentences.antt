@@ -14,14 +14,15 @@ use Rattle.terms.proofs.Fields.{num-le, length-le, slice-between}
 use Rattle.meaning.specs.Sound.{Kept}
 use Rattle.meaning.specs.Calls.{Answer, accepted}
 use Rattle.meaning.specs.Reading.{Verdict}
-use Rattle.meaning.specs.Answers.{numberOf}
+use Rattle.meaning.specs.Answers.{numberOf, roomAfter}
 use Rattle.shown.proofs.Theorems.{kept-test}
-use Rattle.proofrecords.specs.ProofBytes.{absenceKind, presenceKind, absenceHead, flagsOf, neighbourBytes, proofBytes, absenceBytes, ProofForm}
+use Rattle.proofrecords.specs.ProofBytes.{absenceKind, absenceHead, flagsOf, neighbourBytes, proofBytes, absenceBytes, ProofForm}
 use Rattle.layout.specs.Headers.{header, headerOf}
 use Rattle.layout.specs.Stores.{storeOf}
 use Rattle.verify_rules.specs.Verify.{Judged, Told, not-32-bytes, not-in-form, in-form}
 use Rattle.palette_rules.specs.Palette.{wholeKeys, keysIn, palette}
-use Rattle.contracts.specs.Palettes.{paletteAnswer, roomAfter, lengthBytes}
+use Rattle.meaning.specs.Proving.{proof}
+use Rattle.contracts.specs.Palettes.{paletteAnswer, lengthBytes, proofsBytes}
 use Rattle.contracts.specs.Contracts.{Verifies, Palettes}
 use Rattle.demands.proofs.Given.{kindOf, kind-is}
 
@@ -67,7 +68,7 @@ flags-0-is-off-form {root} {k} {x} e d kind flags w = w .answer ∙ go (w .told)
 -- 2026-04: 'No keys: 1, 2 and 8 are still tested, then it is accepted', also in an empty version: nothing is written, and the length is 0.
 pub no-keys-are-accepted : {s room f t g : Bytes} {v r c o l : ℕ} → headerOf counted s ≡ header c o l → Kept (storeOf s) v →
     Palettes s v [] room f r t g → (r ≡ 0) × (t ≡ room) × (g ≡ le 4 0)
-unfolding paletteAnswer palette wholeKeys keysIn
+unfolding paletteAnswer palette wholeKeys keysIn proof
 no-keys-are-accepted {s} {room} {f} {v = v} headed kept w =
-    let is : paletteAnswer s v [] (length room) ≡ accepted [] = rw (headed, kept-test (storeOf s) v kept) (rw (le-ltb (length room) 0 (omega arith))) in
-    (w .answer ∙ ap (λ a. numberOf a) is, w .proofs ∙ ap (λ a. roomAfter a room) is, w .told ∙ ap (λ a. lengthBytes a f) is)
+    let is : paletteAnswer s none v [] (length room) ≡ accepted [] = rw (headed, kept-test (storeOf s) v kept) (rw (le-ltb (length room) 0 (omega arith))) in
+    (w .answer ∙ ap (λ a. numberOf a) is, w .proofs ∙ ap (λ a. roomAfter proofsBytes a room) is, w .told ∙ ap (λ a. lengthBytes a f) is)

@@ -6,6 +6,7 @@ use mathlib.Core.Path.{_≡_, refl, ap, sym, _∙_, subst}
 use mathlib.Core.Logic.{_↔_}
 use mathlib.Core.Bool.{Bool, true, false, cond}
 use mathlib.Core.List.{[], _∷_}
+use mathlib.Core.Option.{none}
 use lib.ListN.{length, take}
 use lib.Dec.{ltb}
 use borrow.Author.Tests.{eq-eqb, ltb-true, ltb-false}
@@ -40,10 +41,10 @@ use Rattle.demands.proofs.Forms.{proof-form}
 use Rattle.demands.proofs.Given.{kindOf, its-proof, its-tests, kind-told, front-is}
 
 -- what an accepted answer leaves
-root-left : {s : Bytes} {v : ℕ} {f : Bytes} {r : ℕ} {g h : Bytes} → ReadsRoot s v f r g → rootAnswer s v ≡ accepted h → (r ≡ 0) × (g ≡ h)
+root-left : {s : Bytes} {v : ℕ} {f : Bytes} {r : ℕ} {g h : Bytes} → ReadsRoot s v f r g → rootAnswer s none v ≡ accepted h → (r ≡ 0) × (g ≡ h)
 root-left {f = f} x e = (x .answer ∙ ap (λ a. numberOf a) e, x .root ∙ ap (λ a. rootBytes a f) e)
 
-key-left : {s : Bytes} {v : ℕ} {k f : Bytes} {r : ℕ} {g : Bytes} {a : Verdict} → ReadsKey s v k f r g → keyAnswer s v k ≡ accepted a →
+key-left : {s : Bytes} {v : ℕ} {k f : Bytes} {r : ℕ} {g : Bytes} {a : Verdict} → ReadsKey s v k f r g → keyAnswer s none v k ≡ accepted a →
     (r ≡ 0) × (g ≡ foundBytes a)
 key-left {f = f} x e = (x .answer ∙ ap (λ b. numberOf b) e, x .found ∙ ap (λ b. foundAfter b f) e)
 
@@ -76,8 +77,8 @@ verify-left {root} {k} {x} {f} {a = a} w t =
     let e = one-verdict root k x (w .verdict) (accepted a) (w .told) t in (w .answer ∙ ap (λ b. numberOf b) e, w .found ∙ ap (λ b. foundAfter b f) e)
 
 module _ {s : Bytes} (w : SoundBytes s) (v : ℕ) (kept : Kept (storeOf s) v) (k : Bytes) (whole : Whole32 k) where
-  proved-into : (room : Bytes) → provedInto s v k room ≡ prove (storeOf s) v k (length room)
-  unfolding proveAnswer
+  proved-into : (room : Bytes) → provedInto s none v k room ≡ prove (storeOf s) v k (length room)
+  unfolding proveAnswer prove proof
   proved-into room = rw (eq-eqb (length k) 32 (whole .0), w .headed)
 
   -- Where the version holds no grant, 14,
@@ -207,9 +208,9 @@ as-read (absence b) k a f {h} e g d c =
 -- On any bytes: a proof that is given shows a grant exactly if the key read finds one.
 pub proof-shows-what-is-read : {s : Bytes} {v : ℕ} {k room f t g f₁ h : Bytes} {r : ℕ} → Proves s v k room f 0 t g → ReadsKey s v k f₁ r h →
     (r ≡ 0) × ((field 4 2 t ≡ presenceKind) ↔ ((x : Bytes) × (h ≡ 1 ∷ x)))
-unfolding keyAnswer
+unfolding keyAnswer readKey
 proof-shows-what-is-read {s} {v} {k} {f₁ = f₁} x y =
     let w = its-tests x in
-    let same : readKey (storeOf s) v k ≡ keyAnswer s v k = rw (eq-eqb (length k) 32 (w .key), w .headed) in
+    let same : readKey (storeOf s) v k ≡ keyAnswer s none v k = rw (eq-eqb (length k) 32 (w .key), w .headed) in
     let agrees = subst (λ a. Agrees k a (its-proof x)) same (proof-agrees-with-read (storeOf s) v k (its-proof x) (w .proved)) in
-    as-read (its-proof x) k (keyAnswer s v k) f₁ (kind-told x) agrees (y .answer) (y .found)
+    as-read (its-proof x) k (keyAnswer s none v k) f₁ (kind-told x) agrees (y .answer) (y .found)

@@ -5,6 +5,7 @@ use mathlib.Core.Path.{_≡_}
 use mathlib.Core.Logic.{_⊎_}
 use mathlib.Core.Bool.{false, true}
 use mathlib.Core.List.{List, [], _∷_}
+use mathlib.Core.Option.{none}
 use lib.ListN.{length}
 use Rattle.terms.specs.declared.Form.{Form}
 use Rattle.terms.specs.declared.Form.the-variants.{Counted as counted}
@@ -38,7 +39,7 @@ use Rattle.layout.specs.Sizes.{headerSize, headerKind, mostSlots, kindAt, capac
 use Rattle.layout.specs.Stores.{storeIn, storeOf}
 use Rattle.move_rules.specs.Moves.{other}
 use Rattle.shelf_rules.specs.Shelf.{mostBits, ShelfProof, ShelfIs, ShelfHolds}
-use Rattle.batch.specs.Batch.{asks, AskedBy}
+use Rattle.batch.specs.Asked.{AskedBy, Asks}
 use Rattle.verify_rows.specs.Rows.{Pieces}
 
 -- 1: the store's length isn't 24 + 128n, n in 1 to 16,384.
@@ -94,11 +95,11 @@ Unsound stops = stops strayLeaf ⊎ ((i : ℕ) × stops (spoiltRecord i))
 
 -- 4: the batch isn't whole records in form, or has over 1,024.
 abbrev pub BatchOffForm : Bytes → Type 0
-BatchOffForm batch = (as′ : List Ask) → AskedBy batch as′ → ⊥
+BatchOffForm batch = Asks batch none
 
--- 5: keys not strictly ascending, those of the whole records, in form or not.
+-- 5: keys not strictly ascending.
 abbrev pub NotAscending : Bytes → Type 0
-NotAscending batch = ascending (asks batch) ≡ false
+NotAscending batch = (as′ : List Ask) × AskedBy batch as′ × (ascending as′ ≡ false)
 
 -- 18: the number given is not above latest (2026-13).
 abbrev pub NotAbove : ℕ → Bytes → Type 0
