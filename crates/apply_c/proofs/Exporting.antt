@@ -4,7 +4,7 @@ use native.Mathlib.Omega.{arith}
 use mathlib.Core.Path.{_≡_, ap, sym, _∙_, subst}
 use mathlib.Core.List.{[], _∷_, _++_, append-nil}
 use lib.ListN.{length, take, drop, length-take, length-drop}
-use Rattle.terms.specs.Bits.{Bytes}
+use Rattle.terms.specs.Bits.{Bytes, Byte, All}
 use Rattle.terms.specs.Fields.{le}
 use Rattle.terms.proofs.Fields.{length-le}
 use Rattle.hash.specs.declared.Hash.{Hash}
@@ -12,11 +12,15 @@ use Rattle.hash.specs.Hash.{hashBytes}
 use Rattle.hash.proofs.Laws.{hash-whole, put-over}
 use Rattle.fields.specs.Written.{written}
 use Rattle.fields.proofs.Written.{length-written, part-written, fields-fill}
-use Rattle.promises.specs.Calls.{exports-refusal, exports-answer}
+use Rattle.meaning.specs.Calls.{apply}
+use Rattle.nodehash.specs.Node.{leafHash, innerHash}
+use Rattle.batch.specs.Batch.{batchOf}
+use Rattle.batch.proofs.Batches.{asks-read}
+use Rattle.promises.specs.Calls.{Exports, exports-refusal, exports-answer}
 use Rattle.apply_publish.specs.Apply.{appliedSays, ApplyDoes}
 use Rattle.apply_publish.specs.declared.Applied as declared
 use Rattle.apply_publish.specs.declared.Applied.the-variants.{Refused, Made}
-use Rattle.contracts.specs.Apply.{answerBytes, ApplyExports}
+use Rattle.contracts.specs.Apply.{answerBytes, told, ApplyExports}
 
 -- four bytes, 32, and four
 pub answer-put : (v n : ℕ) (h : Hash) (f f₁ y f₂ : Bytes) → length f ≡ 40 → f₁ ≡ written 0 (le 4 v) f →
@@ -32,11 +36,16 @@ answer-put v n h f f₁ y f₂ l e g k =
     ∙ fields-fill (4 ∷ 32 ∷ 4 ∷ []) (le 4 v ∷ hashBytes h ∷ le 4 n ∷ []) f (length-le 4 v, (hash-whole h .0, (length-le 4 n, tt))) (sym l)
     ∙ ap (λ z. le 4 v ++ (hashBytes h ++ z)) (append-nil (le 4 n))
 
-module _ (number : ℕ) (batch : Bytes) {s f t : Bytes} {a : declared.Applied} (o : ApplyDoes number batch s (appliedSays a) t) where
+-- a batch asks for what it is read as
+exported : (number : ℕ) (batch : Bytes) → All Byte batch → {s f t g : Bytes} {r : ℕ} →
+    Exports (apply leafHash innerHash number (batchOf batch)) told s f r t g → ApplyExports number batch s f r t g
+exported number batch bytes w = record { asked = batchOf batch; asks = asks-read batch bytes; applied = w }
+
+module _ (number : ℕ) (batch : Bytes) (bytes : All Byte batch) {s f t : Bytes} {a : declared.Applied} (o : ApplyDoes number batch s (appliedSays a) t) where
   pub export-refused : {m : ℕ} → a ≡ Refused m → ApplyExports number batch s f m t f
   unfolding appliedSays
-  export-refused {m} e = exports-refusal (subst (λ q. ApplyDoes number batch s (appliedSays q) t) e o)
+  export-refused {m} e = exported number batch bytes (exports-refusal (subst (λ q. ApplyDoes number batch s (appliedSays q) t) e o))
 
   pub export-made : {v n : ℕ} {h : Hash} {g : Bytes} → a ≡ Made v h n → g ≡ answerBytes v (hashBytes h) n → ApplyExports number batch s f 0 t g
   unfolding appliedSays
-  export-made e q = subst (ApplyExports number batch s f 0 t) (sym q) (exports-answer (subst (λ r. ApplyDoes number batch s (appliedSays r) t) e o))
+  export-made e q = subst (ApplyExports number batch s f 0 t) (sym q) (exported number batch bytes (exports-answer (subst (λ r. ApplyDoes number batch s (appliedSays r) t) e o)))

@@ -5,7 +5,6 @@ use native.Mathlib.Omega.{arith}
 use mathlib.Core.Path.{_≡_, refl, ap, sym, _∙_}
 use mathlib.Core.Bool.{Bool, true, false, cond, _&&_, _||_}
 use mathlib.Core.List.{List, [], _∷_}
-use mathlib.Core.Option.{some, none}
 use lib.ListN.{length, getD}
 use lib.Dec.{eqb}
 use borrow.Author.Tests.{eqb-true, eq-eqb, ne-eqb}
@@ -16,8 +15,9 @@ use Rattle.terms.specs.Form.{AskForm}
 use Rattle.terms.proofs.Tests.{and-left, and-right, and-true}
 use Rattle.terms.proofs.Fields.{num-le, length-le, le-field, length-slice, all-slice, zero-bytes, cuts, flat-cuts, all-of-tests, tests-all, test-passed, test-failed, Sized, cuts-flat, length-flat}
 use Rattle.batch.specs.Sizes.{recordSize, insertLength, insertKind, deleteLength, deleteKind, kindAt, zeroAt, keyAt, valueAt}
-use Rattle.batch.specs.Batch.{askLength, askKind, askValue, askBytes, headIs, isInsert, isDelete, askForm, ask}
-use Rattle.batch.specs.Records.{inserts, askOf}
+use Rattle.batch.specs.Asked.{askLength, askKind, askValue, askBytes}
+use Rattle.batch.specs.Batch.{headIs, isInsert, isDelete, askForm, ask}
+use Rattle.batch.specs.Records.{inserts}
 
 -- a record's fields, and their sizes
 abbrev fields : Ask → List Bytes
@@ -102,11 +102,6 @@ unfolding ask
 ask-says (insert k x) h = rw (insert-form (insert k x) h, key-says (insert k x) h, value-says (insert k x) h)
 ask-says (delete k) h = rw (insert-form (delete k) h, key-says (delete k) h)
 
--- an ask in form, from bytes back
-pub ask-of-bytes : (a : Ask) → AskForm a → askOf (askBytes a) ≡ some a
-unfolding askOf
-ask-of-bytes a h = rw (ask-form a h, ask-says a h)
-
 -- what a record's head says, as bytes
 head-bytes : (n k : ℕ) (x : Bytes) → All Byte x → length x ≡ recordSize → headIs n k x ≡ true → flat (le 4 n ∷ le 2 k ∷ le 2 0 ∷ slice keyAt 32 x ∷ slice valueAt 32 x ∷ []) ≡ x
 unfolding headIs
@@ -144,15 +139,6 @@ ask-whole x h l = go (isInsert x)
     go : (t : Bool) → AskForm (cond t (insert (slice keyAt 32 x) (slice valueAt 32 x)) (delete (slice keyAt 32 x)))
     go true = (part keyAt (omega arith), part valueAt (omega arith))
     go false = part keyAt (omega arith)
-
--- 72 bytes, to an ask and back
-pub ask-of-back : (x : Bytes) (a : Ask) → All Byte x → length x ≡ recordSize → askOf x ≡ some a → (askBytes a ≡ x) × AskForm a
-unfolding askOf
-ask-of-back x a h l e = go (askForm x) refl e
-  where
-    go : (t : Bool) → askForm x ≡ t → cond t (some (ask x)) none ≡ some a → (askBytes a ≡ x) × AskForm a
-    go true f d = let g : ask x ≡ a = cc in rw (← g) (form-bytes x h l f, ask-whole x h l)
-    go false f d = let z : _≡_ {A = ℕ} 0 1 = cc in absurd (omega arith)
 
 -- the key of a record, and whether it is an insert
 pub key-is : (x : Bytes) → askKey (ask x) ≡ slice keyAt 32 x

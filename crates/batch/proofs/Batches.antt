@@ -2,10 +2,10 @@
 -- asks for. Assumes nothing.
 use Prim.Native.Nat.{ℕ, zero, suc, _+_, _*_, _-_, _<_, _≤_, _/_, _%_}
 use native.Mathlib.Omega.{arith}
-use mathlib.Core.Path.{_≡_, refl, ap, ap₂, _∙_}
+use mathlib.Core.Path.{_≡_, refl, ap, ap₂, sym, _∙_}
 use mathlib.Core.Bool.{Bool, true, false, cond, _&&_}
 use mathlib.Core.List.{List, [], _∷_, _++_, map}
-use mathlib.Core.Option.{some, none}
+use mathlib.Core.Option.{Option, some, none}
 use lib.ListN.{length, take, drop, length-append, length-drop, take-append-drop, drop-of-length-le}
 use lib.Seq.{take-at, drop-at}
 use borrow.Author.Tests.{eq-eqb, ne-eqb, eqb-true, le-leb, lt-leb, leb-true}
@@ -18,7 +18,8 @@ use Rattle.terms.proofs.Lists.{all-map₂}
 use Rattle.terms.proofs.Fields.{all-of-tests, tests-all, test-passed, test-failed}
 use Rattle.meaning.specs.Calls.{ascending}
 use Rattle.batch.specs.Sizes.{recordSize, mostRecords}
-use Rattle.batch.specs.Batch.{askBytes, askForm, ask, records, count, recordsOf, asks, every, batchForm, batchOf, asksBytes}
+use Rattle.batch.specs.Asked.{askBytes, asksBytes, AskedBy, Asks}
+use Rattle.batch.specs.Batch.{askForm, ask, records, count, recordsOf, asks, every, batchForm, batchOf}
 use Rattle.batch.specs.Records.{recordAt, askAt}
 use Rattle.batch.proofs.Asks.{length-ask, ask-form, ask-says, form-bytes}
 use Rattle.batch.proofs.Records.{length-records, length-asks, records-from, asks-from, records-whole, asks-whole}
@@ -48,7 +49,7 @@ says-batch [] h = refl
 says-batch (a ∷ as′) h = ap₂ _∷_ (ask-says a (h .0)) (says-batch as′ (h .1))
 
 -- asks in form, from bytes back
-pub batch-of-bytes : (as′ : List Ask) → All AskForm as′ → length as′ ≤ mostRecords → batchOf (asksBytes as′) ≡ some as′
+batch-of-bytes : (as′ : List Ask) → All AskForm as′ → length as′ ≤ mostRecords → batchOf (asksBytes as′) ≡ some as′
 unfolding batchOf batchForm asks
 batch-of-bytes as′ h l =
     let n = length-batch as′ h in
@@ -70,7 +71,7 @@ map-back [] h = refl
 map-back (x ∷ xs) h = ap₂ _∷_ (h .0) (map-back xs (h .1))
 
 -- a batch in form is the bytes of what it asks for
-pub form-batch : (b : Bytes) → All Byte b → batchForm b ≡ true → (asksBytes (asks b) ≡ b) × (length (asks b) ≤ mostRecords)
+form-batch : (b : Bytes) → All Byte b → batchForm b ≡ true → (asksBytes (asks b) ≡ b) × (length (asks b) ≤ mostRecords)
 unfolding batchForm asksBytes asks
 form-batch b h e =
     let t = all-of-tests _ e in
@@ -80,13 +81,36 @@ form-batch b h e =
     (ap flat (map-back (recordsOf b) k) ∙ flat-records (count b) b (omega arith), omega (arith, length-asks b))
 
 -- bytes, to asks and back
-pub batch-of-back : (b : Bytes) (as′ : List Ask) → All Byte b → batchOf b ≡ some as′ → (asksBytes as′ ≡ b) × (length as′ ≤ mostRecords) × All AskForm as′
+batch-of-back : (b : Bytes) (as′ : List Ask) → All Byte b → batchOf b ≡ some as′ → (asksBytes as′ ≡ b) × (length as′ ≤ mostRecords) × All AskForm as′
 unfolding batchOf
 batch-of-back b as′ h e = go (batchForm b) refl e
   where
     go : (t : Bool) → batchForm b ≡ t → cond t (some (asks b)) none ≡ some as′ → (asksBytes as′ ≡ b) × (length as′ ≤ mostRecords) × All AskForm as′
     go true f d = let g : asks b ≡ as′ = cc in let k = form-batch b h f in rw (← g) (k .0, k .1, asks-whole b h)
     go false f d = let z : _≡_ {A = ℕ} 0 1 = cc in absurd (omega arith)
+
+-- a batch asks for what it is read as, and for nothing else
+asked-as : {batch : Bytes} (as′ : List Ask) → AskedBy batch as′ → batchOf batch ≡ some as′
+asked-as as′ w = ap batchOf (w .bytes) ∙ batch-of-bytes as′ (w .form) (w .few)
+
+pub asks-read : (batch : Bytes) → All Byte batch → Asks batch (batchOf batch)
+asks-read batch h = go (batchOf batch) refl
+  where
+    no-asks : {as′ : List Ask} → none ≡ some as′ → ⊥
+    no-asks e = let z : _≡_ {A = ℕ} 0 1 = cc in omega arith
+
+    go : (o : Option (List Ask)) → batchOf batch ≡ o → Asks batch o
+    go none e = λ as′ w. no-asks (sym e ∙ asked-as as′ w)
+    go (some as′) e = let w = batch-of-back batch as′ h e in record { bytes = sym (w .0); form = w .2; few = w .1 }
+
+pub asked-one : {batch : Bytes} {as′ bs : List Ask} → AskedBy batch as′ → AskedBy batch bs → as′ ≡ bs
+asked-one {as′ = as′} {bs} x y = let e : some as′ ≡ some bs = sym (asked-as as′ x) ∙ asked-as bs y in cc
+
+pub asks-one : (batch : Bytes) (o o′ : Option (List Ask)) → Asks batch o → Asks batch o′ → o ≡ o′
+asks-one batch none none x y = refl
+asks-one batch none (some as′) x y = absurd (x as′ y)
+asks-one batch (some as′) none x y = absurd (y as′ x)
+asks-one batch (some as′) (some bs) x y = ap some (asked-one x y)
 
 -- The form of a batch, test by test: whole records, at most 1,024, and each record in form.
 pub form-torn : (b : Bytes) → (length b % recordSize ≡ 0 → ⊥) → batchForm b ≡ false

@@ -1,5 +1,5 @@
--- Document 01, 'Bytes', batch record: what a batch asks for, and the bytes that ask it. A batch is whole records in
--- form, at most 1,024; the order of its keys is judged after its form ('Numbers of refusal', 4 and 5). Assumes nothing.
+-- What a batch is read as, record by record, as the code reads it. No public promise reaches this file: those are by
+-- the bytes that ask. Assumes nothing.
 use Prim.Native.Nat.{ℕ, zero, suc, _/_, _%_}
 use mathlib.Core.Bool.{Bool, true, cond, _&&_, _||_}
 use mathlib.Core.List.{List, [], _∷_, map}
@@ -7,8 +7,8 @@ use mathlib.Core.Option.{Option, some, none}
 use lib.ListN.{length, take, drop}
 use lib.Dec.{eqb, leb}
 use Rattle.terms.specs.Bits.{Bytes}
-use Rattle.terms.specs.Fields.{le, field, slice, allZero, flat, allOf}
-use Rattle.terms.specs.Records.{Ask, insert, delete, askKey, zeros}
+use Rattle.terms.specs.Fields.{field, slice, allZero, allOf}
+use Rattle.terms.specs.Records.{Ask, insert, delete}
 use Rattle.batch.specs.Sizes.{
   recordSize,
   insertLength,
@@ -21,24 +21,6 @@ use Rattle.batch.specs.Sizes.{
   valueAt,
   mostRecords,
 }
-
--- Length 72 and kind 1 (insert) or length 40 and kind 2 (delete).
-abbrev pub askLength : Ask → ℕ
-askLength (insert k x) = insertLength
-askLength (delete k) = deleteLength
-
-abbrev pub askKind : Ask → ℕ
-askKind (insert k x) = insertKind
-askKind (delete k) = deleteKind
-
--- The value is zero for delete.
-abbrev pub askValue : Ask → Bytes
-askValue (insert k x) = x
-askValue (delete k) = zeros
-
--- A record's bytes: length, kind, 2 zero, key 32, value 32.
-unfoldable pub askBytes : Ask → Bytes
-askBytes a = flat (le 4 (askLength a) ∷ le 2 (askKind a) ∷ le 2 0 ∷ askKey a ∷ askValue a ∷ [])
 
 -- The bytes begin with this length, this kind and 2 zero.
 unfoldable pub headIs : ℕ → ℕ → Bytes → Bool
@@ -86,7 +68,3 @@ batchForm b = allOf (eqb (length b % recordSize) 0 ∷ leb (count b) mostRecords
 -- What a batch asks for; none exactly where refusal 4 is given.
 unfoldable pub batchOf : Bytes → Option (List Ask)
 batchOf b = cond (batchForm b) (some (asks b)) none
-
--- The bytes of a batch: its records one after the other.
-unfoldable pub asksBytes : List Ask → Bytes
-asksBytes as′ = flat (map askBytes as′)

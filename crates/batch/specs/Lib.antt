@@ -1,4 +1,5 @@
 pub mod Sizes
+pub mod Asked
 pub mod Batch
 pub mod Records
 pub mod Runs

@@ -1,21 +1,16 @@
 -- The records of a batch one by one, as the code reads them. No public promise reaches this file. Assumes nothing.
 use Prim.Native.Nat.{ℕ, _*_}
-use mathlib.Core.Bool.{Bool, true, false, cond}
-use mathlib.Core.Option.{Option, some, none}
+use mathlib.Core.Bool.{Bool, true, false}
 use Rattle.terms.specs.Bits.{Bytes}
 use Rattle.terms.specs.Fields.{slice}
 use Rattle.terms.specs.Records.{Ask, insert, delete}
 use Rattle.batch.specs.Sizes.{recordSize}
-use Rattle.batch.specs.Batch.{askForm, ask}
+use Rattle.batch.specs.Batch.{ask}
 
 -- An ask is an insert, or else a delete.
 abbrev pub inserts : Ask → Bool
 inserts (insert k x) = true
 inserts (delete k) = false
-
--- What 72 bytes ask for, if they are a record in form.
-unfoldable pub askOf : Bytes → Option Ask
-askOf x = cond (askForm x) (some (ask x)) none
 
 -- Record i of a batch, and what it asks for.
 unfoldable pub recordAt : ℕ → Bytes → Bytes

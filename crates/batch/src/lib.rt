@@ -7,7 +7,8 @@ ghost use lib.ListN.{length};
 ghost use Rattle.terms.specs.Records.{askKey};
 ghost use Rattle.meaning.specs.Calls.{ascending};
 ghost use Rattle.batch.specs.Sizes.{recordSize};
-ghost use Rattle.batch.specs.Batch.{count, headIs, isInsert, isDelete, askForm, askValue, asks, batchForm};
+ghost use Rattle.batch.specs.Asked.{askValue};
+ghost use Rattle.batch.specs.Batch.{count, headIs, isInsert, isDelete, askForm, asks, batchForm};
 ghost use Rattle.batch.specs.Records.{recordAt, askAt, inserts};
 ghost use Rattle.batch.specs.Runs.{RunAt, lefts, runOf};
 

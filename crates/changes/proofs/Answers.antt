@@ -48,7 +48,7 @@ use Rattle.changes_put.specs.Puts.{putInto}
 use Rattle.changes_walk.specs.declared.Walked as walked
 use Rattle.changes_walk.specs.declared.Walked.the-variants.{Passed, Done}
 use Rattle.changes_walk.specs.Walk.{visitsHere, itemsHere, Here, Goes, WalkSays}
-use Rattle.contracts.specs.Changes.{roomAfter}
+use Rattle.contracts.proofs.Rooms.{front-written}
 use Rattle.changes.specs.Parts.{countOf, Compares}
 
 -- the definition, check by check
@@ -226,7 +226,8 @@ module _ {s : Bytes} (w : SoundBytes s) where
                 says = ap accepted count-is;
                 bytes =
                     u .2
-                    ∙ ap₂ (λ xs f. putInto true 0 (listBytes xs) f) items-are (q .2);
+                    ∙ ap₂ (λ xs f. putInto true 0 (listBytes xs) f) items-are (q .2)
+                    ∙ front-written (listBytes (items (changesOf st first second))) room;
               }
 
 -- 1, 2 and 3 come from check

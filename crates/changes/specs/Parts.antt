@@ -8,11 +8,11 @@ use Rattle.terms.specs.Bits.{Bytes}
 use Rattle.meaning.specs.Calls.{Answer, refused, accepted}
 use Rattle.meaning.specs.Sized.{sized}
 use Rattle.promises.specs.Calls.{Does}
-use Rattle.changed.specs.Changes.{Item}
+use Rattle.changed.specs.Changes.{Item, listBytes}
 use Rattle.changed.specs.Compare.{compare}
+use Rattle.meaning.specs.Answers.{roomAfter}
 use Rattle.changes.specs.declared.Compared as declared
 use Rattle.changes.specs.declared.Compared.the-variants.{Refused, Listed}
-use Rattle.contracts.specs.Changes.{roomAfter}
 
 -- What each case of the answer says: a number of refusal, or how many records the list has.
 abbrev pub comparedSays : declared.Compared → Answer ℕ
@@ -28,4 +28,4 @@ pub record Compares (first second limit : ℕ) (s room : Bytes) (r : Answer ℕ)
   pub answer : Answer (List Item)
   pub does : Does (compare first second limit (length room)) s answer s
   pub says : r ≡ countOf answer
-  pub bytes : left ≡ roomAfter answer room
+  pub bytes : left ≡ roomAfter listBytes answer room

@@ -2,3 +2,4 @@ pub mod Refusing
 pub mod Granted
 pub mod Reading
 pub mod Numbers
+pub mod Rooms

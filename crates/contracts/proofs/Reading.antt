@@ -3,6 +3,7 @@ use Prim.Native.Nat.{ℕ}
 use mathlib.Core.Path.{_≡_, ap, sym, _∙_}
 use mathlib.Core.Logic.{_↔_}
 use mathlib.Core.List.{[]}
+use mathlib.Core.Option.{none}
 use lib.ListN.{length}
 use borrow.Author.Tests.{eq-eqb}
 use Rattle.terms.specs.declared.Form.the-variants.{Counted as counted}
@@ -12,7 +13,7 @@ use Rattle.meaning.specs.Tree.{grants, hash, unversioned, grantsIn}
 use Rattle.meaning.specs.Store.{treeAtVersion}
 use Rattle.meaning.specs.Sound.{Sound, Kept}
 use Rattle.meaning.specs.Calls.{accepted}
-use Rattle.meaning.specs.Reading.{present, answerOf}
+use Rattle.meaning.specs.Reading.{present, answerOf, readKey, readRoot}
 use Rattle.shown.proofs.Standing.{version-seated}
 use Rattle.shown.proofs.Verdicts.{accepted-same}
 use Rattle.shown.proofs.Theorems.{root-read-is-hash, key-read-is-answer}
@@ -26,18 +27,18 @@ use Rattle.contracts.proofs.Granted.{Among, answered-among, among-answe
 module _ (s : Bytes) {n o l : ℕ} (right : headerOf counted s ≡ header n o l) (ok : Sound leafHash innerHash (storeOf s)) (v : ℕ)
     (kept : Kept (storeOf s) v) where
   -- The root read answers the hash of the version's tree.
-  pub root-read-of-sound : rootAnswer s v ≡ accepted (hash leafHash innerHash (unversioned (treeAtVersion (storeOf s) v)))
-  unfolding rootAnswer
+  pub root-read-of-sound : rootAnswer s none v ≡ accepted (hash leafHash innerHash (unversioned (treeAtVersion (storeOf s) v)))
+  unfolding rootAnswer readRoot
   root-read-of-sound = rw right (root-read-is-hash leafHash innerHash (storeOf s) ok v kept)
 
   -- The key read answers what the version's grants say of the key.
-  pub key-read-of-sound : (k : Bytes) → Whole32 k → keyAnswer s v k ≡ accepted (answerOf k (grantsIn (treeAtVersion (storeOf s) v)))
-  unfolding keyAnswer
+  pub key-read-of-sound : (k : Bytes) → Whole32 k → keyAnswer s none v k ≡ accepted (answerOf k (grantsIn (treeAtVersion (storeOf s) v)))
+  unfolding keyAnswer readKey
   key-read-of-sound k whole = rw (right, eq-eqb (length k) 32 (whole .0)) (key-read-is-answer leafHash innerHash (storeOf s) ok v kept k whole)
 
   -- So it answers a value exactly if the version's tree has the key with that value.
   pub value-exactly-if-granted : (k x : Bytes) → Whole32 k →
-      (keyAnswer s v k ≡ accepted (present x)) ↔ Among (grant k x) (grantsIn (treeAtVersion (storeOf s) v))
+      (keyAnswer s none v k ≡ accepted (present x)) ↔ Among (grant k x) (grantsIn (treeAtVersion (storeOf s) v))
   value-exactly-if-granted k x whole =
       let t = unversioned (treeAtVersion (storeOf s) v) in
       let seated = version-seated leafHash innerHash (storeOf s) ok v kept in (

@@ -3,6 +3,7 @@ use Prim.Native.Nat.{ℕ}
 use mathlib.Core.Path.{_≡_, refl}
 use mathlib.Core.Bool.{false}
 use mathlib.Core.List.{List}
+use mathlib.Core.Option.{Option, some}
 use lib.ListN.{length}
 use borrow.Author.Tests.{eq-eqb, ne-eqb}
 use Rattle.terms.specs.Bits.{Bytes}
@@ -14,30 +15,26 @@ use Rattle.nodehash.specs.Node.{leafHash, innerHash}
 use Rattle.layout.specs.Stores.{storeOf}
 use Rattle.promises.proofs.Heading.{not-as-many}
 use Rattle.promises.specs.Headed.{asMany}
-use Rattle.contracts.specs.Reads.{rootIndexed, keyAnswer, keyIndexed}
+use Rattle.contracts.specs.Reads.{rootAnswer, keyAnswer}
 use Rattle.contracts.specs.Palettes.{paletteAnswer}
 
 -- A key of another length is refused with 12, whatever the store is.
-pub key-not-32 : (s : Bytes) (v : ℕ) (k : Bytes) → (length k ≡ 32 → ⊥) → refused 12 ≡ keyAnswer s v k
+pub key-not-32 : (s : Bytes) (by : Option (List ℕ)) (v : ℕ) (k : Bytes) → (length k ≡ 32 → ⊥) → refused 12 ≡ keyAnswer s by v k
 unfolding keyAnswer
-key-not-32 s v k f = rw (ne-eqb (length k) 32 f)
+key-not-32 s by v k f = rw (ne-eqb (length k) 32 f)
 
 -- A list that isn't 0 to 256 whole keys is refused with 12, whatever the store is.
-pub list-torn : (s : Bytes) (v : ℕ) (ks : Bytes) (room : ℕ) → wholeKeys ks ≡ false → refused 12 ≡ paletteAnswer s v ks room
+pub list-torn : (s : Bytes) (by : Option (List ℕ)) (v : ℕ) (ks : Bytes) (room : ℕ) → wholeKeys ks ≡ false → refused 12 ≡ paletteAnswer s by v ks room
 unfolding paletteAnswer
-list-torn s v ks room f = rw f refl
+list-torn s by v ks room f = rw f refl
 
 -- A root read and a key read by a table of another length are refused with 1, the key's after 12.
 module _ (s : Bytes) (table : List ℕ) (v : ℕ) where
-  pub root-not-as-many : asMany s table ≡ false → refused 1 ≡ rootIndexed s table v
-  unfolding rootIndexed
+  pub root-not-as-many : asMany s table ≡ false → refused 1 ≡ rootAnswer s (some table) v
+  unfolding rootAnswer
   root-not-as-many e = not-as-many (readRootBy leafHash innerHash (byTable table (storeOf s)) (storeOf s) v) s table e
 
-  pub key-not-as-many : (k : Bytes) → length k ≡ 32 → asMany s table ≡ false → refused 1 ≡ keyIndexed s table v k
-  unfolding keyIndexed
+  pub key-not-as-many : (k : Bytes) → length k ≡ 32 → asMany s table ≡ false → refused 1 ≡ keyAnswer s (some table) v k
+  unfolding keyAnswer
   key-not-as-many k whole e =
       rw (eq-eqb (length k) 32 whole) (not-as-many (readKeyBy (byTable table (storeOf s)) (storeOf s) v k) s table e)
-
-  pub key-wrong-indexed : (k : Bytes) → (length k ≡ 32 → ⊥) → refused 12 ≡ keyIndexed s table v k
-  unfolding keyIndexed
-  key-wrong-indexed k f = rw (ne-eqb (length k) 32 f)

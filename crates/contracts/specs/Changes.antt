@@ -6,17 +6,11 @@ use mathlib.Core.List.{List}
 use lib.ListN.{length}
 use Rattle.terms.specs.Bits.{Bytes}
 use Rattle.terms.specs.Fields.{le}
-use Rattle.meaning.specs.Calls.{Answer, refused, accepted}
-use Rattle.meaning.specs.Answers.{numberOf, toldOf}
+use Rattle.meaning.specs.Calls.{Answer}
+use Rattle.meaning.specs.Answers.{numberOf, toldOf, roomAfter}
 use Rattle.changed.specs.Changes.{Item, listBytes}
 use Rattle.changed.specs.Compare.{compare}
-use Rattle.fields.specs.Written.{written}
 use Rattle.promises.specs.Calls.{Does}
-
--- The list fills the front of the room, and the rest stays; a refused call writes nothing.
-abbrev pub roomAfter : Answer (List Item) → Bytes → Bytes
-roomAfter (refused m) room = room
-roomAfter (accepted xs) room = written 0 (listBytes xs) room
 
 -- The number of records, 4 bytes little-endian; a refused call writes nothing.
 abbrev pub countBytes : Answer (List Item) → Bytes → Bytes
@@ -29,5 +23,5 @@ pub record Changes (first second limit : ℕ) (s room f : Bytes) (r : ℕ) (t g 
   pub answer : Answer (List Item)
   pub does : Does (compare first second limit (length room)) s answer s
   pub number : r ≡ numberOf answer
-  pub list : t ≡ roomAfter answer room
+  pub list : t ≡ roomAfter listBytes answer room
   pub told : g ≡ countBytes answer f

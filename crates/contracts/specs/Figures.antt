@@ -6,20 +6,14 @@ use mathlib.Core.List.{List, map, _++_}
 use lib.ListN.{length}
 use Rattle.terms.specs.Bits.{Bytes}
 use Rattle.terms.specs.Fields.{flat, le}
-use Rattle.meaning.specs.Calls.{Answer, refused, accepted}
-use Rattle.meaning.specs.Answers.{numberOf, toldOf}
+use Rattle.meaning.specs.Calls.{Answer}
+use Rattle.meaning.specs.Answers.{numberOf, toldOf, roomAfter}
 use Rattle.quarter.specs.Figures.{Figures as OfVersion, figuresBytes, Quarter, figures}
-use Rattle.fields.specs.Written.{written}
 use Rattle.promises.specs.Calls.{Does}
 
 -- The numbers of the versions, one after the other.
 abbrev pub eachBytes : List OfVersion → Bytes
 eachBytes fs = flat (map figuresBytes fs)
-
--- They fill the front of the room, and the rest stays; a refused call writes nothing.
-abbrev pub roomAfter : Answer Quarter → Bytes → Bytes
-roomAfter (refused m) room = room
-roomAfter (accepted q) room = written 0 (eachBytes (q .each)) room
 
 -- The totals of a range: distinct records, then the sum of records over versions, 4 bytes little-endian each.
 abbrev pub totalsBytes : ℕ → ℕ → Bytes
@@ -34,5 +28,5 @@ pub record Figures (first last : ℕ) (s room f : Bytes) (r : ℕ) (t g : Bytes)
   pub answer : Answer Quarter
   pub does : Does (figures first last (length room)) s answer s
   pub number : r ≡ numberOf answer
-  pub numbers : t ≡ roomAfter answer room
+  pub numbers : t ≡ roomAfter (λ q. eachBytes (q .each)) answer room
   pub told : g ≡ totalsAfter answer f

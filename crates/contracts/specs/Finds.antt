@@ -3,22 +3,26 @@
 use Prim.Native.Nat.{ℕ}
 use mathlib.Core.Path.{_≡_}
 use lib.ListN.{length}
+use Rattle.terms.specs.declared.Form.the-variants.{Counted as counted}
 use Rattle.terms.specs.Bits.{Bytes}
 use Rattle.meaning.specs.Calls.{Answer, refused}
 use Rattle.meaning.specs.Answers.{numberOf, toldOf}
 use Rattle.sha256.specs.Sha256.{sha256}
-use Rattle.proofrecords.specs.ProofBytes.{proofIn}
-use Rattle.promises.specs.Calls.{Does}
+use Rattle.layout.specs.Stores.{storeOf}
+use Rattle.promises.specs.Check.{Checked}
+use Rattle.promises.specs.Calls.{SoundBytes}
 use Rattle.forgery.specs.Finding.{Finding}
-use Rattle.finding_rules.specs.Call.{finds, findingBytes}
+use Rattle.finding_rules.specs.Call.{FoundIn, findingBytes}
 
--- The call on the bytes x as a proof for the key k in version v of the bytes s gives this answer; the store is as it
--- was.
+-- The call on the bytes x as a proof for the key k in version v of the bytes s gives this answer.
 pub data Answers (s : Bytes) (v : ℕ) (k x : Bytes) : Answer Finding → Type 0 where
   -- 12: the key isn't 32 bytes
   wrong-key : (length k ≡ 32 → ⊥) → Answers s v k x (refused 12)
-  -- else by the store, and then by the proof
-  right-key : {a : Answer Finding} → length k ≡ 32 → Does (finds sha256 v k (proofIn x)) s a s → Answers s v k x a
+  -- 1, 2 or 3, as check
+  wrong-store : {m : ℕ} → length k ≡ 32 → Checked counted s m → (m ≡ 0 → ⊥) → Answers s v k x (refused m)
+  -- else by the version, and then by the proof
+  sound-store : {a : Answer Finding} → length k ≡ 32 → SoundBytes s → FoundIn sha256 (storeOf s) v k x a →
+      Answers s v k x a
 
 -- What is found of the bytes x as a proof for the key k in version v of the bytes s: the call answers r, and the array
 -- f for what is found is left as g. A refused call writes nothing.

@@ -2,6 +2,7 @@ pub mod Format
 pub mod Apply
 pub mod Prune
 pub mod Tabled
+pub mod Looking
 pub mod Reads
 pub mod Numbers
 pub mod Proves

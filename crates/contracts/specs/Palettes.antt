@@ -4,33 +4,26 @@ use Prim.Native.Nat.{ℕ}
 use mathlib.Core.Path.{_≡_}
 use mathlib.Core.Bool.{cond}
 use mathlib.Core.List.{List, [], _∷_, _++_}
-use lib.ListN.{length, drop}
-use Rattle.terms.specs.declared.Form.the-variants.{Counted as counted}
+use mathlib.Core.Option.{Option, none, some}
+use lib.ListN.{length}
 use Rattle.terms.specs.Bits.{Bytes}
 use Rattle.terms.specs.Records.{Proof}
 use Rattle.terms.specs.Fields.{le}
-use Rattle.meaning.specs.Calls.{Answer, refused, accepted}
+use Rattle.meaning.specs.Calls.{Answer, refused}
 use Rattle.meaning.specs.Proving.{proofBy}
-use Rattle.meaning.specs.Answers.{numberOf, toldOf}
-use Rattle.palette_rules.specs.Palette.{wholeKeys, keysIn, paletteOf, palette, lengthTogether}
-use Rattle.indexed.specs.Index.{byTable}
-use Rattle.layout.specs.Headers.{headerOf}
+use Rattle.meaning.specs.Answers.{numberOf, toldOf, roomAfter}
+use Rattle.palette_rules.specs.Palette.{wholeKeys, keysIn, paletteOf, lengthTogether}
 use Rattle.layout.specs.Stores.{storeOf}
 use Rattle.proofrecords.specs.ProofBytes.{proofBytes}
-use Rattle.promises.specs.Headed.{byHeader, headerWith}
+use Rattle.promises.specs.Headed.{byHeader}
+use Rattle.contracts.specs.Looking.{headerFor, lookingIn}
 
 -- The proofs for a list of keys in version v of the store s, into this much room: 12 where the list isn't 0 to 256
 -- whole keys, then 1, 2, 8, what the single calls are refused with, 9.
-unfoldable pub paletteAnswer : Bytes → ℕ → Bytes → ℕ → Answer (List Proof)
-paletteAnswer s v list room =
-    cond (wholeKeys list) (byHeader (headerOf counted s) (palette (storeOf s) v (keysIn list) room)) (refused 12)
-
--- Document 02, 2026-05: the same by a table lent with the store, where 1 is also for its length.
-unfoldable pub paletteIndexed : Bytes → List ℕ → ℕ → Bytes → ℕ → Answer (List Proof)
-paletteIndexed s table v list room =
+unfoldable pub paletteAnswer : Bytes → Option (List ℕ) → ℕ → Bytes → ℕ → Answer (List Proof)
+paletteAnswer s by v list room =
     cond (wholeKeys list)
-    (byHeader (headerWith s table) (paletteOf (proofBy (byTable table (storeOf s)) (storeOf s) v) (storeOf s) v
-    (keysIn list) room))
+    (byHeader (headerFor s by) (paletteOf (proofBy (lookingIn s by) (storeOf s) v) (storeOf s) v (keysIn list) room))
     (refused 12)
 
 -- The proofs one after the other.
@@ -38,14 +31,9 @@ abbrev pub proofsBytes : List Proof → Bytes
 proofsBytes [] = []
 proofsBytes (p ∷ ps) = proofBytes p ++ proofsBytes ps
 
--- Accepted proofs fill the front of the buffer, the rest stays; a refusal writes nothing.
-abbrev pub roomAfter : Answer (List Proof) → Bytes → Bytes
-roomAfter (refused n) room = room
-roomAfter (accepted ps) room = proofsBytes ps ++ drop (length (proofsBytes ps)) room
-
 -- The proofs for a list of keys in version v of the store s, into a room.
-abbrev pub palettedInto : Bytes → ℕ → Bytes → Bytes → Answer (List Proof)
-palettedInto s v list room = paletteAnswer s v list (length room)
+abbrev pub palettedInto : Bytes → Option (List ℕ) → ℕ → Bytes → Bytes → Answer (List Proof)
+palettedInto s by v list room = paletteAnswer s by v list (length room)
 
 -- The length of all together, 4 bytes little-endian; a refused call writes nothing.
 abbrev pub lengthBytes : Answer (List Proof) → Bytes → Bytes
@@ -53,13 +41,14 @@ lengthBytes a old = toldOf (λ ps. le 4 (lengthTogether ps)) a old
 
 -- Proving each key of a list in version v of the bytes s answers r; the room is left as t, the array f for the length
 -- of all together as g.
-pub record Palettes (s : Bytes) (v : ℕ) (list room f : Bytes) (r : ℕ) (t g : Bytes) : Type 0 where
-  pub answer : r ≡ numberOf (palettedInto s v list room)
-  pub proofs : t ≡ roomAfter (palettedInto s v list room) room
-  pub told : g ≡ lengthBytes (palettedInto s v list room) f
+pub record ListProved (s : Bytes) (by : Option (List ℕ)) (v : ℕ) (list room f : Bytes) (r : ℕ) (t g : Bytes) :
+    Type 0 where
+  pub answer : r ≡ numberOf (palettedInto s by v list room)
+  pub proofs : t ≡ roomAfter proofsBytes (palettedInto s by v list room) room
+  pub told : g ≡ lengthBytes (palettedInto s by v list room) f
 
--- The same by a table lent with the store (2026-05).
-pub record PalettesBy (s : Bytes) (table : List ℕ) (v : ℕ) (list room f : Bytes) (r : ℕ) (t g : Bytes) : Type 0 where
-  pub answer : r ≡ numberOf (paletteIndexed s table v list (length room))
-  pub proofs : t ≡ roomAfter (paletteIndexed s table v list (length room)) room
-  pub told : g ≡ lengthBytes (paletteIndexed s table v list (length room)) f
+abbrev pub Palettes : Bytes → ℕ → Bytes → Bytes → Bytes → ℕ → Bytes → Bytes → Type 0
+Palettes s v list room f r t g = ListProved s none v list room f r t g
+
+abbrev pub PalettesBy : Bytes → List ℕ → ℕ → Bytes → Bytes → Bytes → ℕ → Bytes → Bytes → Type 0
+PalettesBy s table v list room f r t g = ListProved s (some table) v list room f r t g

@@ -10,13 +10,13 @@ use Rattle.terms.specs.Bits.{Bytes}
 use Rattle.terms.specs.Records.{Proof}
 use Rattle.terms.specs.Fields.{le}
 use Rattle.meaning.specs.Calls.{Answer, refused}
-use Rattle.meaning.specs.Answers.{numberOf, toldOf}
+use Rattle.meaning.specs.Answers.{numberOf, toldOf, roomAfter}
 use Rattle.meaning.specs.Proving.{proofLength}
 use Rattle.pocket.specs.Pocket.{pocketProve}
 use Rattle.layout.specs.Headers.{headerOf}
 use Rattle.layout.specs.Stores.{storeOf}
 use Rattle.promises.specs.Headed.{byHeader}
-use Rattle.contracts.specs.Proves.{roomAfter}
+use Rattle.proofrecords.specs.ProofBytes.{proofBytes}
 
 -- The proof for key k in version v of the store s, into this much room: 12 where the key isn't 32 bytes, then 1, 2, 8,
 -- 14, 3 or 17, 19, 9.
@@ -32,5 +32,5 @@ pocketInto s v k room = pocketAnswer s v k (length room)
 -- proof's length, 4 bytes little-endian, as g.
 pub record PocketProves (s : Bytes) (v : ℕ) (k room f : Bytes) (r : ℕ) (t g : Bytes) : Type 0 where
   pub answer : r ≡ numberOf (pocketInto s v k room)
-  pub proof : t ≡ roomAfter (pocketInto s v k room) room
+  pub proof : t ≡ roomAfter proofBytes (pocketInto s v k room) room
   pub told : g ≡ toldOf (λ p. le 4 (proofLength p)) (pocketInto s v k room) f

@@ -3,42 +3,30 @@
 use Prim.Native.Nat.{ℕ}
 use mathlib.Core.Path.{_≡_}
 use mathlib.Core.Bool.{cond}
-use mathlib.Core.List.{List, _++_}
-use lib.ListN.{length, drop}
+use mathlib.Core.List.{List}
+use mathlib.Core.Option.{Option, none, some}
+use lib.ListN.{length}
 use lib.Dec.{eqb}
-use Rattle.terms.specs.declared.Form.the-variants.{Counted as counted}
 use Rattle.terms.specs.Bits.{Bytes}
 use Rattle.terms.specs.Records.{Proof}
 use Rattle.terms.specs.Fields.{le}
-use Rattle.meaning.specs.Calls.{Answer, refused, accepted}
-use Rattle.meaning.specs.Proving.{proveBy, prove, proofLength}
-use Rattle.meaning.specs.Answers.{numberOf, toldOf}
-use Rattle.indexed.specs.Index.{byTable}
-use Rattle.layout.specs.Headers.{headerOf}
+use Rattle.meaning.specs.Calls.{Answer, refused}
+use Rattle.meaning.specs.Proving.{proveBy, proofLength}
+use Rattle.meaning.specs.Answers.{numberOf, toldOf, roomAfter}
 use Rattle.layout.specs.Stores.{storeOf}
 use Rattle.proofrecords.specs.ProofBytes.{proofBytes}
-use Rattle.promises.specs.Headed.{byHeader, headerWith}
+use Rattle.promises.specs.Headed.{byHeader}
+use Rattle.contracts.specs.Looking.{headerFor, lookingIn}
 
 -- The proof for key k in version v of the store s, into this much room: 12 where the key isn't 32 bytes, then 1, 2, 8,
 -- 14, 3 or 17, 9.
-unfoldable pub proveAnswer : Bytes → ℕ → Bytes → ℕ → Answer Proof
-proveAnswer s v k room =
-    cond (eqb (length k) 32) (byHeader (headerOf counted s) (prove (storeOf s) v k room)) (refused 12)
-
--- Document 02, 2026-05: the same by a table lent with the store, where 1 is also for its length.
-unfoldable pub proveIndexed : Bytes → List ℕ → ℕ → Bytes → ℕ → Answer Proof
-proveIndexed s table v k room =
-    cond (eqb (length k) 32) (byHeader (headerWith s table) (proveBy (byTable table (storeOf s)) (storeOf s) v k room))
-    (refused 12)
-
--- An accepted proof fills the front of the buffer, the rest stays; a refusal writes nothing.
-abbrev pub roomAfter : Answer Proof → Bytes → Bytes
-roomAfter (refused n) room = room
-roomAfter (accepted p) room = proofBytes p ++ drop (length (proofBytes p)) room
+unfoldable pub proveAnswer : Bytes → Option (List ℕ) → ℕ → Bytes → ℕ → Answer Proof
+proveAnswer s by v k room =
+    cond (eqb (length k) 32) (byHeader (headerFor s by) (proveBy (lookingIn s by) (storeOf s) v k room)) (refused 12)
 
 -- The proof for key k in version v of the store s, into a room.
-abbrev pub provedInto : Bytes → ℕ → Bytes → Bytes → Answer Proof
-provedInto s v k room = proveAnswer s v k (length room)
+abbrev pub provedInto : Bytes → Option (List ℕ) → ℕ → Bytes → Bytes → Answer Proof
+provedInto s by v k room = proveAnswer s by v k (length room)
 
 -- The proof's length, 4 bytes little-endian; a refused call writes nothing.
 abbrev pub lengthBytes : Answer Proof → Bytes → Bytes
@@ -46,13 +34,13 @@ lengthBytes a old = toldOf (λ p. le 4 (proofLength p)) a old
 
 -- Proving the key k in version v of the bytes s answers r; the room is left as t, the array f for the proof's length as
 -- g.
-pub record Proves (s : Bytes) (v : ℕ) (k room f : Bytes) (r : ℕ) (t g : Bytes) : Type 0 where
-  pub answer : r ≡ numberOf (provedInto s v k room)
-  pub proof : t ≡ roomAfter (provedInto s v k room) room
-  pub told : g ≡ lengthBytes (provedInto s v k room) f
+pub record KeyProved (s : Bytes) (by : Option (List ℕ)) (v : ℕ) (k room f : Bytes) (r : ℕ) (t g : Bytes) : Type 0 where
+  pub answer : r ≡ numberOf (provedInto s by v k room)
+  pub proof : t ≡ roomAfter proofBytes (provedInto s by v k room) room
+  pub told : g ≡ lengthBytes (provedInto s by v k room) f
 
--- The same by a table lent with the store (2026-05).
-pub record ProvesBy (s : Bytes) (table : List ℕ) (v : ℕ) (k room f : Bytes) (r : ℕ) (t g : Bytes) : Type 0 where
-  pub answer : r ≡ numberOf (proveIndexed s table v k (length room))
-  pub proof : t ≡ roomAfter (proveIndexed s table v k (length room)) room
-  pub told : g ≡ lengthBytes (proveIndexed s table v k (length room)) f
+abbrev pub Proves : Bytes → ℕ → Bytes → Bytes → Bytes → ℕ → Bytes → Bytes → Type 0
+Proves s v k room f r t g = KeyProved s none v k room f r t g
+
+abbrev pub ProvesBy : Bytes → List ℕ → ℕ → Bytes → Bytes → Bytes → ℕ → Bytes → Bytes → Type 0
+ProvesBy s table v k room f r t g = KeyProved s (some table) v k room f r t g

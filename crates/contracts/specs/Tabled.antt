@@ -1,19 +1,23 @@
 -- 2026-05: applying a batch and pruning with the table kept right. Assumes nothing.
 use Prim.Native.Nat.{ℕ}
 use mathlib.Core.List.{List}
+use mathlib.Core.Option.{Option}
 use Rattle.terms.specs.Bits.{Bytes}
 use Rattle.terms.specs.Fields.{le}
+use Rattle.terms.specs.Records.{Ask}
 use Rattle.meaning.specs.Calls.{apply, prune}
 use Rattle.nodehash.specs.Node.{leafHash, innerHash}
-use Rattle.batch.specs.Batch.{batchOf}
+use Rattle.batch.specs.Asked.{Asks}
 use Rattle.index_rules.specs.Tables as tables
 use Rattle.contracts.specs.Apply.{told}
 
 -- Applying a batch to the bytes s and their table as a number, with the array f for the answer: what is answered, and
 -- what is left of each.
-abbrev pub AppliesBoth : ℕ → Bytes → Bytes → List ℕ → Bytes → ℕ → Bytes → List ℕ → Bytes → Type 0
-AppliesBoth number batch s table f r t u g =
-    tables.ExportsBoth (apply leafHash innerHash number (batchOf batch)) told s table f r t u g
+pub record AppliesBoth (number : ℕ) (batch s : Bytes) (table : List ℕ) (f : Bytes) (r : ℕ) (t : Bytes) (u : List ℕ)
+    (g : Bytes) : Type 0 where
+  pub asked : Option (List Ask)
+  pub asks : Asks batch asked
+  pub applied : tables.ExportsBoth (apply leafHash innerHash number asked) told s table f r t u g
 
 -- Pruning the bytes s and their table to n, with the array f for the count, in four bytes: what is answered, and what
 -- is left of each.

@@ -5,6 +5,7 @@ use native.Mathlib.Omega.{arith}
 use mathlib.Core.Path.{_≡_, refl, ap, ap₂, sym, _∙_, fun-ext}
 use mathlib.Core.Bool.{cond}
 use mathlib.Core.List.{List}
+use mathlib.Core.Option.{none}
 use lib.ListN.{length}
 use lib.Dec.{eqb, ltb}
 use Rattle.terms.specs.declared.Form.the-variants.{Counted as counted}
@@ -17,10 +18,10 @@ use Rattle.meaning.specs.Sound.{Kept}
 use Rattle.meaning.specs.Calls.{Answer, refused, accepted, Result, isKept}
 use Rattle.meaning.specs.Reading.{answerOf}
 use Rattle.meaning.specs.Counting.{grantAt}
-use Rattle.meaning.specs.Answers.{numberOf, toldOf, foundBytes}
+use Rattle.meaning.specs.Answers.{numberOf, toldOf, foundBytes, roomAfter}
 use Rattle.meaning.specs.Proving.{proof, fitted, prove}
 use Rattle.shown.proofs.Theorems.{kept-test, same-tree-same-proofs}
-use Rattle.changed.specs.Changes.{Item, changed, items, itemSize}
+use Rattle.changed.specs.Changes.{Item, changed, items, itemSize, listBytes}
 use Rattle.changed.specs.Visits.{visits}
 use Rattle.changed.specs.Compare.{compare}
 use Rattle.nodehash.specs.Node.{leafHash, innerHash}
@@ -29,8 +30,9 @@ use Rattle.layout.specs.Stores.{storeOf}
 use Rattle.promises.specs.Calls.{SoundBytes, Does, wrong-header, not-sound, refuses, accepts}
 use Rattle.palette_rules.specs.Palette.{wholeKeys, keysIn, inTurn, fittedTogether, palette}
 use Rattle.move_rules.proofs.Theorems.{comparedBy, by-trees}
-use Rattle.contracts.specs.Proves.{proveAnswer, roomAfter, lengthBytes}
-use Rattle.contracts.specs.Palettes.{paletteAnswer}
+use Rattle.proofrecords.specs.ProofBytes.{proofBytes}
+use Rattle.contracts.specs.Proves.{proveAnswer, lengthBytes}
+use Rattle.contracts.specs.Palettes.{paletteAnswer, proofsBytes}
 use Rattle.contracts.specs.Palettes as palettes
 use Rattle.contracts.specs.Changes as listed
 use Rattle.contracts.specs.Changes.{countBytes}
@@ -53,12 +55,12 @@ module _ {t s : Bytes} (a : SoundBytes t) (b : SoundBytes s) {v w : ℕ} (kept :
   same-proof : (k : Bytes) → proof (storeOf t) v k ≡ proof (storeOf s) w k
   same-proof = same-tree-same-proofs leafHash innerHash (storeOf t) (storeOf s) (a .sound) (b .sound) v w kept kept′ e
 
-  same-proved : (k : Bytes) (room : ℕ) → proveAnswer t v k room ≡ proveAnswer s w k room
-  unfolding proveAnswer prove
+  same-proved : (k : Bytes) (room : ℕ) → proveAnswer t none v k room ≡ proveAnswer s none w k room
+  unfolding proveAnswer prove proof
   same-proved k room = rw (a .headed, b .headed) (ap (λ p. cond (eqb (length k) 32) (fitted room p) (refused 12)) (same-proof k))
 
-  same-palette : (list : Bytes) (room : ℕ) → paletteAnswer t v list room ≡ paletteAnswer s w list room
-  unfolding paletteAnswer palette
+  same-palette : (list : Bytes) (room : ℕ) → paletteAnswer t none v list room ≡ paletteAnswer s none w list room
+  unfolding paletteAnswer palette proof
   same-palette list room =
       rw (a .headed, b .headed, kept-test (storeOf t) v kept, kept-test (storeOf s) w kept′)
       (ap (λ (single : Bytes → Answer Proof). cond (wholeKeys list) (fittedTogether room (inTurn single (keysIn list))) (refused 12)) (fun-ext same-proof))
@@ -85,13 +87,13 @@ module _ {t s : Bytes} (a : SoundBytes t) (b : SoundBytes s) {v w : ℕ} (kept :
     proof = λ {k} {room} {f} x y.
         let is = same-proved k (length room) in (
           x .answer ∙ ap (λ p. numberOf p) is ∙ sym (y .answer),
-          x .proof ∙ ap (λ p. roomAfter p room) is ∙ sym (y .proof),
+          x .proof ∙ ap (λ p. roomAfter proofBytes p room) is ∙ sym (y .proof),
           x .told ∙ ap (λ p. lengthBytes p f) is ∙ sym (y .told),
         );
     palette = λ {list} {room} {f} x y.
         let is = same-palette list (length room) in (
           x .answer ∙ ap (λ p. numberOf p) is ∙ sym (y .answer),
-          x .proofs ∙ ap (λ p. palettes.roomAfter p room) is ∙ sym (y .proofs),
+          x .proofs ∙ ap (λ p. roomAfter proofsBytes p room) is ∙ sym (y .proofs),
           x .told ∙ ap (λ p. palettes.lengthBytes p f) is ∙ sym (y .told),
         );
   }
@@ -118,7 +120,7 @@ same-trees-compare-as {t} {s} a b {v} {v′} {w} {w′} kv kv′ kw kw′ e e′
       ∙ sym (asked b (y .does) ∙ compared-kept (storeOf s) w w′ limit (length room) kw kw′)
       in (
         x .number ∙ ap (λ p. numberOf p) is ∙ sym (y .number),
-        x .list ∙ ap (λ p. listed.roomAfter p room) is ∙ sym (y .list),
+        x .list ∙ ap (λ p. roomAfter listBytes p room) is ∙ sym (y .list),
         x .told ∙ ap (λ p. countBytes p f) is ∙ sym (y .told),
       );
 }

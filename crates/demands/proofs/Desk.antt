@@ -6,7 +6,7 @@ use mathlib.Core.Path.{_≡_, refl, ap, sym, _∙_, subst}
 use mathlib.Core.Logic.{_↔_}
 use mathlib.Core.Bool.{Bool, true, _&&_}
 use mathlib.Core.List.{List, [], _∷_}
-use mathlib.Core.Option.{some}
+use mathlib.Core.Option.{some, none}
 use lib.ListN.{length, getD}
 use lib.Dec.{eqb, ltb, leb}
 use borrow.Author.Tests.{eqb-true, ltb-true, leb-true}
@@ -26,8 +26,8 @@ use Rattle.meaning.proofs.Desk.{desk, desk-gaps, not-above}
 use Rattle.histories.proofs.Theorems.{formatted-is-sound, prune-keeps-sound, apply-keeps-sound, refused-apply-writes-nothing, refused-prune-writes-nothing}
 use Rattle.nodehash.specs.Node.{leafHash, innerHash}
 use Rattle.layout.specs.Stores.{storeOf, storeBytes}
-use Rattle.batch.specs.Batch.{asksBytes}
-use Rattle.batch.proofs.Batches.{batch-of-bytes}
+use Rattle.batch.specs.Asked.{asksBytes, AskedBy}
+use Rattle.batch.proofs.Batches.{asks-one}
 use Rattle.promises.specs.Calls.{refuses, accepts, Exports, exports-refusal, exports-answer}
 use Rattle.promises.proofs.Calls.{one-export}
 use Rattle.contracts.specs.Reads.{rootAnswer, rootBytes}
@@ -105,17 +105,20 @@ RowReady (prunes st n answer end) = Whole st
 RowReady (reads st v answer) = Whole st
 
 -- a root read on the bytes of a sound store
-root-said : (st : Store) → Whole st → (v : ℕ) → rootAnswer (storeBytes st) v ≡ readRoot leafHash innerHash st v
-unfolding rootAnswer
+root-said : (st : Store) → Whole st → (v : ℕ) → rootAnswer (storeBytes st) none v ≡ readRoot leafHash innerHash st v
+unfolding rootAnswer readRoot
 root-said st s v = rw (stored-sound st (s .0) (s .1) .headed) (ap (λ x. readRoot leafHash innerHash x v) (stored-is st (s .0) (s .1)))
 
 row-over-bytes : (row : Row) → RowHolds leafHash innerHash row → RowReady row → RowOverBytes row
 row-over-bytes (applies st number batch answer end) e w = λ f r t g.
-    let is = batch-of-bytes batch (asks-by batch (w .1)) (leb-true (length batch) 1024 (w .2)) in
-    subst (λ o. Exports (apply leafHash innerHash number o) told (storeBytes st) f r t g
-    ↔ ((r ≡ numberOf answer) × (t ≡ storeBytes end) × (g ≡ toldOf told answer f))) (sym is)
-    (exports-exactly (apply leafHash innerHash number (some batch)) told st (w .0) answer end e
-    (λ n h. sym (ap (λ o. o .store) e) ∙ refused-apply-writes-nothing leafHash innerHash number (some batch) st n (ap (λ o. o .answer) e ∙ h)) f r t g)
+    let is : AskedBy (asksBytes batch) batch = record { bytes = refl; form = asks-by batch (w .1); few = leb-true (length batch) 1024 (w .2) } in
+    let said =
+    exports-exactly (apply leafHash innerHash number (some batch)) told st (w .0) answer end e
+    (λ n h. sym (ap (λ o. o .store) e) ∙ refused-apply-writes-nothing leafHash innerHash number (some batch) st n (ap (λ o. o .answer) e ∙ h)) f r t g in (
+      λ x. said .0 (subst (λ o. Exports (apply leafHash innerHash number o) told (storeBytes st) f r t g)
+          (asks-one (asksBytes batch) (x .asked) (some batch) (x .asks) is) (x .applied)),
+      λ x. record { asked = some batch; asks = is; applied = said .1 x },
+    )
 row-over-bytes (prunes st n answer end) e w = λ f r t g.
     exports-exactly (prune n) (le 4) st w answer end e
     (λ m h. sym (ap (λ o. o .store) e) ∙ refused-prune-writes-nothing leafHash innerHash n st m (ap (λ o. o .answer) e ∙ h)) f r t g

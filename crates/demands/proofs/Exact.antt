@@ -1,28 +1,25 @@
 -- Demand 1: a public call answers each number of document 01 exactly if its row deserves it and no earlier row of the call's order does, and
 -- 0 exactly if none does. By the cases of each contract, row by row. Assumes nothing.
-use Prim.Native.Nat.{ℕ, _*_, _/_}
+use Prim.Native.Nat.{ℕ}
 use native.Mathlib.Omega.{arith}
-use mathlib.Core.Path.{_≡_, refl, sym, _∙_, subst}
+use mathlib.Core.Path.{_≡_, refl, sym, subst}
 use mathlib.Core.Logic.{inl, inr}
-use mathlib.Core.Bool.{Bool, true, false, cond, _&&_, true≢false}
+use mathlib.Core.Bool.{Bool, true, false, cond}
 use mathlib.Core.List.{[], _∷_, _++_}
-use mathlib.Core.Option.{Option, none, some}
 use lib.ListN.{length}
-use lib.Dec.{eqb, leb}
-use borrow.Author.Tests.{eqb-true, eqb-false, leb-true, leb-false}
+use lib.Dec.{eqb}
+use borrow.Author.Tests.{eqb-true, eqb-false}
 use Rattle.terms.specs.declared.Form.the-variants.{Plain as plain, Counted as counted}
 use Rattle.terms.specs.Bits.{Bytes, Byte, All}
-use Rattle.terms.specs.Records.{Store, Proof}
+use Rattle.terms.specs.Records.{Store}
 use Rattle.meaning.specs.Calls.{Answer, refused, accepted, Result, apply, prune}
-use Rattle.meaning.specs.Reading.{Trouble, lostRecord, spoiltRecord, readKey, readRoot}
-use Rattle.meaning.specs.Proving.{prove}
+use Rattle.meaning.specs.Reading.{Verdict, Trouble, lostRecord, spoiltRecord, readKey, readRoot}
+use Rattle.meaning.specs.Proving.{prove, proof}
 use Rattle.meaning.specs.Counting.{readNumber, readPosition}
 use Rattle.meaning.specs.Answers.{numberOf}
 use Rattle.nodehash.specs.Node.{leafHash, innerHash}
-use Rattle.proofrecords.specs.ProofBytes.{proofIn}
 use Rattle.layout.specs.Headers.{Headed, refusal, header, sizeRight, headerOf}
 use Rattle.layout.specs.Stores.{storeOf}
-use Rattle.batch.specs.Batch.{batchOf}
 use Rattle.contracts.specs.Format.{formatAnswer}
 use Rattle.promises.specs.Check as check
 use Rattle.promises.specs.Calls.{Does, wrong-header, not-sound, refuses, accepts, Exports, exports-refusal, exports-answer}
@@ -30,22 +27,17 @@ use Rattle.promises.specs.Headed.{byHeader}
 use Rattle.contracts.specs.Reads.{rootAnswer, keyAnswer}
 use Rattle.contracts.specs.Numbers.{numberAnswer, positionAnswer}
 use Rattle.contracts.specs.Proves.{proveAnswer}
-use Rattle.palette_rules.specs.Palette.{keySize, wholeKeys, keysIn, palette}
-use Rattle.palette_rules.proofs.Keys.{keys-many}
+use Rattle.palette_rules.specs.Palette.{wholeKeys, keysIn, palette}
 use Rattle.contracts.specs.Palettes.{paletteAnswer}
 use Rattle.changed.specs.Compare.{compare}
-use Rattle.verify_rules.specs.Verify.{judged, verified}
-use Rattle.verify_rows.specs.Rows.{ownLength, cutsInto, answerSize, manyVerified}
-use Rattle.verify_rows.proofs.Cutting.{cut-exactly}
-use Rattle.sha256.specs.Sha256.{sha256}
+use Rattle.verify_rules.specs.Verify.{Judged, Told, not-32-bytes, not-in-form, in-form}
+use Rattle.verify_rows.specs.Rows.{RootAndKeys, ToldOfRow, not-whole, not-pieces, no-room, answered}
 use Rattle.forgery.specs.Finding.{Finding}
-use Rattle.finding_rules.specs.Call.{finds}
-use Rattle.contracts.specs.Finds.{Answers}
-use Rattle.contracts.specs.Finds.{wrong-key, right-key}
+use Rattle.contracts.specs.Finds.{Answers, wrong-key, wrong-store, sound-store}
 use Rattle.ways.specs.Ways.{its-root}
 use Rattle.refusals.specs.Exactly.{Table, Exactly, NoneOf, low, Names}
-use Rattle.refusals.specs.Rows.{NotRootAndKeys, NotPieces, AnswersTooLong, NotKeys, StopsPalette, TooLongTogether, NotSound, Not32, StopsRoot, StopsGet, StopsAt, StopsProve, TooLong}
-use Rattle.refusals.specs.Orders.{headerRows, batchRows, versionRows, comparisonRows, holdingRows, rowRows, foundRows}
+use Rattle.refusals.specs.Rows.{NotRootAndKeys, NotKeys, StopsPalette, TooLongTogether, NotSound, Not32, StopsRoot, StopsGet, StopsAt, StopsProve, TooLong}
+use Rattle.refusals.specs.Orders.{headerRows, batchRows, versionRows, comparisonRows, foundRows}
 use Rattle.refusals.proofs.Exactly.{First, past, within, exactly}
 use Rattle.refusals.proofs.Headers.{length-wrong, length-right, after-header, header-row, records-formed}
 use Rattle.refusals.proofs.Batches.{batch-first}
@@ -57,7 +49,7 @@ use Rattle.refusals.proofs.Changes.{changes-first}
 use Rattle.refusals.proofs.Rescues.{rescue-first}
 use Rattle.refusals.proofs.Findings.{finding-first}
 use Rattle.refusals.proofs.Moves.{move-first}
-use Rattle.refusals.proofs.Proofs.{off-form, form-first}
+use Rattle.refusals.proofs.Proofs.{judged-first}
 use Rattle.demands.specs.Tables.{formatRows, soundRows, applyRows, pruneRows, rootRows, getRows, atRows, proveRows, paletteRows, testsOf, changesRows, verifyRows, verifyManyRows, rescuingRows, moveRows, findingRows}
 use Rattle.contracts.specs.Contracts.{Formats, Checks, Applies, Prunes, ReadsRoot, ReadsKey, Counts, ReadsAt, Proves, Palettes, Changes, Verifies, VerifiesMany, Hashes, Rescues, MovesOver, MovesBack, Finds}
 
@@ -97,11 +89,10 @@ export-first call s more f (exports-refusal {m} d) = does-first call s more (ref
 export-first call s more f (exports-answer {a} d) = does-first call s more (accepted a) f d
 
 -- Apply: 1, 2, 3, 4, 5, 18, 7.
-pub apply-exactly : (number : ℕ) (batch : Bytes) {s f t g : Bytes} {r : ℕ} → All Byte batch → Applies number batch s f r t g →
-    Exactly (applyRows number batch s) r
-apply-exactly number batch {s} {r = r} h w =
+pub apply-exactly : (number : ℕ) (batch : Bytes) {s f t g : Bytes} {r : ℕ} → Applies number batch s f r t g → Exactly (applyRows number batch s) r
+apply-exactly number batch {s} {r = r} w =
     exactly (applyRows number batch s) r refl
-    (export-first (apply leafHash innerHash number (batchOf batch)) s (batchRows number batch s) (batch-first batch h number s) w)
+    (export-first (apply leafHash innerHash number (w .asked)) s (batchRows number batch s) (batch-first number batch s (w .asked) (w .asks)) (w .applied))
 
 -- Prune: 1, 2, 3, 8.
 pub prune-exactly : (n : ℕ) {s f t g : Bytes} {r : ℕ} → Prunes n s f r t g → Exactly (pruneRows n s) r
@@ -133,7 +124,7 @@ never-lost s v t e (its-root i n m) = let z : _≡_ {A = ℕ} 0 1 = cc in omega 
 -- A root read: 1, 2, 8, 3, and the slot beside 3.
 module _ {s : Bytes} {v : ℕ} {f : Bytes} {r : ℕ} {g : Bytes} (w : ReadsRoot s v f r g) where
   root-answers : Stopped (testsOf (rootRows s v)) [] (StopsRoot s v) r
-  unfolding rootAnswer
+  unfolding rootAnswer readRoot
   root-answers =
       subst (Stopped (testsOf (rootRows s v)) [] (StopsRoot s v)) (sym (w .answer))
       (read-stopped s (readRoot leafHash innerHash (storeOf s) v) (λ c o l e. root-stopped leafHash innerHash s v))
@@ -147,7 +138,7 @@ module _ {s : Bytes} {v : ℕ} {f : Bytes} {r : ℕ} {g : Bytes} (w : ReadsRoot 
 -- A key read: 12, 1, 2, 8, 17 or 3, and the slot beside 3.
 module _ {s : Bytes} {v : ℕ} {k f : Bytes} {r : ℕ} {g : Bytes} (h : All Byte s) (w : ReadsKey s v k f r g) where
   get-answers : Stopped (testsOf (getRows s v k)) [] (StopsGet s v k) r
-  unfolding keyAnswer
+  unfolding keyAnswer readKey
   get-answers =
       subst (Stopped (testsOf (getRows s v k)) [] (StopsGet s v k)) (sym (w .answer))
       (key-stopped k (byHeader (headerOf counted s) (readKey (storeOf s) v k))
@@ -162,7 +153,7 @@ module _ {s : Bytes} {v : ℕ} {k f : Bytes} {r : ℕ} {g : Bytes} (h : All Byte
 -- The number of grants: 1, 2, 8, 3, and the slot beside 3.
 module _ {s : Bytes} {v : ℕ} {f : Bytes} {r : ℕ} {g : Bytes} (w : Counts s v f r g) where
   count-answers : Stopped (testsOf (rootRows s v)) [] (StopsRoot s v) r
-  unfolding numberAnswer
+  unfolding numberAnswer readNumber
   count-answers =
       subst (Stopped (testsOf (rootRows s v)) [] (StopsRoot s v)) (sym (w .answer))
       (read-stopped s (readNumber (storeOf s) v) (λ c o l e. number-stopped leafHash innerHash s v))
@@ -176,7 +167,7 @@ module _ {s : Bytes} {v : ℕ} {f : Bytes} {r : ℕ} {g : Bytes} (w : Counts s v
 -- The grant at a position: 1, 2, 8, 20, 17 or 3, and the slot beside 3.
 module _ {s : Bytes} {v i : ℕ} {f : Bytes} {r : ℕ} {g : Bytes} (h : All Byte s) (w : ReadsAt s v i f r g) where
   at-answers : Stopped (testsOf (atRows s v i)) [] (StopsAt s v i) r
-  unfolding positionAnswer
+  unfolding positionAnswer readPosition
   at-answers =
       subst (Stopped (testsOf (atRows s v i)) [] (StopsAt s v i)) (sym (w .answer))
       (read-stopped s (readPosition (storeOf s) v i) (λ c o l e. position-stopped s (records-formed s h e) v i))
@@ -190,7 +181,7 @@ module _ {s : Bytes} {v i : ℕ} {f : Bytes} {r : ℕ} {g : Bytes} (h : All Byte
 -- Proving: 12, 1, 2, 8, 14, 17 or 3, 9, and the slot beside 3.
 module _ {s : Bytes} {v : ℕ} {k room f : Bytes} {r : ℕ} {t g : Bytes} (h : All Byte s) (w : Proves s v k room f r t g) where
   prove-answers : Stopped (testsOf (proveRows s v k room)) ((9, TooLong s v k room) ∷ []) (StopsProve s v k) r
-  unfolding proveAnswer
+  unfolding proveAnswer prove proof
   prove-answers =
       subst (Stopped (testsOf (proveRows s v k room)) ((9, TooLong s v k room) ∷ []) (StopsProve s v k)) (sym (w .answer))
       (key-stopped k (byHeader (headerOf counted s) (prove (storeOf s) v k (length room)))
@@ -214,7 +205,7 @@ list-stopped {early = early} {later = later} {stops = stops} list a w = go (whol
 -- A palette: 12, 1, 2, 8, 14, 17 or 3, 9, and the slot beside 3.
 module _ {s : Bytes} {v : ℕ} {list room f : Bytes} {r : ℕ} {t g : Bytes} (h : All Byte s) (w : Palettes s v list room f r t g) where
   palette-answers : Stopped (testsOf (paletteRows s v list room)) ((9, TooLongTogether s v (keysIn list) room) ∷ []) (StopsPalette s v (keysIn list)) r
-  unfolding paletteAnswer
+  unfolding paletteAnswer palette proof
   palette-answers =
       subst (Stopped (testsOf (paletteRows s v list room)) ((9, TooLongTogether s v (keysIn list) room) ∷ []) (StopsPalette s v (keysIn list))) (sym (w .answer))
       (list-stopped list (byHeader (headerOf counted s) (palette (storeOf s) v (keysIn list) (length room)))
@@ -241,14 +232,23 @@ pub rescue-exactly : (oldest latest : ℕ) {s old f t g : Bytes} {r : ℕ} → R
 rescue-exactly oldest latest {s} {old} {r = r} w = exactly (rescuingRows s old oldest latest) r refl (rescue-first s old oldest latest w)
 
 -- What is found of a proof: 12; then 1, 2, 3; then 8, 14, 10, 11.
-pub finding-exactly : {s : Bytes} {v : ℕ} {k x f : Bytes} {r : ℕ} {g : Bytes} → All Byte x → Finds s v k x f r g → Exactly (findingRows s v k x) r
-finding-exactly {s} {v} {k} {x} {r = r} h w =
+pub finding-exactly : {s : Bytes} {v : ℕ} {k x f : Bytes} {r : ℕ} {g : Bytes} → Finds s v k x f r g → Exactly (findingRows s v k x) r
+finding-exactly {s} {v} {k} {x} {r = r} w =
     exactly (findingRows s v k x) r refl (subst (First (findingRows s v k x)) (sym (w .number)) (go (w .answers)))
   where
+    unsound : {m : ℕ} → check.Checked counted s m → (m ≡ 0 → ⊥) → First (headerRows s ++ (3, NotSound s) ∷ foundRows s v k x) m
+    unsound (check.refused n e) f = let h = header-row s e in within (headerRows s) ((3, NotSound s) ∷ foundRows s v k x) n (h .0) (h .1)
+    unsound (check.unsound c o l e n) f = past (headerRows s) ((3, NotSound s) ∷ foundRows s v k x) 3 (after-header s e) (inl (n, refl))
+    unsound (check.sound c o l e n) f = absurd (f refl)
+
     go : {a : Answer Finding} → Answers s v k x a → First (findingRows s v k x) (numberOf a)
     go (wrong-key n) = inl (λ z. n (z .0), refl)
-    go (right-key {a} e d) =
-        inr (λ n. n (e, tt), does-first (finds sha256 v k (proofIn x)) s (foundRows s v k x) a (finding-first s v k x h) d)
+    go (wrong-store {m} e c f) = inr (λ n. n (e, tt), unsound c f)
+    go (sound-store {a} e w d) =
+        inr (
+          λ n. n (e, tt),
+          past (headerRows s) ((3, NotSound s) ∷ foundRows s v k x) (numberOf a) (after-header s (w .headed)) (inr (λ n. n (w .sound), finding-first s v k x d)),
+        )
 
 -- A move over, and back: 1, 2, 3.
 pub over-exactly : {s old t : Bytes} {r : ℕ} → MovesOver s old r t → Exactly (moveRows plain s old) r
@@ -258,53 +258,34 @@ pub back-exactly : {s old t : Bytes} {r : ℕ} → MovesBack s old r t → Exact
 back-exactly {s} {old} {r = r} w = exactly (moveRows counted s old) r refl (move-first counted s old w)
 
 -- The proof check: 12, 10, 11.
-pub verify-exactly : {root k x f : Bytes} {r : ℕ} {g : Bytes} → All Byte x → Verifies root k x f r g → Exactly (verifyRows root k x) r
-unfolding verified
-verify-exactly {root} {k} {x} {r = r} h w =
-    exactly (verifyRows root k x) r refl
-    (subst (First (verifyRows root k x)) (sym (w .answer)) (sizes (eqb (length root) 32) (eqb (length k) 32) refl refl))
+pub verify-exactly : {root k x f : Bytes} {r : ℕ} {g : Bytes} → Verifies root k x f r g → Exactly (verifyRows root k x) r
+verify-exactly {root} {k} {x} {r = r} w = exactly (verifyRows root k x) r refl (subst (First (verifyRows root k x)) (sym (w .answer)) (go (w .told)))
   where
-    form : (o : Option Proof) → proofIn x ≡ o → First (holdingRows root k x) (numberOf (judged root k o))
-    form none e = inl (off-form x h e, refl)
-    form (some p) e = form-first x h root k p e
-
-    sizes : (a b : Bool) → eqb (length root) 32 ≡ a → eqb (length k) 32 ≡ b →
-        First (verifyRows root k x) (numberOf (cond (a && b) (judged root k (proofIn x)) (refused 12)))
-    sizes false b e f = inl (λ z. eqb-false (length root) 32 e (z .0), refl)
-    sizes true false e f = inl (λ z. eqb-false (length k) 32 f (z .1 .0), refl)
-    sizes true true e f = inr (λ n. n (eqb-true (length root) 32 e, (eqb-true (length k) 32 f, tt)), form (proofIn x) refl)
+    go : {a : Answer Verdict} → Told Judged root k x a → First (verifyRows root k x) (numberOf a)
+    go (not-32-bytes n) = inl (λ z. n (z .0, z .1 .0), refl)
+    go (not-in-form s n) = inr (λ z. z (s .0, (s .1, tt)), inl (n, refl))
+    go (in-form {p} s is h) = inr (λ z. z (s .0, (s .1, tt)), inr (λ f. f p is, judged-first p is h))
 
 -- Many proofs at once: 12, 10, 9.
 pub verify-many-exactly : {root list row old : Bytes} {r : ℕ} {new : Bytes} → VerifiesMany root list row old r new →
     Exactly (verifyManyRows root list row old) r
-unfolding manyVerified keysIn ownLength
 verify-many-exactly {root} {list} {row} {old} {r} w =
-    exactly (verifyManyRows root list row old) r refl
-    (subst (First (verifyManyRows root list row old)) (sym (w .answer))
-    (subst (λ n. First (rowRows root list n row old) (numberOf said)) (sym (keys-many many list))
-    (go (eqb (length root) 32) (wholeKeys list) (cutsInto many row) (leb (answerSize * many) (length old)) _ refl refl refl refl)))
+    exactly (verifyManyRows root list row old) r refl (subst (First (verifyManyRows root list row old)) (sym (w .answer)) (go (w .told)))
   where
-    many : ℕ
-    many = length list / keySize
+    right : RootAndKeys root list → NotRootAndKeys root list → ⊥
+    right h (inl z) = z (h .0, tt)
+    right h (inr z) = keys-whole list (h .1) z
 
-    said : Answer Bytes
-    said = manyVerified root list row (length old)
+    wrong : (a b : Bool) → eqb (length root) 32 ≡ a → wholeKeys list ≡ b → (RootAndKeys root list → ⊥) → NotRootAndKeys root list
+    wrong false b e f n = inl (λ z. eqb-false (length root) 32 e (z .0))
+    wrong true false e f n = inr (keys-torn list f)
+    wrong true true e f n = absurd (n (eqb-true (length root) 32 e, f))
 
-    right : eqb (length root) 32 ≡ true → wholeKeys list ≡ true → NotRootAndKeys root list → ⊥
-    right e f (inl z) = z (eqb-true (length root) 32 e, tt)
-    right e f (inr z) = keys-whole list f z
-
-    cut : cutsInto many row ≡ true → NotPieces many row → ⊥
-    cut g n = let w = cut-exactly many row .0 g in n (w .0) (w .1) (w .2) (w .3)
-
-    go : (a b c d : Bool) (x : Bytes) → eqb (length root) 32 ≡ a → wholeKeys list ≡ b → cutsInto many row ≡ c → leb (answerSize * many) (length old) ≡ d →
-        First (rowRows root list many row old) (numberOf (cond (a && b) (cond c (cond d (accepted x) (refused 9)) (refused 10)) (refused 12)))
-    go false b c d x e f g h = inl (inl (λ z. eqb-false (length root) 32 e (z .0)), refl)
-    go true false c d x e f g h = inl (inr (keys-torn list f), refl)
-    go true true false d x e f g h = inr (right e f, inl (λ xs s l z. true≢false (sym (cut-exactly many row .1 (xs, s, l, z)) ∙ g), refl))
-    go true true true false x e f g h = inr (right e f, inr (cut g, inl (leb-false (answerSize * many) (length old) h, refl)))
-    go true true true true x e f g h =
-        inr (right e f, inr (cut g, inr (λ z. absurd (omega (arith, leb-true (answerSize * many) (length old) h)), refl)))
+    go : {a : Answer Bytes} → ToldOfRow root list row (length old) a → First (verifyManyRows root list row old) (numberOf a)
+    go (not-whole n) = inl (wrong (eqb (length root) 32) (wholeKeys list) refl refl n, refl)
+    go (not-pieces h n) = inr (right h, inl (n, refl))
+    go (no-room {xs} h c l) = inr (right h, inr (λ n. n xs c, inl (l, refl)))
+    go (answered {xs} h c l q) = inr (right h, inr (λ n. n xs c, inr (λ z. absurd (omega arith), refl)))
 
 -- A hash is never refused.
 pub sha256-exactly : {x g : Bytes} {r : ℕ} → Hashes x r g → Exactly [] r

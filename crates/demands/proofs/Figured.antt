@@ -2,7 +2,6 @@
 -- refused call writes nothing, and what an accepted one gives are counts over the trees. Assumes nothing.
 use Prim.Native.Nat.{ℕ, suc, _+_, _*_, _-_, _≤_}
 use native.Mathlib.Omega.{arith}
-use native.Mathlib.Nat.{zero-add}
 use mathlib.Core.Path.{_≡_, refl, ap, sym, _∙_, subst}
 use mathlib.Core.Bool.{Bool, true, false, cond}
 use mathlib.Core.List.{[], _∷_, _++_, map}
@@ -15,9 +14,8 @@ use Rattle.terms.specs.Records.{Store}
 use Rattle.meaning.specs.Store.{treeAtVersion}
 use Rattle.meaning.specs.Sound.{Kept}
 use Rattle.meaning.specs.Calls.{Answer, refused, accepted, refuse}
-use Rattle.meaning.specs.Answers.{numberOf}
+use Rattle.meaning.specs.Answers.{numberOf, roomAfter}
 use Rattle.nodehash.specs.Node.{leafHash, innerHash}
-use Rattle.fields.specs.Written.{written}
 use Rattle.layout.specs.Stores.{storeOf}
 use Rattle.promises.specs.Calls.{SoundBytes, Does, wrong-header, not-sound, refuses, accepts}
 use Rattle.promises.proofs.Calls.{one-outcome}
@@ -25,7 +23,7 @@ use Rattle.quarter.specs.Figures.{Figures, figuresOf, figuresBytes, figuresSize
 use Rattle.quarter.proofs.Theorems.{leaves-are-grants}
 use Rattle.quarter.proofs.Small.{figures-are-small, distinct-is-small, records-are-small}
 use Rattle.quarter.proofs.Told.{leaves-told, inners-told, longest-told, sum-told, versions-long, version-told, distinct-told, records-told, no-grant-no-node, nothing-told}
-use Rattle.contracts.specs.Figures.{roomAfter, totalsAfter}
+use Rattle.contracts.specs.Figures.{totalsAfter, eachBytes}
 use Rattle.refusals.specs.Exactly.{Exactly}
 use Rattle.refusals.specs.Rows.{KeptRange}
 use Rattle.refusals.specs.Orders.{rangeRows}
@@ -43,7 +41,7 @@ pub one-figures : {first last : ℕ} {s room f t u g h : Bytes} {a b : ℕ} → 
 one-figures {room = room} {f = f} x y =
     let o = one-outcome (x .does) (y .does) .0 in (
       x .number ∙ ap (λ a. numberOf a) o ∙ sym (y .number),
-      x .numbers ∙ ap (λ a. roomAfter a room) o ∙ sym (y .numbers),
+      x .numbers ∙ ap (λ a. roomAfter (λ q. eachBytes (q .each)) a room) o ∙ sym (y .numbers),
       x .told ∙ ap (λ a. totalsAfter a f) o ∙ sym (y .told),
     )
 
@@ -58,7 +56,7 @@ pub refused-figures-writes-nothing : {first last : ℕ} {s room f t g : Bytes} {
     (t ≡ room) × (g ≡ f)
 refused-figures-writes-nothing {room = room} {f = f} w h =
     let e = refused-of (w .answer) (λ z. h (w .number ∙ z)) in
-    (w .numbers ∙ ap (λ a. roomAfter a room) (e .1), w .told ∙ ap (λ a. totalsAfter a f) (e .1))
+    (w .numbers ∙ ap (λ a. roomAfter (λ q. eachBytes (q .each)) a room) (e .1), w .told ∙ ap (λ a. totalsAfter a f) (e .1))
 
 -- when the figures of a sound store are given, and which; they are never refused with 0
 record Given (st : Store) (first last : ℕ) (q : Quarter) : Type 0 where
@@ -88,13 +86,9 @@ module _ (st : Store) (first last room : ℕ) where
       go true true h = let z : _≡_ {A = ℕ} 9 0 = cc in absurd (omega arith)
       go true false h = no-refusal h
 
-front-written : (x room : Bytes) → written 0 x room ≡ x ++ drop (length x) room
-unfolding written
-front-written x room = ap (λ n. x ++ drop n room) (zero-add (length x))
-
 -- Figures that were given are counts over the trees.
 module _ (first last : ℕ) (s room f t g : Bytes) (h : SoundBytes s) (right : rangeRight (storeOf s) first last ≡ true)
-    (left : t ≡ roomAfter (accepted (quarterOf (storeOf s) first last)) room) (told : g ≡ totalsAfter (accepted (quarterOf (storeOf s) first last)) f) where
+    (left : t ≡ roomAfter (λ q. eachBytes (q .each)) (accepted (quarterOf (storeOf s) first last)) room) (told : g ≡ totalsAfter (accepted (quarterOf (storeOf s) first last)) f) where
   abbrev st : Store
   st = storeOf s
 
@@ -106,7 +100,7 @@ module _ (first last : ℕ) (s room f t g : Bytes) (h : SoundBytes s) (right : r
 
   room-is : t ≡ bytes ++ drop (length bytes) room
   unfolding quarterOf versions
-  room-is = left ∙ front-written bytes room
+  room-is = left
 
   part-is : (v : ℕ) → first ≤ v → v ≤ last → partOf first v t ≡ figuresBytes (figuresOf (treeAtVersion st v))
   part-is v a b =
@@ -163,14 +157,14 @@ module _ (first last : ℕ) (s room f t g : Bytes) (h : SoundBytes s) (right : r
 pub accepted-figures-are-counts : (first last : ℕ) {s room f t g : Bytes} → contracts.Figures first last s room f 0 t g → GivesFigures first last s room t g
 accepted-figures-are-counts first last {s} {room} {f} {t} {g} w = go (w .answer) (w .does) (w .number) (w .numbers) (w .told)
   where
-    go : (x : Answer Quarter) {y : Bytes} → Does (figures first last (length room)) s x y → 0 ≡ numberOf x → t ≡ roomAfter x room → g ≡ totalsAfter x f →
+    go : (x : Answer Quarter) {y : Bytes} → Does (figures first last (length room)) s x y → 0 ≡ numberOf x → t ≡ roomAfter (λ q. eachBytes (q .each)) x room → g ≡ totalsAfter x f →
         GivesFigures first last s room t g
     go (refused m) (wrong-header e) z p q = absurd (never-0 (1 ∷ 2 ∷ []) refl (header-numbers s e) (sym z))
     go (refused m) (not-sound e n) z p q = absurd (omega arith)
     go (refused m) (refuses h e) z p q = absurd (not-0 (storeOf s) first last (length room) (e ∙ ap refused (sym z)))
     go (accepted c) (accepts h e) z p q =
         let d = given (storeOf s) first last (length room) c e in
-        gives first last s room f t g h (d .right) (p ∙ ap (λ a. roomAfter (accepted a) room) (sym (d .is))) (q ∙ ap (λ a. totalsAfter (accepted a) f) (sym (d .is)))
+        gives first last s room f t g h (d .right) (p ∙ ap (λ a. roomAfter (λ q. eachBytes (q .each)) (accepted a) room) (sym (d .is))) (q ∙ ap (λ a. totalsAfter (accepted a) f) (sym (d .is)))
 
 -- A version between two publishings has the figures of the earlier one.
 pub between-as-the-earlier : {number : ℕ} {batch s t g : Bytes} → NextVersion number batch s t g → (v : ℕ) → latestOf s ≤ v → v ≤ number - 1 →

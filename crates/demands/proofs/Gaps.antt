@@ -4,16 +4,17 @@ use Prim.Native.Nat.{ℕ, _≤_}
 use mathlib.Core.Path.{_≡_, refl, ap, sym, _∙_, subst}
 use mathlib.Core.Bool.{Bool, true, false}
 use mathlib.Core.List.{List, [], _∷_}
+use mathlib.Core.Option.{Option}
 use lib.ListN.{length}
 use lib.Dec.{eqb}
 use borrow.Author.Tests.{eqb-true, eqb-false}
 use Rattle.terms.specs.declared.Form.the-variants.{Plain as plain, Counted as counted}
-use Rattle.terms.specs.Bits.{Bytes, Byte, All}
+use Rattle.terms.specs.Bits.{Bytes, All}
 use Rattle.terms.specs.Form.{top32}
-use Rattle.terms.specs.Records.{Store}
+use Rattle.terms.specs.Records.{Ask, Store}
 use Rattle.meaning.specs.Store.{formatted, rootOf}
 use Rattle.meaning.specs.Sound.{Sound, Kept}
-use Rattle.meaning.specs.Calls.{refused, accepted, Result}
+use Rattle.meaning.specs.Calls.{refused, accepted, Result, apply}
 use Rattle.meaning.specs.History.{Call, formatting, applying, pruning, taking, Entry, entry}
 use Rattle.meaning.specs.Course.{CallForm, after, run, held}
 use Rattle.histories.specs.Claims.{NoGap}
@@ -26,15 +27,16 @@ use Rattle.layout.specs.Headers.{sizeRight}
 use Rattle.layout.specs.Stores.{storeIn, storeOf, slotsAs}
 use Rattle.layout.proofs.Headers.{size-says}
 use Rattle.layout.proofs.Stores.{length-slots}
-use Rattle.batch.specs.Batch.{batchOf}
+use Rattle.batch.specs.Asked.{Asks}
 use Rattle.contracts.specs.Format.{formatBytes}
+use Rattle.contracts.specs.Apply.{told}
 use Rattle.promises.specs.Calls.{wrong-header, not-sound, refuses, accepts, Exports, exports-refusal, exports-answer}
 use Rattle.demands.specs.Calls.{takenOver, Called, formats, applies, prunes, Calls, none-yet, then-called, doneBy, WithoutGaps, Life, rescues-into, moves-over, looks, formats-both, applies-both, prunes-both}
-use Rattle.contracts.specs.Contracts.{Formats, Applies, Prunes, AppliesIndexed, PrunesIndexed}
+use Rattle.contracts.specs.Contracts.{Formats, Prunes, PrunesIndexed}
 use Rattle.demands.proofs.Hashes.{leaf-hash-whole, inner-hash-whole}
 use Rattle.demands.proofs.Stored.{stored-is, formatted-form, prune-form, apply-form}
 use Rattle.demands.proofs.Refusals.{refused-format-writes-nothing, refused-apply-writes-nothing, refused-prune-writes-nothing, refused-rescue-writes-nothing, refused-over-writes-nothing}
-use Rattle.demands.proofs.Tabled.{refused-format-indexed-writes-nothing, refused-apply-indexed-writes-nothing, refused-prune-indexed-writes-nothing, format-as-plain, accepted-apply-keeps-the-table, accepted-prune-keeps-the-table}
+use Rattle.demands.proofs.Tabled.{refused-format-indexed-writes-nothing, refused-apply-indexed-writes-nothing, refused-prune-indexed-writes-nothing, format-as-plain, apply-as-plain, accepted-prune-keeps-the-table}
 use Rattle.demands.proofs.Histories.{Keeping, sound-bytes, size-right, not-headed, asks-form, called-keeps, formatted-keeps}
 
 -- what was called, accepted or not
@@ -80,11 +82,11 @@ module _ {s : Bytes} {es : List Entry} (k : Keeping s es) where
   format-after : {t : Bytes} {r : ℕ} → Formats s r t → storeOf t ≡ after leafHash innerHash formatting (storeOf s)
   format-after w = ap storeOf (w .bytes) ∙ fresh-is s (size-right k) ∙ ap formatted (sym (slots-many s))
 
-  apply-after : (number : ℕ) (batch : Bytes) {f t g : Bytes} {r : ℕ} → number ≤ top32 → All Byte batch → Applies number batch s f r t g →
-      storeOf t ≡ after leafHash innerHash (applying number (batchOf batch)) (storeOf s)
-  apply-after number batch small h w =
-      export-after w k (λ m e. laws.refused-apply-writes-nothing leafHash innerHash number (batchOf batch) (storeOf s) m e)
-      (apply-form number (batchOf batch) (storeOf s)) (sound-after (applying number (batchOf batch)) (asks-form number batch small h))
+  apply-after : (number : ℕ) (batch : Bytes) (o : Option (List Ask)) {f t g : Bytes} {r : ℕ} → number ≤ top32 → Asks batch o →
+      Exports (apply leafHash innerHash number o) told s f r t g → storeOf t ≡ after leafHash innerHash (applying number o) (storeOf s)
+  apply-after number batch o small h w =
+      export-after w k (λ m e. laws.refused-apply-writes-nothing leafHash innerHash number o (storeOf s) m e)
+      (apply-form number o (storeOf s)) (sound-after (applying number o) (asks-form number batch o small h))
 
   prune-after : (n : ℕ) {f t g : Bytes} {r : ℕ} → Prunes n s f r t g → storeOf t ≡ after leafHash innerHash (pruning n) (storeOf s)
   prune-after n w =
@@ -93,14 +95,15 @@ module _ {s : Bytes} {es : List Entry} (k : Keeping s es) where
   called-after : {e : Call × Bool} {t : Bytes} → Called s e t → NoGap (doneBy (e .0) (e .1)) (storeOf s) →
       storeOf t ≡ after leafHash innerHash (doneBy (e .0) (e .1)) (storeOf s)
   called-after (formats {r = r} w) gap = settled-after formatting r (λ z. refused-format-writes-nothing w z) (λ z g. format-after w) gap
-  called-after (applies number batch {r = r} small h w) gap =
-      settled-after (applying number (batchOf batch)) r (λ z. refused-apply-writes-nothing number batch w z .0) (λ z g. apply-after number batch small h w) gap
+  called-after (applies number batch {r = r} small w) gap =
+      settled-after (applying number (w .asked)) r (λ z. refused-apply-writes-nothing number batch w z .0)
+      (λ z g. apply-after number batch (w .asked) small (w .asks) (w .applied)) gap
   called-after (prunes {n} {r} w) gap = settled-after (pruning n) r (λ z. refused-prune-writes-nothing n w z .0) (λ z g. prune-after n w) gap
   called-after (formats-both {r = r} w) gap =
       settled-after formatting r (λ z. refused-format-indexed-writes-nothing z w .0) (λ z g. format-after (format-as-plain w z)) gap
-  called-after (applies-both number batch {table = table} {u = u} {f = f} {t = t} {g = g} {r = r} small h w) gap =
-      settled-after (applying number (batchOf batch)) r (λ z. refused-apply-indexed-writes-nothing z number batch w .0)
-      (λ z d. apply-after number batch small h (accepted-apply-keeps-the-table number batch (subst (λ n. AppliesIndexed number batch s table f n t u g) z w) .0)) gap
+  called-after (applies-both number batch {r = r} small w) gap =
+      settled-after (applying number (w .asked)) r (λ z. refused-apply-indexed-writes-nothing z number batch w .0)
+      (λ z d. apply-after number batch (w .asked) small (w .asks) (apply-as-plain number batch w z .0)) gap
   called-after (prunes-both {table} {u} {n} {r} {f} {t} {g} w) gap =
       settled-after (pruning n) r (λ z. refused-prune-indexed-writes-nothing z n w .0)
       (λ z d. prune-after n (accepted-prune-keeps-the-table n (subst (λ m. PrunesIndexed n s table f m t u g) z w) .0)) gap
@@ -116,10 +119,10 @@ done-form c false f = tt
 
 form-of : {s t : Bytes} {e : Call × Bool} → Called s e t → CallForm (doneBy (e .0) (e .1))
 form-of (formats {r = r} w) = done-form formatting (eqb r 0) tt
-form-of (applies number batch {r = r} small h w) = done-form (applying number (batchOf batch)) (eqb r 0) (asks-form number batch small h)
+form-of (applies number batch {r = r} small w) = done-form (applying number (w .asked)) (eqb r 0) (asks-form number batch (w .asked) small (w .asks))
 form-of (prunes {n} {r} w) = done-form (pruning n) (eqb r 0) tt
 form-of (formats-both {r = r} w) = done-form formatting (eqb r 0) tt
-form-of (applies-both number batch {r = r} small h w) = done-form (applying number (batchOf batch)) (eqb r 0) (asks-form number batch small h)
+form-of (applies-both number batch {r = r} small w) = done-form (applying number (w .asked)) (eqb r 0) (asks-form number batch (w .asked) small (w .asks))
 form-of (prunes-both {n = n} {r = r} w) = done-form (pruning n) (eqb r 0) tt
 form-of (rescues-into {latest = latest} {r = r} {source = source} {g = g} n h w) = done-form (taking (takenOver source latest g)) (eqb r 0) tt
 form-of (moves-over {r = r} {source = source} h w) = done-form (taking (held (storeIn plain source))) (eqb r 0) tt

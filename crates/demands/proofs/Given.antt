@@ -22,7 +22,8 @@ use Rattle.proofrecords.proofs.Proofs.{length-presence, length-absence}
 use Rattle.layout.specs.Headers.{Headed, refusal, header, headerOf}
 use Rattle.layout.specs.Stores.{storeOf}
 use Rattle.promises.specs.Headed.{byHeader}
-use Rattle.contracts.specs.Proves.{proveAnswer, roomAfter, provedInto, lengthBytes}
+use Rattle.meaning.specs.Answers.{roomAfter}
+use Rattle.contracts.specs.Proves.{proveAnswer, provedInto, lengthBytes}
 use Rattle.contracts.specs.Contracts.{Proves}
 use Rattle.demands.proofs.Refusals.{clash, accepted-of, prove-nonzero}
 
@@ -36,8 +37,8 @@ pub record Given (s : Bytes) (v : ℕ) (k : Bytes) (room : ℕ) (p : Proof) : Ty
   pub proved : proof (storeOf s) v k ≡ accepted p
   pub fits : proofLength p ≤ room
 
-given-is : (s : Bytes) (v : ℕ) (k : Bytes) (room : ℕ) (p : Proof) → proveAnswer s v k room ≡ accepted p → Given s v k room p
-unfolding proveAnswer prove
+given-is : (s : Bytes) (v : ℕ) (k : Bytes) (room : ℕ) (p : Proof) → proveAnswer s none v k room ≡ accepted p → Given s v k room p
+unfolding proveAnswer prove proof
 given-is s v k room p = go (eqb (length k) 32) (headerOf counted s) (proof (storeOf s) v k) refl refl refl
   where
     within : (q : Proof) (b : Bool) → ltb room (proofLength q) ≡ b → cond b (refused 9) (accepted q) ≡ accepted p →
@@ -97,13 +98,13 @@ kind-is (absence a) rest =
     kind-after _ absenceKind (le 2 (flagsOf l r) ∷ a .key ∷ neighbourBytes l ∷ neighbourBytes r ∷ []) rest (omega arith)
 
 module _ {s : Bytes} {v : ℕ} {k room f t g : Bytes} (w : Proves s v k room f 0 t g) where
-  there-is : (p : Proof) × (provedInto s v k room ≡ accepted p)
-  there-is = accepted-of (provedInto s v k room) (prove-nonzero s v k (length room)) (w .answer)
+  there-is : (p : Proof) × (provedInto s none v k room ≡ accepted p)
+  there-is = accepted-of (provedInto s none v k room) (prove-nonzero s v k (length room)) (w .answer)
 
   pub its-proof : Proof
   its-proof = there-is .0
 
-  is-given : provedInto s v k room ≡ accepted its-proof
+  is-given : provedInto s none v k room ≡ accepted its-proof
   unfolding its-proof
   is-given = there-is .1
 
@@ -122,7 +123,7 @@ module _ {s : Bytes} {v : ℕ} {k room f t g : Bytes} (w : Proves s v k room f 0
   told-short = omega (arith, told-length, its-length)
 
   room-is : t ≡ proofBytes its-proof ++ drop (length (proofBytes its-proof)) room
-  room-is = w .proof ∙ ap (λ a. roomAfter a room) is-given
+  room-is = w .proof ∙ ap (λ a. roomAfter proofBytes a room) is-given
 
   pub kind-told : field 4 2 t ≡ kindOf its-proof
   kind-told = ap (field 4 2) room-is ∙ kind-is its-proof _

@@ -32,8 +32,7 @@ use Rattle.layout.specs.Stores.{storeIn, storeOf, storeBytes}
 use Rattle.layout.proofs.Headers.{size-right-of, size-says}
 use Rattle.layout.proofs.Headers as headers
 use Rattle.layout.proofs.Stores.{store-back}
-use Rattle.batch.specs.Batch.{batchOf}
-use Rattle.batch.proofs.Batches.{batch-of-back}
+use Rattle.batch.specs.Asked.{Asks}
 use Rattle.contracts.specs.Format.{formatAnswer, formatBytes}
 use Rattle.promises.specs.Calls.{SoundBytes, wrong-header, not-sound, refuses, accepts, Exports, exports-refusal, exports-answer}
 use Rattle.rescue_bytes.specs.Rescues as rescue
@@ -124,12 +123,9 @@ both-keeps (both-refused (not-told {r} n o)) k never form then = rw (ne-eqb r 0 
 both-keeps {told = told} {f = f} (both-refused (refuses-both o c)) k never form then = export-keeps {told = told} {f = f} (exports-refusal c) k never form then
 both-keeps {told = told} {f = f} (both-answered (accepts-both o c q)) k never form then = export-keeps {told = told} {f = f} (exports-answer c) k never form then
 
-pub asks-form : (number : ℕ) (batch : Bytes) → number ≤ top32 → All Byte batch → CallForm (applying number (batchOf batch))
-asks-form number batch small h = go (batchOf batch) refl
-  where
-    go : (o : Option (List Ask)) → batchOf batch ≡ o → CallForm (applying number o)
-    go none e = tt
-    go (some asks) e = (small, batch-of-back batch asks h e .2)
+pub asks-form : (number : ℕ) (batch : Bytes) (o : Option (List Ask)) → number ≤ top32 → Asks batch o → CallForm (applying number o)
+asks-form number batch none small w = tt
+asks-form number batch (some asks) small w = (small, w .form)
 
 -- a rescue that was accepted: the target holds what it took over, whatever it held before
 rescue-taken : {oldest latest : ℕ} {source before t : Bytes} (r : Report) → latest ≤ top32 → All Byte source →
@@ -170,11 +166,11 @@ called-keeps {s} {t} es (formats {r} w) k =
     let z : r ≡ 0 = w .answer ∙ ap (λ b. cond b 0 1) (size-right k) in
     let fresh : Keeping t (noted formatting es) = subst (λ x. Keeping x (entry 0 [] ∷ [])) (sym (w .bytes)) (fresh-keeps s (size-right k)) in
     subst (λ b. Keeping t (cond b (noted formatting es) es)) (sym (eq-eqb r 0 z)) fresh
-called-keeps {s} es (applies number batch small h w) k =
-    export-keeps w k (λ m e. never-0 (4 ∷ 5 ∷ 18 ∷ 7 ∷ []) refl (apply-refusals number (batchOf batch) (storeOf s) m e)) (apply-form number (batchOf batch) (storeOf s))
+called-keeps {s} es (applies number batch small w) k =
+    export-keeps (w .applied) k (λ m e. never-0 (4 ∷ 5 ∷ 18 ∷ 7 ∷ []) refl (apply-refusals number (w .asked) (storeOf s) m e)) (apply-form number (w .asked) (storeOf s))
     (λ a e.
-    let f = asks-form number batch small h in
-    let kept = keeps-calls leafHash innerHash leaf-hash-whole inner-hash-whole (applying number (batchOf batch) ∷ []) (storeOf s) es (f, tt) (k .keeps) in
+    let f = asks-form number batch (w .asked) small (w .asks) in
+    let kept = keeps-calls leafHash innerHash leaf-hash-whole inner-hash-whole (applying number (w .asked) ∷ []) (storeOf s) es (f, tt) (k .keeps) in
     rw e at kept)
 called-keeps {s} es (prunes {n} w) k =
     export-keeps w k (λ m e. never-0 (8 ∷ []) refl (prune-refusals n (storeOf s) m e)) (prune-form n (storeOf s))
@@ -186,11 +182,11 @@ called-keeps {s} {t} es (formats-both {r = r} w) k = both-formatted w
     both-formatted : {n : ℕ} {x : Bytes} {table u : List ℕ} → FormatsBoth s table n x u → Keeping x (cond (eqb n 0) (noted formatting es) es)
     both-formatted (wrong-size other) = k
     both-formatted (both-fresh h f e q) = subst (λ x. Keeping x (entry 0 [] ∷ [])) (sym (e ∙ fresh-said s h)) (fresh-keeps s h)
-called-keeps {s} es (applies-both number batch small h w) k =
-    both-keeps w k (λ m e. never-0 (4 ∷ 5 ∷ 18 ∷ 7 ∷ []) refl (apply-refusals number (batchOf batch) (storeOf s) m e)) (apply-form number (batchOf batch) (storeOf s))
+called-keeps {s} es (applies-both number batch small w) k =
+    both-keeps (w .applied) k (λ m e. never-0 (4 ∷ 5 ∷ 18 ∷ 7 ∷ []) refl (apply-refusals number (w .asked) (storeOf s) m e)) (apply-form number (w .asked) (storeOf s))
     (λ a e.
-    let f = asks-form number batch small h in
-    let kept = keeps-calls leafHash innerHash leaf-hash-whole inner-hash-whole (applying number (batchOf batch) ∷ []) (storeOf s) es (f, tt) (k .keeps) in
+    let f = asks-form number batch (w .asked) small (w .asks) in
+    let kept = keeps-calls leafHash innerHash leaf-hash-whole inner-hash-whole (applying number (w .asked) ∷ []) (storeOf s) es (f, tt) (k .keeps) in
     rw e at kept)
 called-keeps {s} es (prunes-both {n = n} w) k =
     both-keeps w k (λ m e. never-0 (8 ∷ []) refl (prune-refusals n (storeOf s) m e)) (prune-form n (storeOf s))

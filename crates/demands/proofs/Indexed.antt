@@ -6,6 +6,7 @@ use mathlib.Core.Path.{_≡_, refl, ap, sym, _∙_, subst}
 use mathlib.Core.Logic.{inl, inr}
 use mathlib.Core.Bool.{Bool, true, false, cond, true≢false}
 use mathlib.Core.List.{List, [], _∷_, _++_}
+use mathlib.Core.Option.{none, some}
 use lib.ListN.{length}
 use lib.Dec.{eqb}
 use borrow.Author.Tests.{eqb-true, eq-eqb}
@@ -13,11 +14,11 @@ use Rattle.terms.specs.declared.Form.the-variants.{Counted as counted}
 use Rattle.terms.specs.Bits.{Bytes, Byte, All}
 use Rattle.terms.specs.Fields.{le}
 use Rattle.meaning.specs.Calls.{Answer, refused}
-use Rattle.meaning.specs.Answers.{numberOf, toldOf, foundAfter}
-use Rattle.meaning.specs.Reading.{Trouble, lostRecord, spoiltRecord, readKeyBy, readRootBy}
-use Rattle.meaning.specs.Proving.{proofBy, proveBy}
-use Rattle.meaning.specs.Counting.{readNumberBy, readPositionBy}
-use Rattle.palette_rules.specs.Palette.{wholeKeys, keysIn, paletteOf}
+use Rattle.meaning.specs.Answers.{numberOf, toldOf, foundAfter, roomAfter}
+use Rattle.meaning.specs.Reading.{Trouble, lostRecord, spoiltRecord, readKeyBy, readRootBy, readKey, readRoot}
+use Rattle.meaning.specs.Proving.{proofBy, proveBy, proof, prove}
+use Rattle.meaning.specs.Counting.{readNumberBy, readPositionBy, readNumber, readPosition}
+use Rattle.palette_rules.specs.Palette.{wholeKeys, keysIn, paletteOf, palette}
 use Rattle.indexed.specs.Index.{byTable}
 use Rattle.index_reads.proofs.Alike.{root-alike, key-alike, number-alike, position-alike, prove-alike, palette-alike, sound-no-two}
 use Rattle.nodehash.specs.Node.{leafHash, innerHash}
@@ -27,11 +28,12 @@ use Rattle.layout.specs.Stores.{storeOf}
 use Rattle.layout.proofs.Headers.{room-of}
 use Rattle.promises.specs.Calls.{SoundBytes}
 use Rattle.promises.specs.Headed.{byHeader, asMany, headerWith}
-use Rattle.contracts.specs.Reads.{rootAnswer, rootIndexed, keyAnswer, keyIndexed, rootBytes}
-use Rattle.contracts.specs.Numbers.{numberAnswer, numberIndexed, positionAnswer, positionIndexed, grantBytes}
-use Rattle.contracts.specs.Proves.{proveAnswer, proveIndexed, roomAfter, lengthBytes}
+use Rattle.proofrecords.specs.ProofBytes.{proofBytes}
+use Rattle.contracts.specs.Reads.{rootAnswer, keyAnswer, rootBytes}
+use Rattle.contracts.specs.Numbers.{numberAnswer, positionAnswer, grantBytes}
+use Rattle.contracts.specs.Proves.{proveAnswer, lengthBytes}
 use Rattle.contracts.specs.Palettes as palettes
-use Rattle.contracts.specs.Palettes.{paletteAnswer, paletteIndexed}
+use Rattle.contracts.specs.Palettes.{paletteAnswer, proofsBytes}
 use Rattle.refusals.specs.Exactly.{Table, Exactly, NoneOf, low, Names}
 use Rattle.refusals.specs.Rows.{WrongLength, StopsRoot, StopsGet, StopsAt, StopsProve, StopsPalette, TooLong, TooLongTogether}
 use Rattle.refusals.proofs.Exactly.{exactly}
@@ -73,26 +75,26 @@ refusal-of f a e = refused-of a (λ z. f (e ∙ z))
 
 module _ {s : Bytes} {table : List ℕ} {v r : ℕ} (not-0 : r ≡ 0 → ⊥) where
   pub refused-root-by-writes-nothing : {f g : Bytes} → ReadsRootBy s table v f r g → g ≡ f
-  refused-root-by-writes-nothing {f} w = w .root ∙ ap (λ a. rootBytes a f) (refusal-of not-0 (rootIndexed s table v) (w .answer) .1)
+  refused-root-by-writes-nothing {f} w = w .root ∙ ap (λ a. rootBytes a f) (refusal-of not-0 (rootAnswer s (some table) v) (w .answer) .1)
 
   pub refused-get-by-writes-nothing : {k f g : Bytes} → ReadsKeyBy s table v k f r g → g ≡ f
-  refused-get-by-writes-nothing {k} {f} w = w .found ∙ ap (λ a. foundAfter a f) (refusal-of not-0 (keyIndexed s table v k) (w .answer) .1)
+  refused-get-by-writes-nothing {k} {f} w = w .found ∙ ap (λ a. foundAfter a f) (refusal-of not-0 (keyAnswer s (some table) v k) (w .answer) .1)
 
   pub refused-count-by-writes-nothing : {f g : Bytes} → CountsBy s table v f r g → g ≡ f
-  refused-count-by-writes-nothing {f} w = w .count ∙ ap (λ a. toldOf (le 8) a f) (refusal-of not-0 (numberIndexed s table v) (w .answer) .1)
+  refused-count-by-writes-nothing {f} w = w .count ∙ ap (λ a. toldOf (le 8) a f) (refusal-of not-0 (numberAnswer s (some table) v) (w .answer) .1)
 
   pub refused-at-by-writes-nothing : {i : ℕ} {f g : Bytes} → ReadsAtBy s table v i f r g → g ≡ f
-  refused-at-by-writes-nothing {i} {f} w = w .grant ∙ ap (λ a. toldOf grantBytes a f) (refusal-of not-0 (positionIndexed s table v i) (w .answer) .1)
+  refused-at-by-writes-nothing {i} {f} w = w .grant ∙ ap (λ a. toldOf grantBytes a f) (refusal-of not-0 (positionAnswer s (some table) v i) (w .answer) .1)
 
   pub refused-prove-by-writes-nothing : {k room f t g : Bytes} → ProvesBy s table v k room f r t g → (t ≡ room) × (g ≡ f)
   refused-prove-by-writes-nothing {k} {room} {f} w =
-      let e = refusal-of not-0 (proveIndexed s table v k (length room)) (w .answer) .1 in
-      (w .proof ∙ ap (λ a. roomAfter a room) e, w .told ∙ ap (λ a. lengthBytes a f) e)
+      let e = refusal-of not-0 (proveAnswer s (some table) v k (length room)) (w .answer) .1 in
+      (w .proof ∙ ap (λ a. roomAfter proofBytes a room) e, w .told ∙ ap (λ a. lengthBytes a f) e)
 
   pub refused-palette-by-writes-nothing : {list room f t g : Bytes} → PalettesBy s table v list room f r t g → (t ≡ room) × (g ≡ f)
   refused-palette-by-writes-nothing {list} {room} {f} w =
-      let e = refusal-of not-0 (paletteIndexed s table v list (length room)) (w .answer) .1 in
-      (w .proofs ∙ ap (λ a. palettes.roomAfter a room) e, w .told ∙ ap (λ a. palettes.lengthBytes a f) e)
+      let e = refusal-of not-0 (paletteAnswer s (some table) v list (length room)) (w .answer) .1 in
+      (w .proofs ∙ ap (λ a. roomAfter proofsBytes a room) e, w .told ∙ ap (λ a. palettes.lengthBytes a f) e)
 
 -- A table of the right length, and no two slots that match: the answers are the plain ones.
 module _ (s : Bytes) (table : List ℕ) (v : ℕ) (many : length table ≡ roomOf counted (length s)) (once : NoneTwice s v) where
@@ -105,28 +107,28 @@ module _ (s : Bytes) (table : List ℕ) (v : ℕ) (many : length table ≡ roomO
   headed {a = a} e =
       ap (λ c. byHeader (cond c (headerOf counted s) (refusal 1)) a) fits ∙ ap (byHeader (headerOf counted s)) e
 
-  same-root : rootIndexed s table v ≡ rootAnswer s v
-  unfolding rootIndexed rootAnswer
+  same-root : rootAnswer s (some table) v ≡ rootAnswer s none v
+  unfolding rootAnswer readRoot
   same-root = headed (root-alike (storeOf s) table v once leafHash innerHash)
 
-  same-key : (k : Bytes) → keyIndexed s table v k ≡ keyAnswer s v k
-  unfolding keyIndexed keyAnswer
+  same-key : (k : Bytes) → keyAnswer s (some table) v k ≡ keyAnswer s none v k
+  unfolding keyAnswer readKey
   same-key k = ap (λ a. cond (eqb (length k) 32) a (refused 12)) (headed (key-alike (storeOf s) table v once k))
 
-  same-number : numberIndexed s table v ≡ numberAnswer s v
-  unfolding numberIndexed numberAnswer
+  same-number : numberAnswer s (some table) v ≡ numberAnswer s none v
+  unfolding numberAnswer readNumber
   same-number = headed (number-alike (storeOf s) table v once)
 
-  same-position : (i : ℕ) → positionIndexed s table v i ≡ positionAnswer s v i
-  unfolding positionIndexed positionAnswer
+  same-position : (i : ℕ) → positionAnswer s (some table) v i ≡ positionAnswer s none v i
+  unfolding positionAnswer readPosition
   same-position i = headed (position-alike (storeOf s) table v once i)
 
-  same-proof : (k : Bytes) (room : ℕ) → proveIndexed s table v k room ≡ proveAnswer s v k room
-  unfolding proveIndexed proveAnswer
+  same-proof : (k : Bytes) (room : ℕ) → proveAnswer s (some table) v k room ≡ proveAnswer s none v k room
+  unfolding proveAnswer prove proof
   same-proof k room = ap (λ a. cond (eqb (length k) 32) a (refused 12)) (headed (prove-alike (storeOf s) table v once k room))
 
-  same-palette : (list : Bytes) (room : ℕ) → paletteIndexed s table v list room ≡ paletteAnswer s v list room
-  unfolding paletteIndexed paletteAnswer
+  same-palette : (list : Bytes) (room : ℕ) → paletteAnswer s (some table) v list room ≡ paletteAnswer s none v list room
+  unfolding paletteAnswer palette proof
   same-palette list room =
       ap (λ a. cond (wholeKeys list) a (refused 12)) (headed (palette-alike (storeOf s) table v once (keysIn list) room))
 
@@ -144,13 +146,13 @@ module _ (s : Bytes) (table : List ℕ) (v : ℕ) (many : length table ≡ roomO
     proof = λ {k} {room} {f} x y.
         let e = same-proof k (length room) in (
           x .answer ∙ ap numberOf e ∙ sym (y .answer),
-          x .proof ∙ ap (λ a. roomAfter a room) e ∙ sym (y .proof),
+          x .proof ∙ ap (λ a. roomAfter proofBytes a room) e ∙ sym (y .proof),
           x .told ∙ ap (λ a. lengthBytes a f) e ∙ sym (y .told),
         );
     palette = λ {list} {room} {f} x y.
         let e = same-palette list (length room) in (
           x .answer ∙ ap numberOf e ∙ sym (y .answer),
-          x .proofs ∙ ap (λ a. palettes.roomAfter a room) e ∙ sym (y .proofs),
+          x .proofs ∙ ap (λ a. roomAfter proofsBytes a room) e ∙ sym (y .proofs),
           x .told ∙ ap (λ a. palettes.lengthBytes a f) e ∙ sym (y .told),
         );
   }
@@ -206,7 +208,7 @@ as-stopped {early = early} {later = later} {stops = stops} e w = subst (λ x. St
 module _ {s : Bytes} {table : List ℕ} {v : ℕ} (once : NoneTwice s v) where
   module _ {f g : Bytes} {r : ℕ} where
     root-answers : ReadsRootBy s table v f r g → Stopped (testsOf (rowsBy s table (rootRows s v))) [] (StopsRoot s v) r
-    unfolding rootIndexed
+    unfolding rootAnswer
     root-answers w =
         subst (Stopped (testsOf (rowsBy s table (rootRows s v))) [] (StopsRoot s v)) (sym (w .answer))
         (by-header s table (readRootBy leafHash innerHash (byTable table (storeOf s)) (storeOf s) v)
@@ -219,7 +221,7 @@ module _ {s : Bytes} {table : List ℕ} {v : ℕ} (once : NoneTwice s v) where
     root-by-names-slot w = stopped-names refl refl (root-answers w)
 
     count-answers : CountsBy s table v f r g → Stopped (testsOf (rowsBy s table (rootRows s v))) [] (StopsRoot s v) r
-    unfolding numberIndexed
+    unfolding numberAnswer
     count-answers w =
         subst (Stopped (testsOf (rowsBy s table (rootRows s v))) [] (StopsRoot s v)) (sym (w .answer))
         (by-header s table (readNumberBy (byTable table (storeOf s)) (storeOf s) v)
@@ -233,7 +235,7 @@ module _ {s : Bytes} {table : List ℕ} {v : ℕ} (once : NoneTwice s v) where
 
   module _ (bytes : All Byte s) where
     get-answers : {k f g : Bytes} {r : ℕ} → ReadsKeyBy s table v k f r g → Stopped (testsOf (rowsBy s table (getRows s v k))) [] (StopsGet s v k) r
-    unfolding keyIndexed
+    unfolding keyAnswer
     get-answers {k} w =
         subst (Stopped (testsOf (rowsBy s table (getRows s v k))) [] (StopsGet s v k)) (sym (w .answer))
         (key-stopped k (byHeader (headerWith s table) (readKeyBy (byTable table (storeOf s)) (storeOf s) v k))
@@ -248,7 +250,7 @@ module _ {s : Bytes} {table : List ℕ} {v : ℕ} (once : NoneTwice s v) where
     get-by-names-slot w = stopped-names refl refl (get-answers w)
 
     at-answers : {i : ℕ} {f g : Bytes} {r : ℕ} → ReadsAtBy s table v i f r g → Stopped (testsOf (rowsBy s table (atRows s v i))) [] (StopsAt s v i) r
-    unfolding positionIndexed
+    unfolding positionAnswer
     at-answers {i} w =
         subst (Stopped (testsOf (rowsBy s table (atRows s v i))) [] (StopsAt s v i)) (sym (w .answer))
         (by-header s table (readPositionBy (byTable table (storeOf s)) (storeOf s) v i)
@@ -263,7 +265,7 @@ module _ {s : Bytes} {table : List ℕ} {v : ℕ} (once : NoneTwice s v) where
 
     prove-answers : {k room f t g : Bytes} {r : ℕ} → ProvesBy s table v k room f r t g →
         Stopped (testsOf (rowsBy s table (proveRows s v k room))) ((9, TooLong s v k room) ∷ []) (StopsProve s v k) r
-    unfolding proveIndexed
+    unfolding proveAnswer
     prove-answers {k} {room} w =
         subst (Stopped (testsOf (rowsBy s table (proveRows s v k room))) ((9, TooLong s v k room) ∷ []) (StopsProve s v k)) (sym (w .answer))
         (key-stopped k (byHeader (headerWith s table) (proveBy (byTable table (storeOf s)) (storeOf s) v k (length room)))
@@ -279,7 +281,7 @@ module _ {s : Bytes} {table : List ℕ} {v : ℕ} (once : NoneTwice s v) where
 
     palette-answers : {list room f t g : Bytes} {r : ℕ} → PalettesBy s table v list room f r t g →
         Stopped (testsOf (rowsBy s table (paletteRows s v list room))) ((9, TooLongTogether s v (keysIn list) room) ∷ []) (StopsPalette s v (keysIn list)) r
-    unfolding paletteIndexed
+    unfolding paletteAnswer
     palette-answers {list} {room} w =
         let its = paletteOf (proofBy (byTable table (storeOf s)) (storeOf s) v) (storeOf s) v (keysIn list) (length room) in
         subst (Stopped (testsOf (rowsBy s table (paletteRows s v list room))) ((9, TooLongTogether s v (keysIn list) room) ∷ []) (StopsPalette s v (keysIn list))) (sym (w .answer))

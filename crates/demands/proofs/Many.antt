@@ -1,19 +1,20 @@
 -- Many proofs checked at once, over the contracts: the answers are those of the single checks; and what a palette gave is cut back into its
 -- proofs, each of which is answered with 0 and what its key read finds. Assumes nothing.
 use Prim.Native.Nat.{ℕ, suc, _*_, _≤_}
-use mathlib.Core.Path.{_≡_, refl, ap, ap₂, sym, _∙_}
+use native.Mathlib.Omega.{arith}
+use mathlib.Core.Path.{_≡_, refl, ap, ap₂, sym, _∙_, subst}
 use mathlib.Core.Bool.{true}
 use mathlib.Core.List.{List, [], _∷_, _++_, map}
 use lib.ListN.{length, take, drop, length-map}
 use lib.Seq.{take-at}
 use Rattle.terms.specs.declared.Form.the-variants.{Counted as counted}
 use Rattle.terms.specs.Bits.{Bytes, Byte, All, Whole32}
-use Rattle.terms.specs.Fields.{num, flat, zeroBytes}
+use Rattle.terms.specs.Fields.{num, flat}
 use Rattle.terms.specs.Records.{Proof}
 use Rattle.meaning.specs.Tree.{unversioned}
 use Rattle.meaning.specs.Sound.{Kept}
-use Rattle.meaning.specs.Calls.{accepted}
-use Rattle.meaning.specs.Answers.{numberOf, toldOf, foundAfter}
+use Rattle.meaning.specs.Calls.{Answer, accepted}
+use Rattle.meaning.specs.Answers.{numberOf, toldOf}
 use Rattle.meaning.specs.Proving.{HoldsGrant, proof}
 use Rattle.shown.proofs.Theorems.{empty-is-fourteen}
 use Rattle.palette_rules.specs.Palette.{wholeKeys, keysIn}
@@ -26,9 +27,10 @@ use Rattle.layout.specs.Stores.{storeOf}
 use Rattle.promises.specs.Calls.{SoundBytes}
 use Rattle.promises.proofs.Calls.{sound-form}
 use Rattle.contracts.specs.Palettes.{proofsBytes}
-use Rattle.verify_rows.specs.Rows.{ownLength, answerBytes, answersOf, overFront}
-use Rattle.verify_rows.proofs.Cutting.{proofs-sized}
-use Rattle.verify_rows.proofs.Answered.{accepted-if-0, row-pieces, answered-pieces, answers-long}
+use Rattle.verify_rows.specs.Rows as told
+use Rattle.verify_rows.specs.Rows.{Pieces, answerBytes, Answers, nothing-left, next, ToldOfRow, not-whole, not-pieces, no-room, overFront}
+use Rattle.verify_rows.proofs.Cutting.{proofs-sized, one-row}
+use Rattle.verify_rows.proofs.Told.{one-answers, answers-long, one-told-of-row}
 use Rattle.contracts.specs.Contracts.{ReadsRoot, Palettes, VerifiesMany}
 use Rattle.demands.specs.Claims.{treeOfVersion}
 use Rattle.demands.specs.Many.{SingleChecks, none-checked, then-checked, BesideSingleChecks, KeyReads, none-read, then-read, answersFor, RowShown}
@@ -39,25 +41,33 @@ use Rattle.demands.proofs.Showing.{root-of-tree, key-of-grants}
 use Rattle.demands.proofs.Palettes.{there-are, its-given, room-is, told-is, together-long, is-verified}
 
 -- the answers of single checks, one after the other
-single-answers : {root : Bytes} {keys xs answers : List Bytes} → SingleChecks root keys xs answers → flat answers ≡ answersOf root keys xs
+single-answers : {root : Bytes} {keys xs answers : List Bytes} → SingleChecks root keys xs answers → Answers root keys xs (flat answers)
 unfolding answerBytes
-single-answers none-checked = refl
-single-answers (then-checked w c) = ap₂ _++_ (ap₂ _∷_ (w .answer) (w .found)) (single-answers c)
+single-answers none-checked = nothing-left
+single-answers {root} (then-checked {k} {x} {g} {r} {keys} {pieces = xs} {answers} w c) =
+    subst (λ b. Answers root (k ∷ keys) (x ∷ xs) (b ++ flat answers)) (sym (ap₂ _∷_ (w .answer) (w .found))) (next (w .told) (single-answers c))
 
-as-many : {root : Bytes} {keys xs answers : List Bytes} → SingleChecks root keys xs answers → length keys ≡ length xs
+as-many : {root : Bytes} {keys xs answers : List Bytes} → SingleChecks root keys xs answers → length xs ≡ length keys
 as-many none-checked = refl
 as-many (then-checked w c) = ap suc (as-many c)
 
 -- Exactly what the single checks answer, key by key.
 pub many-are-single-checks : {root list row old new : Bytes} → VerifiesMany root list row old 0 new → BesideSingleChecks root list row old new
-unfolding ownLength
 many-are-single-checks {root} {list} {row} {old} {new} w = record {
-  same = λ {pieces = xs} {answers} sized is c.
-      w .told
-      ∙ ap (λ a. toldOf (λ b. overFront b old) a old) (accepted-if-0 root list row (length old) (sym (w .answer)))
-      ∙ ap (λ b. overFront b old) (ap (answersOf root (keysIn list)) (row-pieces root list row xs sized (sym (as-many c)) is) ∙ sym (single-answers c));
-  long = λ {pieces = xs} {answers} c. ap length (single-answers c) ∙ answers-long root (keysIn list) xs (as-many c);
+  same = λ {pieces = xs} {answers} each is c.
+      w .buffer ∙ go (record { each = each; many = as-many c; bytes = is }) (single-answers c) (w .told) (w .answer);
+  long = λ {pieces = xs} {answers} c. answers-long root (keysIn list) xs (flat answers) (single-answers c);
 }
+  where
+    go : {xs : List Bytes} {b : Bytes} {a : Answer Bytes} → Pieces (length (keysIn list)) row xs → Answers root (keysIn list) xs b →
+        ToldOfRow root list row (length old) a → 0 ≡ numberOf a → toldOf (λ c. overFront c old) a old ≡ overFront b old
+    go are r (not-whole n) e = absurd (omega arith)
+    go are r (not-pieces h n) e = absurd (omega arith)
+    go are r (no-room h n l) e = absurd (omega arith)
+    go {xs} {b} are r (told.answered {xs = ys} {b = c} h n l q) e =
+        ap (λ d. overFront d old)
+        (one-answers root (keysIn list) xs c b
+        (subst (λ zs. Answers root (keysIn list) zs c) (one-row (length (keysIn list)) row ys xs n are) q) r)
 
 proofs-flat : (ps : List Proof) → proofsBytes ps ≡ flat (map proofBytes ps)
 proofs-flat [] = refl
@@ -80,15 +90,13 @@ module _ (s : Bytes) (w : SoundBytes s) (v : ℕ) (kept : Kept (storeOf s) v) wh
       let r = forms keys ps (h .1) (e .1) in ((proof-form (storeOf s) v k p slots (h .0) (e .0), r .0), ap suc (r .1))
 
   each-answered : {f root : Bytes} {r : ℕ} → ReadsRoot s v f r root → (keys : List Bytes) (ps : List Proof) → All Whole32 keys →
-      ProofOfEach (proof (storeOf s) v) keys ps → answersOf root keys (map proofBytes ps) ≡ flat (answersFor s v keys)
+      ProofOfEach (proof (storeOf s) v) keys ps → Answers root keys (map proofBytes ps) (flat (answersFor s v keys))
   unfolding answerBytes
-  each-answered y [] [] h e = refl
+  each-answered y [] [] h e = nothing-left
   each-answered y [] (p ∷ ps) h e = absurd e
   each-answered y (k ∷ keys) [] h e = absurd e
   each-answered y (k ∷ keys) (p ∷ ps) h e =
-      ap₂ _++_
-      (ap (λ a. numberOf a ∷ foundAfter a (zeroBytes 33)) (is-verified s w v kept (holds k (h .0) (e .0)) k (h .0) p (e .0) y))
-      (each-answered y keys ps (h .1) (e .1))
+      next (is-verified s w v kept (holds k (h .0) (e .0)) k (h .0) p (e .0) y) (each-answered y keys ps (h .1) (e .1))
 
   module _ (list : Bytes) (asked : All Byte list) (whole : wholeKeys list ≡ true) where
     keys : All Whole32 (keysIn list)
@@ -107,13 +115,13 @@ module _ (s : Bytes) (w : SoundBytes s) (v : ℕ) (kept : Kept (storeOf s) v) wh
         ∙ take-at (proofsBytes ps) _ (num g) (together-long s v slots (keysIn list) ps keys each ∙ sym (told-is x whole))
         ∙ proofs-flat ps in
         let root32 : length root ≡ 32 = ap length (root-of-tree w kept y .1) ∙ hash-whole (unversioned (treeOfVersion s v)) .0 in
-        let said = answered-pieces root list (take (num g) t) (map proofBytes ps) (proofs-sized ps (form .0)) many row (length old) root32 whole fits in
+        let are : Pieces (length (keysIn list)) (take (num g) t) (map proofBytes ps) = record { each = proofs-sized ps (form .0); many = many; bytes = row } in
         let same = each-answered y (keysIn list) ps keys each in
-        let long : length (flat (answersFor s v (keysIn list))) ≡ 34 * length (keysIn list) =
-        ap length (sym same) ∙ answers-long root (keysIn list) (map proofBytes ps) (sym many) in (
-          z .answer ∙ ap numberOf said,
-          z .told ∙ ap (λ a. toldOf (λ b. overFront b old) a old) said ∙ ap (λ b. overFront b old) same
-              ∙ ap (λ n. flat (answersFor s v (keysIn list)) ++ drop n old) long,
+        let long = answers-long root (keysIn list) (map proofBytes ps) (flat (answersFor s v (keysIn list))) same in
+        let said = one-told-of-row root list (take (num g) t) (length old) (z .answers) (accepted (flat (answersFor s v (keysIn list)))) (z .told)
+        (told.answered (root32, whole) are fits same) in (
+          z .answer ∙ ap (λ a. numberOf a) said,
+          z .buffer ∙ ap (λ a. toldOf (λ b. overFront b old) a old) said ∙ ap (λ n. flat (answersFor s v (keysIn list)) ++ drop n old) long,
         )
 
     reads-are : {ks found : List Bytes} → All Whole32 ks → KeyReads s v ks found → answersFor s v ks ≡ map (λ g. 0 ∷ g) found

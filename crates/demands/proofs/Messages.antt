@@ -8,18 +8,20 @@ use mathlib.Core.Option.{Option, none, some}
 use lib.ListN.{length, take, drop, length-append}
 use lib.Seq.{take-at}
 use lib.Dec.{eqb}
-use borrow.Author.Tests.{eqb-false, eq-eqb}
+use borrow.Author.Tests.{eqb-true, eqb-false}
 use Rattle.terms.specs.Bits.{Bytes, Byte, All}
 use Rattle.terms.specs.Fields.{le, num}
 use Rattle.terms.specs.Records.{Presence, Proof, presence, absence}
 use Rattle.terms.proofs.Fields.{num-le, length-le}
-use Rattle.meaning.specs.Calls.{refused, accepted}
+use Rattle.terms.proofs.Tests.{same-bytes, bytes-same}
+use Rattle.meaning.specs.Calls.{Answer, refused, accepted}
 use Rattle.meaning.specs.Reading.{Verdict}
+use Rattle.meaning.specs.Checking.{leadsTo}
 use Rattle.meaning.specs.Answers.{numberOf, foundAfter}
 use Rattle.sha256.specs.Sha256.{sha256}
 use Rattle.nodehash.specs.Node.{leafHash, innerHash}
-use Rattle.proofrecords.specs.ProofBytes.{proofBytes, proofIn, NeighbourForm, ProofForm, neighbourBytes}
-use Rattle.proofrecords.proofs.Proofs.{length-presence, length-absence, proof-back}
+use Rattle.proofrecords.specs.ProofBytes.{proofBytes, NeighbourForm, ProofForm, neighbourBytes, ProofIs}
+use Rattle.proofrecords.proofs.Proofs.{length-presence, length-absence}
 use Rattle.messages.specs.Message.{messageBytes, mostBytes, RawPresence, RawProof, ownProof}
 use Rattle.messages.specs.Lending.{Lent, LentBytes, rawProof, recordOf, lentIn}
 use Rattle.messages.specs.Spots.{spotsIn, Stand}
@@ -31,7 +33,8 @@ pub use Rattle.message_words.proofs.Theorems.{one-write, one-read, refused-writ
 use Rattle.partner.specs.Ours.{askedKey, verdictOf, partnerAccepts}
 use Rattle.partner.proofs.Agreement.{message-is-encoded}
 use Rattle.partner.proofs.Theorems.{checked-by-partner, accepted-root-32, led-as-ours}
-use Rattle.verify_rules.specs.Verify.{verified}
+use Rattle.verify_rules.specs.Verify.{Judged, Told, not-32-bytes, in-form}
+use Rattle.verify_rules.proofs.Told.{judged-exactly, one-verdict}
 use Rattle.refusals.specs.Exactly.{Exactly}
 use Rattle.refusals.proofs.Exactly.{First, exactly}
 use Rattle.refusals.proofs.Messages.{write-first, read-first}
@@ -40,9 +43,9 @@ use Rattle.demands.specs.Tables.{writeMessageRows, readMessageRows}
 use Rattle.demands.specs.Messages.{PartnerAgrees, MessageGiven, MessageTaken, LedAlike}
 
 -- 10, 15, 9 exactly, and 10, 9.
-pub write-message-exactly : {x : Bytes} {lent : Lent} {room f t g : Bytes} {r : ℕ} → All Byte x → WritesMessage x lent room f r t g → Exactly (writeMessageRows x lent room) r
-write-message-exactly {x} {lent} {room} {r = r} b w =
-    exactly (writeMessageRows x lent room) r refl (subst (First (writeMessageRows x lent room)) (sym (w .answer)) (write-first x b lent room))
+pub write-message-exactly : {x : Bytes} {lent : Lent} {room f t g : Bytes} {r : ℕ} → WritesMessage x lent room f r t g → Exactly (writeMessageRows x lent room) r
+write-message-exactly {x} {lent} {room} {r = r} w =
+    exactly (writeMessageRows x lent room) r refl (subst (First (writeMessageRows x lent room)) (sym (w .answer)) (write-first x lent room (w .said) (w .exactly)))
 
 pub read-message-exactly : {m room f t g : Bytes} {r : ℕ} → ReadsMessage m room f r t g → Exactly (readMessageRows m room) r
 read-message-exactly {m} {room} {r = r} w =
@@ -56,11 +59,11 @@ most (absence a) = omega arith
 record Agreed (root x : Bytes) (q : Proof) : Type 0 where
   n : ℕ
   not-0 : 1 ≤ n
-  is : verified root (sha256 (askedKey q)) x ≡ cond (partnerAccepts sha256 root q) (accepted (verdictOf sha256 q)) (refused n)
+  told : Told Judged root (sha256 (askedKey q)) x (cond (partnerAccepts sha256 root q) (accepted (verdictOf sha256 q)) (refused n))
 
-agreed : (root x : Bytes) (q : Proof) → RawProof q → proofIn x ≡ some (ownProof sha256 q) → Agreed root x q
-unfolding verified leafHash innerHash
-agreed root x q h e = go (eqb (length root) 32) refl
+agreed : (root x : Bytes) (q : Proof) → RawProof q → ProofIs x (ownProof sha256 q) → Agreed root x q
+unfolding leafHash innerHash
+agreed root x q h is = go (eqb (length root) 32) refl
   where
     sha32 : (y : Bytes) → length (sha256 y) ≡ 32
     sha32 y = digest-whole y .0
@@ -73,40 +76,48 @@ agreed root x q h e = go (eqb (length root) 32) refl
     go true t = record {
       n = 11;
       not-0 = omega arith;
-      is = rw (t, eq-eqb (length (sha256 (askedKey q))) 32 (sha32 (askedKey q)), e) (checked-by-partner sha256 sha32 root q h);
+      told =
+          in-form (eqb-true (length root) 32 t, sha32 (askedKey q)) is
+          (judged-exactly root (sha256 (askedKey q)) (ownProof sha256 q) _ .1 (sym (checked-by-partner sha256 sha32 root q h)));
     }
     go false t = record {
       n = 12;
       not-0 = omega arith;
-      is = rw (t, refuses (partnerAccepts sha256 root q) refl (λ z. eqb-false (length root) 32 t z));
+      told =
+          subst (λ b. Told Judged root (sha256 (askedKey q)) x (cond b (accepted (verdictOf sha256 q)) (refused 12)))
+          (sym (refuses (partnerAccepts sha256 root q) refl (eqb-false (length root) 32 t))) (not-32-bytes (λ s. eqb-false (length root) 32 t (s .0)));
     }
 
-partner-agrees : (x m : Bytes) (q : Proof) → RawProof q → messageBytes q ≡ m → proofIn x ≡ some (ownProof sha256 q) → PartnerAgrees x m q
-partner-agrees x m q h is e = record {
+partner-agrees : (x m : Bytes) (q : Proof) → RawProof q → messageBytes q ≡ m → ProofIs x (ownProof sha256 q) → PartnerAgrees x m q
+partner-agrees x m q h is own = record {
   encoded = message-is-encoded q ∙ is;
-  agrees = λ {root} {f} {g} {r} w. (λ t. w .answer ∙ number root t, λ z. back root (sym (w .answer) ∙ z));
-  found = λ {root} {f} {g} w. w .found ∙ ap (λ o. foundAfter o f) (taken root (back root (sym (w .answer))));
+  agrees = λ {root} {f} {g} {r} w. (λ t. w .answer ∙ ap (λ o. numberOf o) (taken w t), λ z. back w (sym (w .answer) ∙ z));
+  found = λ {root} {f} {g} w. w .found ∙ ap (λ o. foundAfter o f) (taken w (back w (sym (w .answer))));
 }
   where
-    taken : (root : Bytes) → partnerAccepts sha256 root q ≡ true → verified root (sha256 (askedKey q)) x ≡ accepted (verdictOf sha256 q)
-    taken root t = let a = agreed root x q h e in a .is ∙ ap (λ b. cond b (accepted (verdictOf sha256 q)) (refused (a .n))) t
+    ours : Bytes → Answer Verdict
+    ours root = cond (partnerAccepts sha256 root q) (accepted (verdictOf sha256 q)) (refused (agreed root x q h own .n))
 
-    number : (root : Bytes) → partnerAccepts sha256 root q ≡ true → numberOf (verified root (sha256 (askedKey q)) x) ≡ 0
-    number root t = ap (λ o. numberOf o) (taken root t)
+    same : {root f g : Bytes} {r : ℕ} (w : Verifies root (sha256 (askedKey q)) x f r g) → w .verdict ≡ ours root
+    same {root} w = one-verdict root (sha256 (askedKey q)) x (w .verdict) (ours root) (w .told) (agreed root x q h own .told)
+
+    taken : {root f g : Bytes} {r : ℕ} (w : Verifies root (sha256 (askedKey q)) x f r g) → partnerAccepts sha256 root q ≡ true →
+        w .verdict ≡ accepted (verdictOf sha256 q)
+    taken {root} w t = same w ∙ ap (λ b. cond b (accepted (verdictOf sha256 q)) (refused (agreed root x q h own .n))) t
 
     only : (b : Bool) (v : Verdict) (n : ℕ) → 1 ≤ n → numberOf (cond b (accepted v) (refused n)) ≡ 0 → b ≡ true
     only true v n l z = refl
     only false v n l z = absurd (omega arith)
 
-    back : (root : Bytes) → numberOf (verified root (sha256 (askedKey q)) x) ≡ 0 → partnerAccepts sha256 root q ≡ true
-    back root z =
-        let a = agreed root x q h e in
-        only (partnerAccepts sha256 root q) (verdictOf sha256 q) (a .n) (a .not-0) (sym (ap (λ o. numberOf o) (a .is)) ∙ z)
+    back : {root f g : Bytes} {r : ℕ} (w : Verifies root (sha256 (askedKey q)) x f r g) → numberOf (w .verdict) ≡ 0 → partnerAccepts sha256 root q ≡ true
+    back {root} w z =
+        let a = agreed root x q h own in
+        only (partnerAccepts sha256 root q) (verdictOf sha256 q) (a .n) (a .not-0) (sym (ap (λ o. numberOf o) (same w)) ∙ z)
 
 -- What was written is a message that reading gives back.
 pub message-is-given : {x : Bytes} {lent : Lent} {room f t g : Bytes} → All Byte x → LentBytes lent → WritesMessage x lent room f 0 t g → MessageGiven x lent t g
 message-is-given {x} {lent} {room} {f} {t} {g} b lb w =
-    let k = written-message b lb w in
+    let k = written-message lb w in
     let q = rawProof lent (k .proof) in
     let long : num g ≡ length (k .m) = ap num (k .told-is) ∙ num-le 4 (length (k .m)) (omega (arith, k .at-most, most q)) in
     let same : take (num g) t ≡ k .m = ap (take (num g)) (k .room-is) ∙ take-at (k .m) (drop (length (k .m)) room) (num g) (sym long) in
@@ -120,7 +131,7 @@ message-is-given {x} {lent} {room} {f} {t} {g} b lb w =
           let e = k .given-back fits (subst (λ m. ReadsMessage m room₁ f₁ r t₁ g₁) same v) in
           let is : take (length x) t₁ ≡ x = ap (take (length x)) (e .1) ∙ take-at x (drop (length x) room₁) (length x) refl in
           (subst (λ y. Verifies root key y f₂ r₂ g₂) is, subst (λ y. Verifies root key y f₂ r₂ g₂) (sym is));
-      partner = partner-agrees x (take (num g) t) q (k .raw) (k .is ∙ sym same) (k .proof-is ∙ ap some (sym (k .own)));
+      partner = partner-agrees x (take (num g) t) q (k .raw) (k .is ∙ sym same) (subst (ProofIs x) (sym (k .own)) (k .proof-is));
     }
 
 -- a record in form is short
@@ -144,16 +155,15 @@ message-is-taken {m} {room} {f} {t} {g} b w =
     let long : num (take 4 g) ≡ length x = ap num first ∙ num-le 4 (length x) (omega (arith, few (ownProof sha256 q) form)) in
     let same : take (num (take 4 g)) t ≡ x =
     ap (take (num (take 4 g))) (k .room-is) ∙ take-at x (drop (length x) room) (num (take 4 g)) (sym long) in
-    let is : proofIn (take (num (take 4 g)) t) ≡ some (ownProof sha256 q) = ap proofIn same ∙ proof-back (ownProof sha256 q) form in
     record {
       proof = q;
       encodes = k .encodes;
       record-is = same;
       written-so = k .written-so;
-      partner = partner-agrees (take (num (take 4 g)) t) m q (k .encodes .raw) (k .encodes .is) is;
+      partner = partner-agrees (take (num (take 4 g)) t) m q (k .encodes .raw) (k .encodes .is) (record { bytes = same; form = form });
     }
 
 -- A partner's verifier is led as ours is.
 pub led-alike : (p : Presence) → RawPresence p → LedAlike p
-unfolding leafHash innerHash
-led-alike p h = record { led = λ root. led-as-ours sha256 (λ y. digest-whole y .0) root p h }
+unfolding leafHash innerHash leadsTo
+led-alike p h = record { led = λ root. let e = led-as-ours sha256 (λ y. digest-whole y .0) root p h in (λ t. same-bytes _ root (sym e ∙ t), λ l. e ∙ rw l (bytes-same root)) }

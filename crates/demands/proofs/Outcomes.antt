@@ -1,27 +1,48 @@
 -- Demand 1: two outcomes that the contract of a public call allows are equal, in the answer and in every byte. Most contracts are equations, so
 -- both outcomes are the same term; the others are by cases that exclude each other. Assumes nothing.
 use Prim.Native.Nat.{ℕ}
-use mathlib.Core.Path.{_≡_, refl, ap, sym, _∙_}
+use mathlib.Core.Path.{_≡_, refl, ap, sym, _∙_, subst}
+use lib.ListN.{length}
+use Rattle.terms.specs.declared.Form.the-variants.{Counted as counted}
 use Rattle.terms.specs.Bits.{Bytes}
 use Rattle.promises.proofs.Check.{one-answer}
-use Rattle.meaning.specs.Calls.{Answer}
-use Rattle.meaning.specs.Answers.{numberOf, toldOf}
+use Rattle.meaning.specs.Calls.{Answer, refused, apply}
+use Rattle.meaning.specs.Answers.{numberOf, toldOf, foundAfter, roomAfter}
+use Rattle.sha256.specs.Sha256.{sha256}
+use Rattle.layout.specs.Stores.{storeOf}
+use Rattle.promises.specs.Check.{Checked, sound}
+use Rattle.promises.specs.Calls.{SoundBytes, Exports}
+use Rattle.nodehash.specs.Node.{leafHash, innerHash}
+use Rattle.batch.proofs.Batches.{asks-one}
 use Rattle.promises.proofs.Calls.{one-outcome, one-export}
-use Rattle.contracts.specs.Changes.{roomAfter, countBytes}
+use Rattle.changed.specs.Changes.{listBytes}
+use Rattle.contracts.specs.Apply.{told}
+use Rattle.contracts.specs.Changes.{countBytes}
 use Rattle.rescue_bytes.proofs.Outcomes as rescue
 use Rattle.move_rules.proofs.Outcomes as move
 use Rattle.contracts.specs.Contracts.{Formats, Checks, Applies, Prunes, ReadsRoot, ReadsKey, Counts, ReadsAt, Proves, Palettes, Changes, Verifies, VerifiesMany, TellsVersion, Hashes, Rescues, MovesOver, MovesBack, Finds}
 use Rattle.forgery.specs.Finding.{Finding}
 use Rattle.finding_rules.specs.Call.{findingBytes}
-use Rattle.contracts.specs.Finds.{Answers}
-use Rattle.contracts.specs.Finds.{wrong-key, right-key}
+use Rattle.finding_rules.proofs.Told as found
+use Rattle.contracts.specs.Finds.{Answers, wrong-key, wrong-store, sound-store}
+use Rattle.verify_rules.proofs.Told.{one-verdict}
+use Rattle.verify_rows.specs.Rows.{overFront}
+use Rattle.verify_rows.proofs.Told.{one-told-of-row}
 
 -- what is found of a proof has one answer
+sound-checked : {s : Bytes} → SoundBytes s → Checked counted s 0
+sound-checked w = sound (w .capacity) (w .oldest) (w .latest) (w .headed) (w .sound)
+
 one-found : {s : Bytes} {v : ℕ} {k x : Bytes} {p q : Answer Finding} → Answers s v k x p → Answers s v k x q → p ≡ q
 one-found (wrong-key m) (wrong-key n) = refl
-one-found (wrong-key m) (right-key l d) = absurd (m l)
-one-found (right-key l d) (wrong-key m) = absurd (m l)
-one-found (right-key l c) (right-key m d) = one-outcome c d .0
+one-found (wrong-key m) (wrong-store l c n) = absurd (m l)
+one-found (wrong-key m) (sound-store l w d) = absurd (m l)
+one-found (wrong-store l c n) (wrong-key m) = absurd (m l)
+one-found {s} (wrong-store {m} l c n) (wrong-store {m = o} i d k) = ap refused (one-answer s m o c d)
+one-found {s} (wrong-store {m} l c n) (sound-store i w d) = absurd (n (one-answer s m 0 c (sound-checked w)))
+one-found (sound-store l w d) (wrong-key m) = absurd (m l)
+one-found {s} (sound-store l w d) (wrong-store {m} i c n) = absurd (n (one-answer s m 0 c (sound-checked w)))
+one-found {s} {v} {k} {x} {p} {q} (sound-store l w c) (sound-store i u d) = found.one-found sha256 (storeOf s) v k x p q c d
 
 module _ {s : Bytes} {a b : ℕ} where
   pub one-format : {t u : Bytes} → Formats s a t → Formats s b u → (a ≡ b) × (t ≡ u)
@@ -32,7 +53,9 @@ module _ {s : Bytes} {a b : ℕ} where
 
   pub one-apply : (number : ℕ) (batch : Bytes) {f t u g h : Bytes} → Applies number batch s f a t g → Applies number batch s f b u h →
       (a ≡ b) × (t ≡ u) × (g ≡ h)
-  one-apply number batch x y = one-export x y
+  one-apply number batch {f} {u = u} {h = h} x y =
+      one-export (x .applied) (subst (λ o. Exports (apply leafHash innerHash number o) told s f b u h)
+      (asks-one batch (y .asked) (x .asked) (y .asks) (x .asks)) (y .applied))
 
   pub one-prune : (n : ℕ) {f t u g h : Bytes} → Prunes n s f a t g → Prunes n s f b u h → (a ≡ b) × (t ≡ u) × (g ≡ h)
   one-prune n x y = one-export x y
@@ -60,7 +83,7 @@ module _ {s : Bytes} {a b : ℕ} where
   one-changes {room = room} {f = f} x y =
       let o = one-outcome (x .does) (y .does) .0 in (
         x .number ∙ ap numberOf o ∙ sym (y .number),
-        x .list ∙ ap (λ z. roomAfter z room) o ∙ sym (y .list),
+        x .list ∙ ap (λ z. roomAfter listBytes z room) o ∙ sym (y .list),
         x .told ∙ ap (λ z. countBytes z f) o ∙ sym (y .told),
       )
 
@@ -82,10 +105,14 @@ module _ {s : Bytes} {a b : ℕ} where
 
 module _ {a b : ℕ} where
   pub one-verify : {root k x f g h : Bytes} → Verifies root k x f a g → Verifies root k x f b h → (a ≡ b) × (g ≡ h)
-  one-verify x y = (x .answer ∙ sym (y .answer), x .found ∙ sym (y .found))
+  one-verify {root} {k} {x} {f} u w =
+      let e = one-verdict root k x (u .verdict) (w .verdict) (u .told) (w .told) in
+      (u .answer ∙ ap (λ v. numberOf v) e ∙ sym (w .answer), u .found ∙ ap (λ v. foundAfter v f) e ∙ sym (w .found))
 
   pub one-verify-many : {root list row old g h : Bytes} → VerifiesMany root list row old a g → VerifiesMany root list row old b h → (a ≡ b) × (g ≡ h)
-  one-verify-many x y = (x .answer ∙ sym (y .answer), x .told ∙ sym (y .told))
+  one-verify-many {root} {list} {row} {old} u w =
+      let e = one-told-of-row root list row (length old) (u .answers) (w .answers) (u .told) (w .told) in
+      (u .answer ∙ ap (λ v. numberOf v) e ∙ sym (w .answer), u .buffer ∙ ap (λ v. toldOf (λ b. overFront b old) v old) e ∙ sym (w .buffer))
 
   pub one-version : TellsVersion a → TellsVersion b → a ≡ b
   one-version x y = x ∙ sym y

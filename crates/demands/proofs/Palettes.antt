@@ -1,19 +1,20 @@
 -- Document 02, request 2026-04, over the contracts: a palette is the single calls joined, or the first refusal among them; cut apart, each proof is accepted.
 -- Assumes nothing.
-use Prim.Native.Nat.{ℕ, zero, suc, _+_, _*_, _≤_, _<_, _/_}
+use Prim.Native.Nat.{ℕ, suc, _+_, _*_, _≤_, _<_, _/_}
 use native.Mathlib.Omega.{arith}
 use mathlib.Core.Path.{_≡_, refl, ap, ap₂, sym, _∙_, subst}
 use mathlib.Core.Logic.{_↔_}
 use mathlib.Core.Bool.{Bool, true, false, cond}
-use mathlib.Core.List.{List, [], _∷_, _++_, map, append-assoc}
+use mathlib.Core.List.{List, [], _∷_, _++_, append-assoc}
+use mathlib.Core.Option.{none}
 use lib.ListN.{length, take, drop, length-append}
 use lib.Seq.{take-at, drop-at}
-use lib.Dec.{eqb, ltb}
+use lib.Dec.{ltb}
 use borrow.Author.Tests.{eq-eqb, ltb-true, ltb-false, le-ltb, le-leb}
 use Rattle.terms.specs.declared.Form.the-variants.{Counted as counted}
 use Rattle.terms.specs.Bits.{Bytes, Byte, All, Whole32}
 use Rattle.terms.specs.Fields.{le, num, field, flat}
-use Rattle.terms.specs.Records.{Store, Presence, Proof, presence, absence}
+use Rattle.terms.specs.Records.{Store, Proof, presence, absence}
 use Rattle.terms.proofs.Fields.{num-le, length-le, slice-between}
 use Rattle.meaning.specs.Tree.{hash, unversioned}
 use Rattle.meaning.specs.Sound.{Kept}
@@ -21,7 +22,7 @@ use Rattle.meaning.specs.Calls.{Answer, refused, accepted, isKept}
 use Rattle.meaning.specs.Reading.{answerOf}
 use Rattle.meaning.specs.Proving.{HoldsGrant, proof, presenceLength, proofLength, fitted, prove}
 use Rattle.meaning.specs.Checking.{checked}
-use Rattle.meaning.specs.Answers.{numberOf, foundBytes}
+use Rattle.meaning.specs.Answers.{numberOf, foundBytes, roomAfter}
 use Rattle.shown.proofs.Verdicts.{accepted-same}
 use Rattle.shown.proofs.Theorems.{proofs-have-17080-bytes, root-read-is-hash, shown}
 use Rattle.palette_rules.specs.Palette.{wholeKeys, keysIn, followed, inTurn, lengthTogether, fittedTogether, palette}
@@ -41,11 +42,11 @@ use Rattle.promises.proofs.Calls.{sound-form}
 use Rattle.promises.specs.Headed.{byHeader}
 use Rattle.contracts.specs.Proves.{proveAnswer}
 use Rattle.contracts.specs.Palettes.{paletteAnswer, proofsBytes, roomAfter, palettedInto, lengthBytes}
-use Rattle.verify_rules.specs.Verify.{verified}
+use Rattle.verify_rules.specs.Verify.{Judged, Told}
 use Rattle.contracts.specs.Contracts.{ReadsRoot, Proves, Palettes, Verifies}
 use Rattle.demands.specs.Claims.{treeOfVersion, grantsOfVersion}
 use Rattle.demands.specs.Palettes.{SingleCalls, none-asked, then-given, FirstRefusal, refused-here, refused-later, BesideSingleCalls, cutApart, EachAccepted, PaletteShown}
-use Rattle.demands.proofs.Refusals.{clash, no-refusal, with-number, never-0, refused-of, accepted-of, header-numbers, proof-nonzero}
+use Rattle.demands.proofs.Refusals.{no-refusal, with-number, never-0, refused-of, accepted-of, header-numbers, proof-nonzero}
 use Rattle.demands.proofs.Hashes.{hash-whole}
 use Rattle.demands.proofs.Forms.{proof-form}
 use Rattle.demands.proofs.Given.{its-proof, its-tests, front-is, proof-long}
@@ -55,26 +56,26 @@ use Rattle.demands.proofs.Showing.{root-of-tree, checker-on, verify-lef
 module _ {s : Bytes} {v : ℕ} {list room f : Bytes} {r : ℕ} {t g : Bytes} (w : Palettes s v list room f r t g) where
   pub refused-palette-writes-nothing : (r ≡ 0 → ⊥) → (t ≡ room) × (g ≡ f)
   refused-palette-writes-nothing h =
-      let e = refused-of (palettedInto s v list room) (λ z. h (w .answer ∙ z)) in
-      (w .proofs ∙ ap (λ a. roomAfter a room) (e .1), w .told ∙ ap (λ a. lengthBytes a f) (e .1))
+      let e = refused-of (palettedInto s none v list room) (λ z. h (w .answer ∙ z)) in
+      (w .proofs ∙ ap (λ a. roomAfter proofsBytes a room) (e .1), w .told ∙ ap (λ a. lengthBytes a f) (e .1))
 
 -- by the header: 1 or 2 as a single call, else the rest
 in-header : (s : Bytes) (v : ℕ) (list : Bytes) (room : ℕ) {c o l : ℕ} → wholeKeys list ≡ true → headerOf counted s ≡ header c o l →
-    paletteAnswer s v list room ≡ palette (storeOf s) v (keysIn list) room
-unfolding paletteAnswer
+    paletteAnswer s none v list room ≡ palette (storeOf s) v (keysIn list) room
+unfolding paletteAnswer palette proof
 in-header s v list room e h = rw (e, h)
 
-by-refusal : (s : Bytes) (v : ℕ) (list : Bytes) (room : ℕ) {m : ℕ} → wholeKeys list ≡ true → headerOf counted s ≡ refusal m → paletteAnswer s v list room ≡ refused m
-unfolding paletteAnswer
+by-refusal : (s : Bytes) (v : ℕ) (list : Bytes) (room : ℕ) {m : ℕ} → wholeKeys list ≡ true → headerOf counted s ≡ refusal m → paletteAnswer s none v list room ≡ refused m
+unfolding paletteAnswer palette proof
 by-refusal s v list room e h = rw (e, h)
 
 single-header : (s : Bytes) (v : ℕ) (k : Bytes) (room : ℕ) {c o l : ℕ} → length k ≡ 32 → headerOf counted s ≡ header c o l →
-    proveAnswer s v k room ≡ fitted room (proof (storeOf s) v k)
-unfolding proveAnswer prove
+    proveAnswer s none v k room ≡ fitted room (proof (storeOf s) v k)
+unfolding proveAnswer prove proof
 single-header s v k room e h = rw (eq-eqb (length k) 32 e, h)
 
-single-refusal : (s : Bytes) (v : ℕ) (k : Bytes) (room : ℕ) {m : ℕ} → length k ≡ 32 → headerOf counted s ≡ refusal m → proveAnswer s v k room ≡ refused m
-unfolding proveAnswer
+single-refusal : (s : Bytes) (v : ℕ) (k : Bytes) (room : ℕ) {m : ℕ} → length k ≡ 32 → headerOf counted s ≡ refusal m → proveAnswer s none v k room ≡ refused m
+unfolding proveAnswer prove proof
 single-refusal s v k room e h = rw (eq-eqb (length k) 32 e, h)
 
 -- a version that isn't kept
@@ -126,8 +127,8 @@ palette-never-0 st v keys room n e z = go (isKept st v) refl
     go true f = fit (inTurn (proof st v) keys) refl (sym (palette-kept st v keys room f) ∙ e)
     go false f = let x : n ≡ 8 = with-number (sym (palette-not-kept st v keys room f) ∙ e) in omega arith
 
-answer-never-0 : (s : Bytes) (v : ℕ) (list : Bytes) (room n : ℕ) → paletteAnswer s v list room ≡ refused n → n ≡ 0 → ⊥
-unfolding paletteAnswer
+answer-never-0 : (s : Bytes) (v : ℕ) (list : Bytes) (room n : ℕ) → paletteAnswer s none v list room ≡ refused n → n ≡ 0 → ⊥
+unfolding paletteAnswer palette proof
 answer-never-0 s v list room n e z = go (wholeKeys list) (headerOf counted s) refl e
   where
     go : (b : Bool) (h : Headed) → headerOf counted s ≡ h → cond b (byHeader h (palette (storeOf s) v (keysIn list) room)) (refused 12) ≡ refused n → ⊥
@@ -144,8 +145,8 @@ pub record Given (s : Bytes) (v : ℕ) (list : Bytes) (room : ℕ) (ps : List Pr
   pub each : ProofOfEach (proof (storeOf s) v) (keysIn list) ps
   pub fits : lengthTogether ps ≤ room
 
-given-is : (s : Bytes) (v : ℕ) (list : Bytes) (room : ℕ) (ps : List Proof) → paletteAnswer s v list room ≡ accepted ps → Given s v list room ps
-unfolding paletteAnswer palette
+given-is : (s : Bytes) (v : ℕ) (list : Bytes) (room : ℕ) (ps : List Proof) → paletteAnswer s none v list room ≡ accepted ps → Given s v list room ps
+unfolding paletteAnswer palette proof
 given-is s v list room ps = go (wholeKeys list) (headerOf counted s) (isKept (storeOf s) v) (inTurn (proof (storeOf s) v) (keysIn list)) refl refl
   where
     within : (qs : List Proof) (b : Bool) → ltb room (lengthTogether qs) ≡ b → cond b (refused 9) (accepted qs) ≡ accepted ps → (qs ≡ ps) × (lengthTogether qs ≤ room)
@@ -170,14 +171,14 @@ given-is s v list room ps = go (wholeKeys list) (headerOf counted s) (isKept (st
         }
 
 module _ {s : Bytes} {v : ℕ} {list room f t g : Bytes} (w : Palettes s v list room f 0 t g) where
-  pub there-are : (ps : List Proof) × (palettedInto s v list room ≡ accepted ps)
-  there-are = accepted-of (palettedInto s v list room) (λ n e. answer-never-0 s v list (length room) n e) (w .answer)
+  pub there-are : (ps : List Proof) × (palettedInto s none v list room ≡ accepted ps)
+  there-are = accepted-of (palettedInto s none v list room) (λ n e. answer-never-0 s v list (length room) n e) (w .answer)
 
   pub its-given : Given s v list (length room) (there-are .0)
   its-given = given-is s v list (length room) (there-are .0) (there-are .1)
 
   pub room-is : t ≡ proofsBytes (there-are .0) ++ drop (length (proofsBytes (there-are .0))) room
-  room-is = w .proofs ∙ ap (λ a. roomAfter a room) (there-are .1)
+  room-is = w .proofs ∙ ap (λ a. roomAfter proofsBytes a room) (there-are .1)
 
   pub told-is : wholeKeys list ≡ true → num g ≡ lengthTogether (there-are .0)
   told-is whole =
@@ -270,7 +271,7 @@ module _ (s list : Bytes) (bytes : All Byte s) (asked : All Byte list) (whole : 
   first : {room f t g : Bytes} {r n : ℕ} → Palettes s v list room f r t g → FirstRefusal s v (keysIn list) n → r ≡ n
   first {room} {r = r} {n = n} w c = w .answer ∙ go (headerOf counted s) refl
     where
-      go : (h : Headed) → headerOf counted s ≡ h → numberOf (palettedInto s v list room) ≡ n
+      go : (h : Headed) → headerOf counted s ≡ h → numberOf (palettedInto s none v list room) ≡ n
       go (refusal m) e =
           ap (λ a. numberOf a) (by-refusal s v list (length room) whole e) ∙ sym (first-by-header e (keys-are-32 list) c)
       go (header a o l) e =
@@ -357,7 +358,7 @@ module _ (s : Bytes) (w : SoundBytes s) (v : ℕ) (kept : Kept (storeOf s) v) (s
     form : ProofForm p
     form = proof-form (storeOf s) v k p slots whole e
 
-    pub is-verified : {f₁ root : Bytes} {r₁ : ℕ} → ReadsRoot s v f₁ r₁ root → verified root k (proofBytes p) ≡ accepted (answerOf k (grantsOfVersion s v))
+    pub is-verified : {f₁ root : Bytes} {r₁ : ℕ} → ReadsRoot s v f₁ r₁ root → Told Judged root k (proofBytes p) (accepted (answerOf k (grantsOfVersion s v)))
     is-verified y =
         let a = root-of-tree w kept y in
         let h = hash leafHash innerHash (unversioned (treeOfVersion s v)) in
@@ -366,7 +367,7 @@ module _ (s : Bytes) (w : SoundBytes s) (v : ℕ) (kept : Kept (storeOf s) v) (s
         let holds : checked leafHash innerHash h k p ≡ accepted (answerOf k (grantsOfVersion s v)) =
         subst (λ q. checked leafHash innerHash h k q ≡ accepted (answerOf k (grantsOfVersion s v))) same (its k whole .2)
         in
-        ap (λ q. verified q k (proofBytes p)) (a .1) ∙ checker-on h k p long (whole .0) form holds
+        subst (λ q. Told Judged q k (proofBytes p) (accepted (answerOf k (grantsOfVersion s v)))) (sym (a .1)) (checker-on h k p long (whole .0) form holds)
 
     is-accepted : {f₁ root f₂ found : Bytes} {r₁ r₂ : ℕ} → ReadsRoot s v f₁ r₁ root → Verifies root k (proofBytes p) f₂ r₂ found →
         (r₂ ≡ 0) × (found ≡ foundBytes (answerOf k (grantsOfVersion s v)))

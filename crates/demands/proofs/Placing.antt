@@ -73,7 +73,7 @@ slots-made number asks st a =
     (recordsOf leafHash innerHash (nextTree number (treeAtVersion st (st .latest)) asks)) (st .slots)))
     number asks st (λ b e. no-refusal (sym e)) (λ b m e. no-refusal (sym e)) (λ b m h e. no-refusal (sym e)) (λ b m room e. refl)
 
-module _ {number : ℕ} {batch s t g : Bytes} (small : number ≤ top32) (asked : All Byte batch) (bytes : All Byte s) (m : Makes number batch s t g) where
+module _ {number : ℕ} {batch s t g : Bytes} (small : number ≤ top32) (bytes : All Byte s) (m : Makes number batch s t g) where
   abbrev old : Store
   old = storeOf s
 
@@ -81,10 +81,10 @@ module _ {number : ℕ} {batch s t g : Bytes} (small : number ≤ top32) (asked 
   new = storeOf t
 
   latest : new .latest ≡ number
-  latest = after small asked m .latest
+  latest = after small m .latest
 
   many : length (new .slots) ≡ length (old .slots)
-  many = after small asked m .capacity
+  many = after small m .capacity
 
   -- slot i before and afterwards
   slot-then : (i : ℕ) → i < length (old .slots) → slotIn counted i s ≡ slotBytes counted (getD (old .slots) i free)
@@ -93,8 +93,8 @@ module _ {number : ℕ} {batch s t g : Bytes} (small : number ≤ top32) (asked 
 
   slot-now : (i : ℕ) → i < length (old .slots) → slotIn counted i t ≡ slotBytes counted (getD (new .slots) i free)
   slot-now i h =
-      ap (slotIn counted i) (m .bytes ∙ ap storeBytes (sym (store-is small asked m)))
-      ∙ slot-in new (sound-form new refl (sound small asked m .sound)) i (omega (arith, many))
+      ap (slotIn counted i) (m .bytes ∙ ap storeBytes (sym (store-is small m)))
+      ∙ slot-in new (sound-form new refl (sound small m .sound)) i (omega (arith, many))
 
   abbrev newTree : VTree
   newTree = treeOfVersion t number
@@ -105,18 +105,18 @@ module _ {number : ℕ} {batch s t g : Bytes} (small : number ≤ top32) (asked 
   needed : recordsNeeded leafHash innerHash number (m .asks) old ≡ newRecords leafHash innerHash number newTree
   needed =
       ap (newRecords leafHash innerHash number)
-      (ap (λ v. nextTree v (treeAtVersion old (old .latest)) (m .asks)) (sym latest) ∙ sym (after small asked m .tree) ∙ tree-now)
+      (ap (λ v. nextTree v (treeAtVersion old (old .latest)) (m .asks)) (sym latest) ∙ sym (after small m .tree) ∙ tree-now)
 
   places : Places number s t
   unfolding At slotBytes marked
   places = record {
     retires = λ i r at there gone.
-        let now = after small asked m .ends i r at there (λ n. gone (subst (λ x. NodeOf (r .version) (r .place) x []) tree-now n)) in
+        let now = after small m .ends i r at there (λ n. gone (subst (λ x. NodeOf (r .version) (r .place) x []) tree-now n)) in
         slot-now i (at .0) ∙ ap (slotBytes counted) (now .1 ∙ ap (λ n. used (marked n r)) latest)
         ∙ marked-bytes number r
         ∙ ap (written retiredAt (le 4 number)) (ap (slotBytes counted) (sym (at .1)) ∙ sym (slot-then i (at .0)));
     keeps = λ i r at stays.
-        let now = after small asked m .stays i r at (λ n. subst (λ x. NodeOf (r .version) (r .place) x []) (sym tree-now) (stays n)) in
+        let now = after small m .stays i r at (λ n. subst (λ x. NodeOf (r .version) (r .place) x []) (sym tree-now) (stays n)) in
         slot-now i (at .0) ∙ ap (slotBytes counted) (now .1 ∙ sym (at .1)) ∙ sym (slot-then i (at .0));
     fills = λ i h e. slot-now i h ∙ ap (slotBytes counted) (filled i h e);
   }
@@ -129,13 +129,13 @@ module _ {number : ℕ} {batch s t g : Bytes} (small : number ≤ top32) (asked 
       filled i h e =
           let was = recordsOf leafHash innerHash (treeAtVersion old (old .latest)) in
           let now = recordsOf leafHash innerHash (nextTree number (treeAtVersion old (old .latest)) (m .asks)) in
-          ap (λ st. getD (st .slots) i free) (store-is small asked m)
+          ap (λ st. getD (st .slots) i free) (store-is small m)
           ∙ ap (λ xs. getD xs i free) (slots-made number (m .asks) old (m .answer) (m .accepted-as))
           ∙ placed-free _ (retire number was now (old .slots)) i (rw (length-map (old .slots) (onRecord (retireIn number was now))) h) (retire-free _ (old .slots) i h e)
           ∙ ap (λ n. slotFor n (recordsNeeded leafHash innerHash number (m .asks) old)) (retire-many number was now (old .slots) i)
           ∙ ap (slotFor (freeSlots (take i (old .slots)))) needed
 
 -- An accepted batch retires, keeps and fills slots as 01 says.
-pub accepted-batch-places : (number : ℕ) (batch : Bytes) {s f t g : Bytes} → number ≤ top32 → All Byte batch → All Byte s →
+pub accepted-batch-places : (number : ℕ) (batch : Bytes) {s f t g : Bytes} → number ≤ top32 → All Byte s →
     Applies number batch s f 0 t g → Places number s t
-accepted-batch-places number batch small asked bytes w = places small asked bytes (makes number batch w refl)
+accepted-batch-places number batch small bytes w = places small bytes (makes number batch w refl)

@@ -4,9 +4,8 @@ use Prim.Native.Nat.{ℕ, _≤_}
 use native.Mathlib.Omega.{arith}
 use mathlib.Core.Path.{_≡_, refl, ap, sym, _∙_, subst}
 use mathlib.Core.Logic.{_↔_, inl, inr}
-use mathlib.Core.Bool.{Bool, true, false, cond, _&&_}
+use mathlib.Core.Bool.{Bool, true, false, cond}
 use mathlib.Core.List.{[], _∷_}
-use mathlib.Core.Option.{Option, none, some}
 use lib.ListN.{length, take}
 use lib.Dec.{eqb, ltb}
 use borrow.Author.Tests.{eqb-true, eqb-false, eq-eqb}
@@ -16,37 +15,37 @@ use Rattle.terms.specs.Fields.{le, num}
 use Rattle.terms.specs.Records.{Proof}
 use Rattle.meaning.specs.Sound.{Kept}
 use Rattle.meaning.specs.Calls.{Answer, refused, accepted}
-use Rattle.meaning.specs.Reading.{spoiltRecord, answerOf}
+use Rattle.meaning.specs.Reading.{Verdict, spoiltRecord, answerOf}
 use Rattle.meaning.specs.Proving.{HoldsGrant, proof, proofLength, fitted, prove}
-use Rattle.meaning.specs.Answers.{numberOf, foundAfter, foundBytes, toldOf}
-use Rattle.proofrecords.specs.ProofBytes.{proofIn}
-use Rattle.proofrecords.proofs.Proofs.{proof-back}
+use Rattle.meaning.specs.Answers.{numberOf, foundAfter, foundBytes, toldOf, roomAfter}
+use Rattle.proofrecords.specs.ProofBytes.{ProofIs, proofBytes}
+use Rattle.proofrecords.proofs.Proofs.{one-proof-is}
 use Rattle.layout.specs.Headers.{Headed, refusal, header, headerOf}
 use Rattle.layout.specs.Stores.{storeOf}
 use Rattle.promises.specs.Calls.{SoundBytes}
 use Rattle.promises.proofs.Calls.{sound-form}
 use Rattle.promises.specs.Headed.{byHeader}
-use Rattle.contracts.specs.Proves.{proveAnswer, roomAfter}
+use Rattle.contracts.specs.Proves.{proveAnswer}
 use Rattle.pocket.specs.Pocket.{Outside, small, inProfile, pocketProve}
 use Rattle.pocket.proofs.Theorems.{inside-shows-short, outside-shows-long, pocket-proofs-have-2296-bytes}
 use Rattle.contracts.specs.Pocket.{pocketAnswer, pocketInto}
-use Rattle.verify_rules.specs.Verify.{verified}
-use Rattle.verify_rules.specs.Pocket.{pocketJudged, pocketVerified}
-use Rattle.verify_rules.proofs.Pocket.{inside-as-the-full-check, off-form-as-the-full-check}
+use Rattle.verify_rules.specs.Verify.{Judged, Told, not-32-bytes, not-in-form, in-form}
+use Rattle.verify_rules.specs.Pocket as told
+use Rattle.verify_rules.specs.Pocket.{PocketJudged}
+use Rattle.verify_rules.proofs.Told.{one-pocket-verdict}
 use Rattle.refusals.specs.Exactly.{Exactly, NoneOf, low, Names}
 use Rattle.refusals.specs.Rows.{Not32, StopsProve, TooLong, ProvedOutside, OutsidePocket}
-use Rattle.refusals.specs.Orders.{pocketHoldingRows}
 use Rattle.refusals.proofs.Exactly.{First, exactly}
 use Rattle.refusals.proofs.Headers.{records-formed}
 use Rattle.refusals.proofs.Stopped.{Stopped, stopped-first, stopped-names}
-use Rattle.refusals.proofs.Proofs.{off-form, proof-is}
-use Rattle.refusals.proofs.Pocket.{pocket-form-first, pocket-stopped}
+use Rattle.refusals.proofs.Pocket.{pocket-judged-first, pocket-stopped}
 use Rattle.contracts.specs.Contracts.{ReadsRoot, Proves, Verifies, PocketProves, PocketVerifies}
 use Rattle.demands.specs.Tables.{pocketProveRows, pocketVerifyRows, testsOf}
 use Rattle.demands.specs.Claims.{grantsOfVersion}
 use Rattle.demands.specs.Pocket.{BesideTheFullCheck, BesideTheFullProver, PocketShown}
 use Rattle.demands.proofs.Refusals.{never-0, header-numbers, refused-of, found-kept}
 use Rattle.demands.proofs.Exact.{read-stopped, key-stopped}
+use Rattle.demands.proofs.Outcomes.{one-verify}
 use Rattle.demands.proofs.Forms.{proof-form}
 use Rattle.demands.proofs.Given.{proof-long, its-proof, its-tests, told-length, front-is}
 use Rattle.demands.proofs.Showing.{sound-is-shown}
@@ -57,7 +56,9 @@ module _ {a b : ℕ} where
   one-pocket-prove x y = (x .answer ∙ sym (y .answer), x .proof ∙ sym (y .proof), x .told ∙ sym (y .told))
 
   pub one-pocket-verify : {root k x f g h : Bytes} → PocketVerifies root k x f a g → PocketVerifies root k x f b h → (a ≡ b) × (g ≡ h)
-  one-pocket-verify x y = (x .answer ∙ sym (y .answer), x .found ∙ sym (y .found))
+  one-pocket-verify {root} {k} {x} {f} u w =
+      let e = one-pocket-verdict root k x (u .verdict) (w .verdict) (u .told) (w .told) in
+      (u .answer ∙ ap (λ v. numberOf v) e ∙ sym (w .answer), u .found ∙ ap (λ v. foundAfter v f) e ∙ sym (w .found))
 
 -- The prover: 12, 1, 2, 8, 14, 17 or 3, 19, 9, and the slot beside 3.
 module _ {s : Bytes} {v : ℕ} {k room f : Bytes} {r : ℕ} {t g : Bytes} (h : All Byte s) (w : PocketProves s v k room f r t g) where
@@ -78,27 +79,20 @@ pub refused-pocket-prove-writes-nothing : {s : Bytes} {v : ℕ} {k room f : Byte
     (t ≡ room) × (g ≡ f)
 refused-pocket-prove-writes-nothing {s} {v} {k} {room} {f} w h =
     let e = refused-of (pocketInto s v k room) (λ z. h (w .answer ∙ z)) in
-    (w .proof ∙ ap (λ a. roomAfter a room) (e .1), w .told ∙ ap (λ a. toldOf (λ p. le 4 (proofLength p)) a f) (e .1))
+    (w .proof ∙ ap (λ a. roomAfter proofBytes a room) (e .1), w .told ∙ ap (λ a. toldOf (λ p. le 4 (proofLength p)) a f) (e .1))
 
 -- The check: 12, 10, 19, 11.
-pub pocket-verify-exactly : {root k x f : Bytes} {r : ℕ} {g : Bytes} → All Byte x → PocketVerifies root k x f r g → Exactly (pocketVerifyRows root k x) r
-unfolding pocketVerified
-pocket-verify-exactly {root} {k} {x} {r = r} h w =
-    exactly (pocketVerifyRows root k x) r refl
-    (subst (First (pocketVerifyRows root k x)) (sym (w .answer)) (sizes (eqb (length root) 32) (eqb (length k) 32) refl refl))
+pub pocket-verify-exactly : {root k x f : Bytes} {r : ℕ} {g : Bytes} → PocketVerifies root k x f r g → Exactly (pocketVerifyRows root k x) r
+pocket-verify-exactly {root} {k} {x} {r = r} w =
+    exactly (pocketVerifyRows root k x) r refl (subst (First (pocketVerifyRows root k x)) (sym (w .answer)) (go (w .told)))
   where
-    form : (o : Option Proof) → proofIn x ≡ o → First (pocketHoldingRows root k x) (numberOf (pocketJudged root k o))
-    form none e = inl (off-form x h e, refl)
-    form (some p) e = pocket-form-first x h root k p e
-
-    sizes : (a b : Bool) → eqb (length root) 32 ≡ a → eqb (length k) 32 ≡ b →
-        First (pocketVerifyRows root k x) (numberOf (cond (a && b) (pocketJudged root k (proofIn x)) (refused 12)))
-    sizes false b e f = inl (λ z. eqb-false (length root) 32 e (z .0), refl)
-    sizes true false e f = inl (λ z. eqb-false (length k) 32 f (z .1 .0), refl)
-    sizes true true e f = inr (λ n. n (eqb-true (length root) 32 e, (eqb-true (length k) 32 f, tt)), form (proofIn x) refl)
+    go : {a : Answer Verdict} → Told PocketJudged root k x a → First (pocketVerifyRows root k x) (numberOf a)
+    go (not-32-bytes n) = inl (λ z. n (z .0, z .1 .0), refl)
+    go (not-in-form s n) = inr (λ z. z (s .0, (s .1, tt)), inl (n, refl))
+    go (in-form {p} s is h) = inr (λ z. z (s .0, (s .1, tt)), inr (λ f. f p is, pocket-judged-first p is h))
 
 pub refused-pocket-verify-writes-nothing : {root k x f : Bytes} {r : ℕ} {g : Bytes} → PocketVerifies root k x f r g → (r ≡ 0 → ⊥) → g ≡ f
-refused-pocket-verify-writes-nothing {root} {k} {x} w = found-kept (pocketVerified root k x) (w .answer) (w .found)
+refused-pocket-verify-writes-nothing w = found-kept (w .verdict) (w .answer) (w .found)
 
 -- a proof that isn't outside is inside
 not-outside : (p : Proof) → (Outside p → ⊥) → small p ≡ true
@@ -109,25 +103,24 @@ not-outside p h = go (small p) refl
     go false e = absurd (h (outside-shows-long p e))
 
 -- The check beside the full one.
-module _ (root k x : Bytes) (bytes : All Byte x) where
-  as-full : (OutsidePocket x → ⊥) → pocketVerified root k x ≡ verified root k x
-  as-full h = go (proofIn x) refl
-    where
-      go : (o : Option Proof) → proofIn x ≡ o → pocketVerified root k x ≡ verified root k x
-      go none e = off-form-as-the-full-check root k x e
-      go (some p) e = inside-as-the-full-check root k x p e (not-outside p (λ o. h (p, proof-is x bytes p e, o)))
+module _ (root k x : Bytes) where
+  as-full : {a : Answer Verdict} → (OutsidePocket x → ⊥) → Told PocketJudged root k x a → Told Judged root k x a
+  as-full h (not-32-bytes n) = not-32-bytes n
+  as-full h (not-in-form s n) = not-in-form s n
+  as-full h (in-form {p} s is (told.outside o)) = absurd (h (p, is, o))
+  as-full h (in-form s is (told.inside n j)) = in-form s is j
 
   pub as-verifies : {f g : Bytes} {r : ℕ} → (OutsidePocket x → ⊥) → PocketVerifies root k x f r g → Verifies root k x f r g
-  as-verifies {f} h w = record { answer = w .answer ∙ ap (λ a. numberOf a) (as-full h); found = w .found ∙ ap (λ a. foundAfter a f) (as-full h) }
+  as-verifies h w = record { verdict = w .verdict; told = as-full h (w .told); answer = w .answer; found = w .found }
 
   inside : {f g g₁ : Bytes} {r r₁ : ℕ} → (OutsidePocket x → ⊥) → PocketVerifies root k x f r g → Verifies root k x f r₁ g₁ → (r ≡ r₁) × (g ≡ g₁)
-  inside h w y = let z = as-verifies h w in (z .answer ∙ sym (y .answer), z .found ∙ sym (y .found))
+  inside h w y = one-verify (as-verifies h w) y
 
   nineteen : {f g : Bytes} {r : ℕ} → PocketVerifies root k x f r g → (r ≡ 19) ↔ ((length root ≡ 32) × (length k ≡ 32) × OutsidePocket x)
   nineteen {r = r} w = (there, back)
     where
       rows : Exactly (pocketVerifyRows root k x) r
-      rows = pocket-verify-exactly bytes w
+      rows = pocket-verify-exactly w
 
       sized : (a b : Bool) → eqb (length root) 32 ≡ a → eqb (length k) 32 ≡ b → (Not32 (root ∷ k ∷ []) → ⊥) → (length root ≡ 32) × (length k ≡ 32)
       sized true true e f h = (eqb-true (length root) 32 e, eqb-true (length k) 32 f)
@@ -144,26 +137,20 @@ module _ (root k x : Bytes) (bytes : All Byte x) where
       back (a, b, o) = rows .each .1 .1 .0 .1 (((tt, λ n. n (a, (b, tt))), λ f. f (o .0) (o .1)), o)
 
   accepted-inside : {f g : Bytes} → PocketVerifies root k x f 0 g → OutsidePocket x → ⊥
-  accepted-inside w o = go (pocket-verify-exactly bytes w .each .1 .1 .1 .1 .0 refl)
+  accepted-inside w o = go (pocket-verify-exactly w .each .1 .1 .1 .1 .0 refl)
     where
       go : {A B : Type 0} → ((A × (OutsidePocket x → ⊥)) × B) → ⊥
       go h = h .0 .1 o
 
   accepted-short : {f g : Bytes} → PocketVerifies root k x f 0 g → length x ≤ 2296
-  unfolding pocketVerified
-  accepted-short w = go (proofIn x) refl
+  accepted-short w = go (w .told) (w .answer)
     where
-      sized : (b : Bool) (o : Option Proof) → 0 ≡ numberOf (cond b (pocketJudged root k o) (refused 12)) → o ≡ none → ⊥
-      sized true none e f = absurd (omega arith)
-      sized false none e f = absurd (omega arith)
-      sized b (some p) e f = let z : _≡_ {A = ℕ} 0 1 = cc in absurd (omega arith)
-
-      go : (o : Option Proof) → proofIn x ≡ o → length x ≤ 2296
-      go none e = absurd (sized (eqb (length root) 32 && eqb (length k) 32) (proofIn x) (w .answer) e)
-      go (some p) e =
-          let is = proof-is x bytes p e in
-          let few = pocket-proofs-have-2296-bytes p (not-outside p (λ o. accepted-inside w (p, is, o))) in
-          omega (arith, ap length (is .bytes) ∙ proof-long p (is .form), few)
+      go : {a : Answer Verdict} → Told PocketJudged root k x a → 0 ≡ numberOf a → length x ≤ 2296
+      go (not-32-bytes n) e = absurd (omega arith)
+      go (not-in-form s n) e = absurd (omega arith)
+      go (in-form s is (told.outside o)) e = absurd (omega arith)
+      go (in-form {p} s is (told.inside n h)) e =
+          let few = pocket-proofs-have-2296-bytes p (not-outside p n) in omega (arith, ap length (is .bytes) ∙ proof-long p (is .form), few)
 
   -- Inside the profile, the pocket check and the full one agree; 19 exactly if a leaf shown has more than 32 steps.
   pub pocket-check-beside-full : BesideTheFullCheck root k x
@@ -180,8 +167,8 @@ same-in-profile room (refused n) h = refl
 same-in-profile room (accepted p) h = ap (λ b. fitted room (cond b (accepted p) (refused 19))) (h p refl)
 
 module _ (s : Bytes) (v : ℕ) (k : Bytes) where
-  as-proved : (room : ℕ) → (ProvedOutside s v k → ⊥) → pocketAnswer s v k room ≡ proveAnswer s v k room
-  unfolding pocketAnswer proveAnswer pocketProve prove
+  as-proved : (room : ℕ) → (ProvedOutside s v k → ⊥) → pocketAnswer s v k room ≡ proveAnswer s none v k room
+  unfolding pocketAnswer proveAnswer pocketProve prove proof
   as-proved room h =
       ap (λ a. cond (eqb (length k) 32) (byHeader (headerOf counted s) a) (refused 12))
       (same-in-profile room (proof (storeOf s) v k) (λ p e. not-outside p (λ o. h (p, e, o))))
@@ -190,7 +177,7 @@ module _ (s : Bytes) (v : ℕ) (k : Bytes) where
   as-proves {room} {f} h w =
       let e = as-proved (length room) h in record {
         answer = w .answer ∙ ap (λ a. numberOf a) e;
-        proof = w .proof ∙ ap (λ a. roomAfter a room) e;
+        proof = w .proof ∙ ap (λ a. roomAfter proofBytes a room) e;
         told = w .told ∙ ap (λ a. toldOf (λ p. le 4 (proofLength p)) a f) e;
       }
 
@@ -279,10 +266,10 @@ module _ {s : Bytes} (w : SoundBytes s) (v : ℕ) (kept : Kept (storeOf s) v) (k
       let given = as-proves s v k (given-inside s v k x) x in
       let p = its-proof given in
       let form = proof-form (storeOf s) v k p (sound-form (storeOf s) refl (w .sound) .each) whole (its-tests given .proved) in
-      let short = not-outside p (λ o. given-inside s v k x (p, its-tests given .proved, o)) in
-      let same = inside-as-the-full-check root k (take (num g) t) p (ap proofIn (front-is given form) ∙ proof-back p form) short in
-      sound-is-shown w v kept k whole some .checked given y
-      (record { answer = z .answer ∙ ap (λ a. numberOf a) same; found = z .found ∙ ap (λ a. foundAfter a f₂) same })
+      let is : ProofIs (take (num g) t) p = record { bytes = front-is given form; form = form } in
+      let short : OutsidePocket (take (num g) t) → ⊥ =
+      λ o. given-inside s v k x (p, its-tests given .proved, subst Outside (one-proof-is (take (num g) t) (o .0) p (o .1) is) (o .2)) in
+      sound-is-shown w v kept k whole some .checked given y (as-verifies root k (take (num g) t) short z)
 
   -- What the pocket prover gives the pocket check accepts.
   pub sound-is-shown-in-pocket : PocketShown s v k

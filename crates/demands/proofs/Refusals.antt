@@ -6,7 +6,7 @@ use mathlib.Core.Path.{_≡_, refl, ap, sym, _∙_, subst}
 use mathlib.Core.Logic.{_⊎_, inl, inr}
 use mathlib.Core.Bool.{Bool, true, false, cond, _&&_, not, false≢true}
 use mathlib.Core.List.{List, [], _∷_}
-use mathlib.Core.Option.{Option}
+use mathlib.Core.Option.{Option, none}
 use lib.ListN.{length}
 use lib.Dec.{eqb, ltb}
 use borrow.Author.Tests.{eqb-false}
@@ -26,19 +26,20 @@ use Rattle.nodehash.specs.Node.{leafHash, innerHash}
 use Rattle.layout.specs.Headers.{Headed, refusal, header, sizeRight, headerOf}
 use Rattle.layout.specs.Stores.{storeOf}
 use Rattle.layout.proofs.Headers.{header-refused}
+use Rattle.proofrecords.specs.ProofBytes.{proofBytes}
+use Rattle.changed.specs.Changes.{listBytes}
 use Rattle.contracts.specs.Format.{formatAnswer, formatBytes}
 use Rattle.promises.specs.Calls.{Does, wrong-header, not-sound, refuses, Exports, exports-refusal, exports-answer}
 use Rattle.promises.proofs.Calls.{refused-writes-nothing}
-use Rattle.meaning.specs.Answers.{numberOf, toldOf, foundAfter}
+use Rattle.meaning.specs.Answers.{numberOf, toldOf, foundAfter, roomAfter}
 use Rattle.promises.specs.Headed.{byHeader}
 use Rattle.contracts.specs.Reads.{rootAnswer, keyAnswer, rootBytes}
 use Rattle.contracts.specs.Numbers.{numberAnswer, positionAnswer, grantBytes}
-use Rattle.contracts.specs.Proves.{proveAnswer, roomAfter, provedInto, lengthBytes}
+use Rattle.contracts.specs.Proves.{proveAnswer, provedInto, lengthBytes}
 use Rattle.contracts.specs.Changes as compared
 use Rattle.contracts.specs.Changes.{countBytes}
 use Rattle.finding_rules.specs.Call.{findingBytes}
-use Rattle.verify_rules.specs.Verify.{verified}
-use Rattle.verify_rows.specs.Rows.{overFront, manyVerified}
+use Rattle.verify_rows.specs.Rows.{overFront}
 use Rattle.rescue_bytes.proofs.Outcomes.{refused-export-leaves}
 use Rattle.move_rules.proofs.Outcomes as move
 use Rattle.contracts.specs.Contracts.{Formats, Applies, Prunes, ReadsRoot, ReadsKey, Counts, ReadsAt, Proves, Changes, Rescues, MovesOver, MovesBack, Verifies, VerifiesMany, Finds}
@@ -133,7 +134,7 @@ prune-refusals n st m e = inl (prune-refuses-exactly leafHash innerHash n st m .
 
 module _ (number : ℕ) (batch : Bytes) {s f t g : Bytes} {r : ℕ} (w : Applies number batch s f r t g) where
   pub refused-apply-writes-nothing : (r ≡ 0 → ⊥) → (t ≡ s) × (g ≡ f)
-  refused-apply-writes-nothing = export-writes-nothing w
+  refused-apply-writes-nothing = export-writes-nothing (w .applied)
 
 module _ (n : ℕ) {s f t g : Bytes} {r : ℕ} (w : Prunes n s f r t g) where
   pub refused-prune-writes-nothing : (r ≡ 0 → ⊥) → (t ≡ s) × (g ≡ f)
@@ -143,7 +144,7 @@ module _ (n : ℕ) {s f t g : Bytes} {r : ℕ} (w : Prunes n s f r t g) where
 module _ {s : Bytes} {v : ℕ} {f : Bytes} {r : ℕ} {g : Bytes} (w : ReadsRoot s v f r g) where
   pub refused-root-writes-nothing : (r ≡ 0 → ⊥) → g ≡ f
   refused-root-writes-nothing h =
-      let e = refused-of (rootAnswer s v) (λ z. h (w .answer ∙ z)) in w .root ∙ ap (λ a. rootBytes a f) (e .1)
+      let e = refused-of (rootAnswer s none v) (λ z. h (w .answer ∙ z)) in w .root ∙ ap (λ a. rootBytes a f) (e .1)
 
 -- What a key's answer leaves of an array.
 pub found-kept : {f g : Bytes} {r : ℕ} (a : Answer Verdict) → r ≡ numberOf a → g ≡ foundAfter a f → (r ≡ 0 → ⊥) → g ≡ f
@@ -152,7 +153,7 @@ found-kept {f} a e h n = let d = refused-of a (λ z. n (e ∙ z)) in h ∙ ap (�
 -- A key read.
 module _ {s : Bytes} {v : ℕ} {k f : Bytes} {r : ℕ} {g : Bytes} (w : ReadsKey s v k f r g) where
   pub refused-get-writes-nothing : (r ≡ 0 → ⊥) → g ≡ f
-  refused-get-writes-nothing = found-kept (keyAnswer s v k) (w .answer) (w .found)
+  refused-get-writes-nothing = found-kept (keyAnswer s none v k) (w .answer) (w .found)
 
 -- What an answer tells of an array.
 told-kept : {A : Type 0} (told : A → Bytes) {f g : Bytes} {r : ℕ} (a : Answer A) → r ≡ numberOf a → g ≡ toldOf told a f → (r ≡ 0 → ⊥) → g ≡ f
@@ -161,11 +162,11 @@ told-kept told {f = f} a e h n = let d = refused-of a (λ z. n (e ∙ z)) in h �
 -- The two reads by counts.
 module _ {s : Bytes} {v : ℕ} {f : Bytes} {r : ℕ} {g : Bytes} (w : Counts s v f r g) where
   pub refused-count-writes-nothing : (r ≡ 0 → ⊥) → g ≡ f
-  refused-count-writes-nothing = told-kept (le 8) (numberAnswer s v) (w .answer) (w .count)
+  refused-count-writes-nothing = told-kept (le 8) (numberAnswer s none v) (w .answer) (w .count)
 
 module _ {s : Bytes} {v i : ℕ} {f : Bytes} {r : ℕ} {g : Bytes} (w : ReadsAt s v i f r g) where
   pub refused-at-writes-nothing : (r ≡ 0 → ⊥) → g ≡ f
-  refused-at-writes-nothing = told-kept grantBytes (positionAnswer s v i) (w .answer) (w .grant)
+  refused-at-writes-nothing = told-kept grantBytes (positionAnswer s none v i) (w .answer) (w .grant)
 
 -- Proving: no refusal is 0.
 stopped-nonzero : (t : Trouble) → refusalOf t ≡ 0 → ⊥
@@ -216,8 +217,8 @@ proof-nonzero st v k n e = go (isKept st v) (sym (proof-by-searches st v k) ∙ 
     go true h = end-nonzero k (walk k 0 [] (seen (scan st) v)) n h
     go false h = refused-nonzero 8 (λ z. omega arith) n h
 
-pub prove-nonzero : (s : Bytes) (v : ℕ) (k : Bytes) (room n : ℕ) → proveAnswer s v k room ≡ refused n → n ≡ 0 → ⊥
-unfolding proveAnswer prove
+pub prove-nonzero : (s : Bytes) (v : ℕ) (k : Bytes) (room n : ℕ) → proveAnswer s none v k room ≡ refused n → n ≡ 0 → ⊥
+unfolding proveAnswer prove proof
 prove-nonzero s v k room n = go (eqb (length k) 32) (headerOf counted s) (λ m. header-numbers s)
   where
     go : (b : Bool) (h : Headed) → ((m : ℕ) → h ≡ refusal m → OneOf (1 ∷ 2 ∷ []) m) →
@@ -229,15 +230,15 @@ prove-nonzero s v k room n = go (eqb (length k) 32) (headerOf counted s) (λ m. 
 module _ {s : Bytes} {v : ℕ} {k room f : Bytes} {r : ℕ} {t g : Bytes} (w : Proves s v k room f r t g) where
   pub refused-prove-writes-nothing : (r ≡ 0 → ⊥) → (t ≡ room) × (g ≡ f)
   refused-prove-writes-nothing h =
-      let e = refused-of (provedInto s v k room) (λ z. h (w .answer ∙ z)) in
-      (w .proof ∙ ap (λ a. roomAfter a room) (e .1), w .told ∙ ap (λ a. lengthBytes a f) (e .1))
+      let e = refused-of (provedInto s none v k room) (λ z. h (w .answer ∙ z)) in
+      (w .proof ∙ ap (λ a. roomAfter proofBytes a room) (e .1), w .told ∙ ap (λ a. lengthBytes a f) (e .1))
 
 -- A comparison.
 module _ {first second limit : ℕ} {s room f : Bytes} {r : ℕ} {t g : Bytes} (w : Changes first second limit s room f r t g) where
   pub refused-changes-writes-nothing : (r ≡ 0 → ⊥) → (t ≡ room) × (g ≡ f)
   refused-changes-writes-nothing h =
       let e = refused-of (w .answer) (λ z. h (w .number ∙ z)) in
-      (w .list ∙ ap (λ a. compared.roomAfter a room) (e .1), w .told ∙ ap (λ a. countBytes a f) (e .1))
+      (w .list ∙ ap (λ a. roomAfter listBytes a room) (e .1), w .told ∙ ap (λ a. countBytes a f) (e .1))
 
 -- A rescue.
 pub refused-rescue-writes-nothing : {oldest latest : ℕ} {s old f t g : Bytes} {r : ℕ} → Rescues oldest latest s old f r t g → (r ≡ 0 → ⊥) →
@@ -260,11 +261,11 @@ refused-back-writes-nothing w h = move.refused-writes-nothing w h
 -- The proof check.
 module _ {root k x f : Bytes} {r : ℕ} {g : Bytes} (w : Verifies root k x f r g) where
   pub refused-verify-writes-nothing : (r ≡ 0 → ⊥) → g ≡ f
-  refused-verify-writes-nothing = found-kept (verified root k x) (w .answer) (w .found)
+  refused-verify-writes-nothing = found-kept (w .verdict) (w .answer) (w .found)
 
 -- Many proofs at once.
 module _ {root list row old : Bytes} {r : ℕ} {new : Bytes} (w : VerifiesMany root list row old r new) where
   pub refused-verify-many-writes-nothing : (r ≡ 0 → ⊥) → new ≡ old
   refused-verify-many-writes-nothing h =
-      let e = refused-of (manyVerified root list row (length old)) (λ z. h (w .answer ∙ z)) in
-      w .told ∙ ap (λ a. toldOf (λ b. overFront b old) a old) (e .1)
+      let e = refused-of (w .answers) (λ z. h (w .answer ∙ z)) in
+      w .buffer ∙ ap (λ a. toldOf (λ b. overFront b old) a old) (e .1)

@@ -5,23 +5,24 @@ use mathlib.Core.Path.{_≡_, refl, ap, sym, _∙_}
 use mathlib.Core.List.{[], _∷_, _++_, append-nil, append-assoc}
 use mathlib.Core.Option.{Option, none, some}
 use lib.ListN.{length, length-append}
-use borrow.Author.Tests.{eq-eqb, le-ltb}
+use borrow.Author.Tests.{le-ltb}
 use Rattle.terms.specs.declared.Form.the-variants.{Counted as counted}
-use Rattle.terms.specs.Bits.{Bytes, Byte, All}
+use Rattle.terms.specs.Bits.{Bytes}
 use Rattle.terms.specs.Fields.{le, num, field, slice, flat}
 use Rattle.terms.specs.Records.{Presence, Absence, Proof, presence, absence}
 use Rattle.terms.proofs.Fields.{num-le, length-le, slice-between}
 use Rattle.meaning.specs.Sound.{Kept}
-use Rattle.meaning.specs.Calls.{accepted}
-use Rattle.meaning.specs.Answers.{numberOf}
+use Rattle.meaning.specs.Calls.{Answer, accepted}
+use Rattle.meaning.specs.Reading.{Verdict}
+use Rattle.meaning.specs.Answers.{numberOf, roomAfter}
 use Rattle.shown.proofs.Theorems.{kept-test}
-use Rattle.proofrecords.specs.ProofBytes.{absenceKind, presenceKind, absenceHead, flagsOf, proofIn, neighbourBytes, proofBytes, absenceBytes, ProofForm}
+use Rattle.proofrecords.specs.ProofBytes.{absenceKind, absenceHead, flagsOf, neighbourBytes, proofBytes, absenceBytes, ProofForm}
 use Rattle.layout.specs.Headers.{header, headerOf}
 use Rattle.layout.specs.Stores.{storeOf}
-use Rattle.refusals.proofs.Proofs.{proof-is}
-use Rattle.verify_rules.specs.Verify.{judged, verified}
+use Rattle.verify_rules.specs.Verify.{Judged, Told, not-32-bytes, not-in-form, in-form}
 use Rattle.palette_rules.specs.Palette.{wholeKeys, keysIn, palette}
-use Rattle.contracts.specs.Palettes.{paletteAnswer, roomAfter, lengthBytes}
+use Rattle.meaning.specs.Proving.{proof}
+use Rattle.contracts.specs.Palettes.{paletteAnswer, lengthBytes, proofsBytes}
 use Rattle.contracts.specs.Contracts.{Verifies, Palettes}
 use Rattle.demands.proofs.Given.{kindOf, kind-is}
 
@@ -50,26 +51,24 @@ flags-of a =
     ∙ num-le 2 (flagsOf l r) (omega (arith, flags-small l r))
 
 -- 2026-03: 'From now on flags 0 is off form (10)', also under the zero root and with another key in it.
-pub flags-0-is-off-form : {root k x f g : Bytes} {r : ℕ} → All Byte x → length root ≡ 32 → length k ≡ 32 → field 4 2 x ≡ absenceKind →
+pub flags-0-is-off-form : {root k x f g : Bytes} {r : ℕ} → length root ≡ 32 → length k ≡ 32 → field 4 2 x ≡ absenceKind →
     field 6 2 x ≡ 0 → Verifies root k x f r g → r ≡ 10
-unfolding verified
-flags-0-is-off-form {root} {k} {x} {f} {g} {r} bytes e d kind flags w =
-    let is : verified root k x ≡ judged root k (proofIn x) = rw (eq-eqb (length root) 32 e, eq-eqb (length k) 32 d) in
-    go (proofIn x) refl (w .answer ∙ ap (λ a. numberOf a) is)
+flags-0-is-off-form {root} {k} {x} e d kind flags w = w .answer ∙ go (w .told)
   where
     flagged : (p : Proof) → ProofForm p → field 4 2 (proofBytes p) ≡ absenceKind → field 6 2 (proofBytes p) ≡ 0 → ⊥
     flagged (presence q) h a b = omega (arith, a, kind-alone (presence q))
     flagged (absence q) h a b = omega (arith, b, flags-of q, h .3)
 
-    go : (o : Option Proof) → proofIn x ≡ o → r ≡ numberOf (judged root k o) → r ≡ 10
-    go none h n = n
-    go (some p) h n =
-        let is = proof-is x bytes p h in absurd (flagged p (is .form) (ap (field 4 2) (sym (is .bytes)) ∙ kind) (ap (field 6 2) (sym (is .bytes)) ∙ flags))
+    go : {a : Answer Verdict} → Told Judged root k x a → numberOf a ≡ 10
+    go (not-32-bytes n) = absurd (n (e, d))
+    go (not-in-form s n) = refl
+    go (in-form {p} s is h) =
+        absurd (flagged p (is .form) (ap (field 4 2) (sym (is .bytes)) ∙ kind) (ap (field 6 2) (sym (is .bytes)) ∙ flags))
 
 -- 2026-04: 'No keys: 1, 2 and 8 are still tested, then it is accepted', also in an empty version: nothing is written, and the length is 0.
 pub no-keys-are-accepted : {s room f t g : Bytes} {v r c o l : ℕ} → headerOf counted s ≡ header c o l → Kept (storeOf s) v →
     Palettes s v [] room f r t g → (r ≡ 0) × (t ≡ room) × (g ≡ le 4 0)
-unfolding paletteAnswer palette wholeKeys keysIn
+unfolding paletteAnswer palette wholeKeys keysIn proof
 no-keys-are-accepted {s} {room} {f} {v = v} headed kept w =
-    let is : paletteAnswer s v [] (length room) ≡ accepted [] = rw (headed, kept-test (storeOf s) v kept) (rw (le-ltb (length room) 0 (omega arith))) in
-    (w .answer ∙ ap (λ a. numberOf a) is, w .proofs ∙ ap (λ a. roomAfter a room) is, w .told ∙ ap (λ a. lengthBytes a f) is)
+    let is : paletteAnswer s none v [] (length room) ≡ accepted [] = rw (headed, kept-test (storeOf s) v kept) (rw (le-ltb (length room) 0 (omega arith))) in
+    (w .answer ∙ ap (λ a. numberOf a) is, w .proofs ∙ ap (λ a. roomAfter proofsBytes a room) is, w .told ∙ ap (λ a. lengthBytes a f) is)

@@ -6,6 +6,7 @@ use mathlib.Core.Path.{_≡_, refl, ap, sym, _∙_, subst}
 use mathlib.Core.Logic.{_↔_}
 use mathlib.Core.Bool.{Bool, true, false, cond}
 use mathlib.Core.List.{[], _∷_}
+use mathlib.Core.Option.{none}
 use lib.ListN.{length, take}
 use lib.Dec.{ltb}
 use borrow.Author.Tests.{eq-eqb, ltb-true, ltb-false}
@@ -23,14 +24,14 @@ use Rattle.shown.proofs.Verdicts.{accepted-same, Agrees}
 use Rattle.shown.proofs.Theorems.{proof-agrees-with-read, proofs-have-17080-bytes, given-with-room, nine-without-room, root-read-is-hash, key-read-is-answer, shown, empty-root-is-zeros, empty-is-fourteen, fourteen-exactly-without-grant}
 use Rattle.nodehash.specs.Node.{leafHash, innerHash}
 use Rattle.proofrecords.specs.ProofBytes.{presenceKind, absenceKind, proofBytes, ProofForm}
-use Rattle.proofrecords.proofs.Proofs.{proof-back}
 use Rattle.layout.specs.Stores.{storeOf}
 use Rattle.promises.specs.Calls.{SoundBytes}
 use Rattle.promises.proofs.Calls.{sound-form}
 use Rattle.contracts.specs.Reads.{rootAnswer, keyAnswer, rootBytes}
 use Rattle.contracts.proofs.Reading.{root-read-of-sound, key-read-of-sound}
 use Rattle.contracts.specs.Proves.{proveAnswer, provedInto}
-use Rattle.verify_rules.specs.Verify.{verified}
+use Rattle.verify_rules.specs.Verify.{Judged, Told, in-form}
+use Rattle.verify_rules.proofs.Told.{judged-exactly, one-verdict}
 use Rattle.meaning.specs.Answers.{numberOf, foundBytes, foundAfter}
 use Rattle.contracts.specs.Contracts.{ReadsRoot, ReadsKey, Proves, Verifies}
 use Rattle.demands.specs.Claims.{treeOfVersion, grantsOfVersion, Shown, NothingToShow}
@@ -40,10 +41,10 @@ use Rattle.demands.proofs.Forms.{proof-form}
 use Rattle.demands.proofs.Given.{kindOf, its-proof, its-tests, kind-told, front-is}
 
 -- what an accepted answer leaves
-root-left : {s : Bytes} {v : ℕ} {f : Bytes} {r : ℕ} {g h : Bytes} → ReadsRoot s v f r g → rootAnswer s v ≡ accepted h → (r ≡ 0) × (g ≡ h)
+root-left : {s : Bytes} {v : ℕ} {f : Bytes} {r : ℕ} {g h : Bytes} → ReadsRoot s v f r g → rootAnswer s none v ≡ accepted h → (r ≡ 0) × (g ≡ h)
 root-left {f = f} x e = (x .answer ∙ ap (λ a. numberOf a) e, x .root ∙ ap (λ a. rootBytes a f) e)
 
-key-left : {s : Bytes} {v : ℕ} {k f : Bytes} {r : ℕ} {g : Bytes} {a : Verdict} → ReadsKey s v k f r g → keyAnswer s v k ≡ accepted a →
+key-left : {s : Bytes} {v : ℕ} {k f : Bytes} {r : ℕ} {g : Bytes} {a : Verdict} → ReadsKey s v k f r g → keyAnswer s none v k ≡ accepted a →
     (r ≡ 0) × (g ≡ foundBytes a)
 key-left {f = f} x e = (x .answer ∙ ap (λ b. numberOf b) e, x .found ∙ ap (λ b. foundAfter b f) e)
 
@@ -67,17 +68,17 @@ by-kind (absence c) k a e g =
 
 -- the checker on the bytes of a proof in form
 pub checker-on : (root k : Bytes) (p : Proof) {a : Verdict} → length root ≡ 32 → length k ≡ 32 → ProofForm p →
-    checked leafHash innerHash root k p ≡ accepted a → verified root k (proofBytes p) ≡ accepted a
-unfolding verified
-checker-on root k p r l h e = rw (eq-eqb (length root) 32 r, eq-eqb (length k) 32 l, proof-back p h) e
+    checked leafHash innerHash root k p ≡ accepted a → Told Judged root k (proofBytes p) (accepted a)
+checker-on root k p {a} r l h e = in-form (r, l) (record { bytes = refl; form = h }) (judged-exactly root k p (accepted a) .1 (sym e))
 
-pub verify-left : {root k x f : Bytes} {r : ℕ} {g : Bytes} {a : Verdict} → Verifies root k x f r g → verified root k x ≡ accepted a →
+pub verify-left : {root k x f : Bytes} {r : ℕ} {g : Bytes} {a : Verdict} → Verifies root k x f r g → Told Judged root k x (accepted a) →
     (r ≡ 0) × (g ≡ foundBytes a)
-verify-left {f = f} x e = (x .answer ∙ ap (λ b. numberOf b) e, x .found ∙ ap (λ b. foundAfter b f) e)
+verify-left {root} {k} {x} {f} {a = a} w t =
+    let e = one-verdict root k x (w .verdict) (accepted a) (w .told) t in (w .answer ∙ ap (λ b. numberOf b) e, w .found ∙ ap (λ b. foundAfter b f) e)
 
 module _ {s : Bytes} (w : SoundBytes s) (v : ℕ) (kept : Kept (storeOf s) v) (k : Bytes) (whole : Whole32 k) where
-  proved-into : (room : Bytes) → provedInto s v k room ≡ prove (storeOf s) v k (length room)
-  unfolding proveAnswer
+  proved-into : (room : Bytes) → provedInto s none v k room ≡ prove (storeOf s) v k (length room)
+  unfolding proveAnswer prove proof
   proved-into room = rw (eq-eqb (length k) 32 (whole .0), w .headed)
 
   -- Where the version holds no grant, 14,
@@ -174,8 +175,9 @@ module _ {s : Bytes} (w : SoundBytes s) (v : ℕ) (kept : Kept (storeOf s) v) (k
         let a = root-of-tree w kept y in
         let h = hash leafHash innerHash (unversioned (treeOfVersion s v)) in
         let long = hash-whole (unversioned (treeOfVersion s v)) .0 in
-        let b = verify-left z (ap (λ q. verified q k (take (num g) t)) (a .1) ∙ ap (verified h k) (front-is x form)
-        ∙ checker-on h k (its-proof x) long (whole .0) form holds) in
+        let b = verify-left z (subst (λ q. Told Judged q k (take (num g) t) (accepted (answerOf k (grantsOfVersion s v)))) (sym (a .1))
+        (subst (λ y. Told Judged h k y (accepted (answerOf k (grantsOfVersion s v)))) (sym (front-is x form))
+        (checker-on h k (its-proof x) long (whole .0) form holds))) in
         (a .0, b .0, b .1)
 
   -- Given room, for every version that holds a grant, the prover shows a grant exactly if the key is in the version, else its absence; and the checker accepts it.
@@ -206,9 +208,9 @@ as-read (absence b) k a f {h} e g d c =
 -- On any bytes: a proof that is given shows a grant exactly if the key read finds one.
 pub proof-shows-what-is-read : {s : Bytes} {v : ℕ} {k room f t g f₁ h : Bytes} {r : ℕ} → Proves s v k room f 0 t g → ReadsKey s v k f₁ r h →
     (r ≡ 0) × ((field 4 2 t ≡ presenceKind) ↔ ((x : Bytes) × (h ≡ 1 ∷ x)))
-unfolding keyAnswer
+unfolding keyAnswer readKey
 proof-shows-what-is-read {s} {v} {k} {f₁ = f₁} x y =
     let w = its-tests x in
-    let same : readKey (storeOf s) v k ≡ keyAnswer s v k = rw (eq-eqb (length k) 32 (w .key), w .headed) in
+    let same : readKey (storeOf s) v k ≡ keyAnswer s none v k = rw (eq-eqb (length k) 32 (w .key), w .headed) in
     let agrees = subst (λ a. Agrees k a (its-proof x)) same (proof-agrees-with-read (storeOf s) v k (its-proof x) (w .proved)) in
-    as-read (its-proof x) k (keyAnswer s v k) f₁ (kind-told x) agrees (y .answer) (y .found)
+    as-read (its-proof x) k (keyAnswer s none v k) f₁ (kind-told x) agrees (y .answer) (y .found)

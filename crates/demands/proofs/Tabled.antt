@@ -10,7 +10,7 @@ use lib.ListN.{length}
 use lib.Dec.{eqb}
 use borrow.Author.Tests.{eqb-false}
 use Rattle.terms.specs.declared.Form.the-variants.{Counted as counted}
-use Rattle.terms.specs.Bits.{Bytes, Byte, All}
+use Rattle.terms.specs.Bits.{Bytes}
 use Rattle.terms.specs.Records.{Store}
 use Rattle.meaning.specs.Calls.{Answer, refused, accepted, Result, apply, prune}
 use Rattle.meaning.specs.Answers.{numberOf}
@@ -19,8 +19,9 @@ use Rattle.layout.specs.Sizes.{roomOf}
 use Rattle.layout.specs.Headers.{Headed, refusal, header, headerOf, sizeRight}
 use Rattle.layout.specs.Stores.{storeOf}
 use Rattle.layout.proofs.Headers.{room-of, size-right-of}
-use Rattle.batch.specs.Batch.{batchOf}
+use Rattle.batch.proofs.Batches.{asks-one}
 use Rattle.contracts.specs.Format.{formatAnswer, formatBytes}
+use Rattle.contracts.specs.Apply.{told}
 use Rattle.promises.specs.Check as check
 use Rattle.promises.specs.Calls.{SoundBytes, wrong-header, not-sound, refuses, accepts, Exports, exports-answer}
 use Rattle.index_rules.specs.Tables.{Fits, RightFor, Opened, other-length, checked, Tells, not-opened, not-right, is-right, Builds, not-built, built, FormatsBoth, wrong-size, both-fresh, DoesBoth, not-told, refuses-both, accepts-both, ExportsBoth, both-refused, both-answered}
@@ -50,7 +51,9 @@ module _ {s : Bytes} {table : List ℕ} {a b : ℕ} where
 
   pub one-apply-indexed : (number : ℕ) (batch : Bytes) {f t t′ g h : Bytes} {u v : List ℕ} → AppliesIndexed number batch s table f a t u g →
       AppliesIndexed number batch s table f b t′ v h → (a ≡ b) × (t ≡ t′) × (u ≡ v) × (g ≡ h)
-  one-apply-indexed number batch x y = outcomes.one-export-both x y
+  one-apply-indexed number batch {f} {t′ = t′} {h = h} {v = v} x y =
+      outcomes.one-export-both (x .applied) (subst (λ o. ExportsBoth (apply leafHash innerHash number o) told s table f b t′ v h)
+      (asks-one batch (y .asked) (x .asked) (y .asks) (x .asks)) (y .applied))
 
   pub one-prune-indexed : (n : ℕ) {f t t′ g h : Bytes} {u v : List ℕ} → PrunesIndexed n s table f a t u g →
       PrunesIndexed n s table f b t′ v h → (a ≡ b) × (t ≡ t′) × (u ≡ v) × (g ≡ h)
@@ -71,7 +74,7 @@ module _ {s : Bytes} {table : List ℕ} {r : ℕ} (z : r ≡ 0 → ⊥) where
 
   pub refused-apply-indexed-writes-nothing : (number : ℕ) (batch : Bytes) {f t g : Bytes} {u : List ℕ} → AppliesIndexed number batch s table f r t u g →
       (t ≡ s) × (u ≡ table) × (g ≡ f)
-  refused-apply-indexed-writes-nothing number batch w = both-left w z
+  refused-apply-indexed-writes-nothing number batch w = both-left (w .applied) z
 
   pub refused-prune-indexed-writes-nothing : (n : ℕ) {f t g : Bytes} {u : List ℕ} → PrunesIndexed n s table f r t u g →
       (t ≡ s) × (u ≡ table) × (g ≡ f)
@@ -112,10 +115,15 @@ module _ {A : Type 0} {call : Store → Result A} {told : A → Bytes} {s : Byte
       let w = outcomes.refused-writes-neither d in subst (λ x. RightFor x u) (sym (w .0)) (subst (RightFor s) (sym (w .1)) q)
   both-right (both-answered d) q = outcomes.accepted-right d
 
+pub apply-as-plain : (number : ℕ) (batch : Bytes) {s f t g : Bytes} {table u : List ℕ} {r : ℕ} (w : AppliesIndexed number batch s table f r t u g) → r ≡ 0 →
+    Exports (apply leafHash innerHash number (w .asked)) told s f 0 t g × RightFor s table × RightFor t u
+apply-as-plain number batch {s} w =
+    both-kept (λ m e. never-0 (4 ∷ 5 ∷ 18 ∷ 7 ∷ []) refl (apply-refusals number (w .asked) (storeOf s) m e)) (w .applied)
+
 pub accepted-apply-keeps-the-table : (number : ℕ) (batch : Bytes) {s f t g : Bytes} {table u : List ℕ} → AppliesIndexed number batch s table f 0 t u g →
     Applies number batch s f 0 t g × RightFor s table × RightFor t u
-accepted-apply-keeps-the-table number batch {s} w =
-    both-kept (λ m e. never-0 (4 ∷ 5 ∷ 18 ∷ 7 ∷ []) refl (apply-refusals number (batchOf batch) (storeOf s) m e)) w refl
+accepted-apply-keeps-the-table number batch w =
+    let k = apply-as-plain number batch w refl in (record { asked = w .asked; asks = w .asks; applied = k .0 }, k .1, k .2)
 
 pub accepted-prune-keeps-the-table : (n : ℕ) {s f t g : Bytes} {table u : List ℕ} → PrunesIndexed n s table f 0 t u g →
     Prunes n s f 0 t g × RightFor s table × RightFor t u
@@ -134,7 +142,7 @@ pub right-together : {s : Bytes} {table : List ℕ} → Together s table → Rig
 right-together (formatted-both w) = outcomes.format-right w refl
 right-together (built-for life w) = outcomes.built-right w refl
 right-together (then-formatted k w) = formatted-still w (right-together k)
-right-together (then-applied number batch small h k w) = both-right w (right-together k)
+right-together (then-applied number batch small k w) = both-right (w .applied) (right-together k)
 right-together (then-pruned n k w) = both-right w (right-together k)
 right-together (then-built k w) = built-still w (right-together k)
 right-together (then-looked k w) = right-together k
@@ -217,11 +225,11 @@ both-first call s table more h (both-refused {m} (refuses-both o (refuses w e)))
 both-first call s table more h (both-answered (accepts-both o (accepts w e) q)) =
     right-past s table more 0 o refl (subst (λ x. First more (numberOf x)) e h)
 
-pub apply-indexed-exactly : (number : ℕ) (batch : Bytes) {s f t g : Bytes} {table u : List ℕ} {r : ℕ} → All Byte batch →
+pub apply-indexed-exactly : (number : ℕ) (batch : Bytes) {s f t g : Bytes} {table u : List ℕ} {r : ℕ} →
     AppliesIndexed number batch s table f r t u g → Exactly (applyRowsBy number batch s table) r
-apply-indexed-exactly number batch {s} {table = table} {r = r} h w =
+apply-indexed-exactly number batch {s} {table = table} {r = r} w =
     exactly (applyRowsBy number batch s table) r refl
-    (both-first (apply leafHash innerHash number (batchOf batch)) s table (batchRows number batch s) (batch-first batch h number s) w)
+    (both-first (apply leafHash innerHash number (w .asked)) s table (batchRows number batch s) (batch-first number batch s (w .asked) (w .asks)) (w .applied))
 
 pub prune-indexed-exactly : (n : ℕ) {s f t g : Bytes} {table u : List ℕ} {r : ℕ} → PrunesIndexed n s table f r t u g → Exactly (pruneRowsBy n s table) r
 prune-indexed-exactly n {s} {table = table} {r = r} w =

@@ -6,7 +6,7 @@ use mathlib.Core.Path.{_≡_, refl, ap, sym, _∙_, subst}
 use mathlib.Core.List.{List, [], _∷_, _++_, append-nil}
 use mathlib.Core.Option.{Option, none, some}
 use lib.ListN.{length, getD}
-use Rattle.terms.specs.Bits.{Bytes, Byte, All, Whole32}
+use Rattle.terms.specs.Bits.{Bytes, Whole32}
 use Rattle.terms.specs.Fields.{le, num, field, slice, flat}
 use Rattle.terms.specs.Records.{Ask, Slot, free, used, spoiled, Store}
 use Rattle.terms.specs.Form.{top32}
@@ -21,9 +21,8 @@ use Rattle.histories.proofs.Calls.{recordsNeeded, apply-cases}
 use Rattle.histories.proofs.Theorems.{sound-tree-of-grants, apply-keeps-sound}
 use Rattle.nodehash.specs.Node.{leafHash, innerHash}
 use Rattle.layout.specs.Stores.{storeOf, storeBytes}
-use Rattle.batch.specs.Batch.{batchOf}
-use Rattle.batch.proofs.Batches.{batch-of-back}
-use Rattle.promises.specs.Calls.{SoundBytes, accepts, exports-refusal, exports-answer}
+use Rattle.batch.specs.Asked.{AskedBy, Asks}
+use Rattle.promises.specs.Calls.{SoundBytes, accepts, Exports, exports-refusal, exports-answer}
 use Rattle.contracts.specs.Apply.{answerBytes, told}
 use Rattle.meaning.specs.Answers.{foundBytes}
 use Rattle.contracts.specs.Contracts.{Applies, ReadsRoot, ReadsKey}
@@ -37,7 +36,7 @@ use Rattle.demands.proofs.Alike.{same-tree-reads-as, same-trees-compare
 -- what an accepted batch makes, on the store of the bytes
 pub record Makes (number : ℕ) (batch s t g : Bytes) : Type 0 where
   pub asks : List Ask
-  pub asked : batchOf batch ≡ some asks
+  pub asked : AskedBy batch asks
   pub was : SoundBytes s
   pub answer : Applied
   pub accepted-as : apply leafHash innerHash number (some asks) (storeOf s) .answer ≡ accepted answer
@@ -46,20 +45,19 @@ pub record Makes (number : ℕ) (batch s t g : Bytes) : Type 0 where
 
 pub makes : (number : ℕ) (batch : Bytes) {s f t g : Bytes} {r : ℕ} → Applies number batch s f r t g → r ≡ 0 → Makes number batch s t g
 unfolding refuse
-makes number batch {s} (exports-refusal d) z =
-    absurd (never-0 (1 ∷ 2 ∷ 3 ∷ 4 ∷ 5 ∷ 18 ∷ 7 ∷ []) refl (does-numbers (4 ∷ 5 ∷ 18 ∷ 7 ∷ []) (apply-refusals number (batchOf batch)) d) z)
-makes number batch {s} (exports-answer {a} (accepts w e)) z = go (batchOf batch) refl e
+makes number batch {s} {f} w = go (w .asked) (w .asks) (w .applied)
   where
-    go : (o : Option (List Ask)) → batchOf batch ≡ o → apply leafHash innerHash number o (storeOf s) .answer ≡ accepted a →
-        Makes number batch s (storeBytes (apply leafHash innerHash number (batchOf batch) (storeOf s) .store)) (told a)
-    go none f h = no-refusal (sym h)
-    go (some asks) f h = record {
+    go : (o : Option (List Ask)) → Asks batch o → {n : ℕ} {t g : Bytes} → Exports (apply leafHash innerHash number o) told s f n t g → n ≡ 0 → Makes number batch s t g
+    go o x (exports-refusal d) z =
+        absurd (never-0 (1 ∷ 2 ∷ 3 ∷ 4 ∷ 5 ∷ 18 ∷ 7 ∷ []) refl (does-numbers (4 ∷ 5 ∷ 18 ∷ 7 ∷ []) (apply-refusals number o) d) z)
+    go none x (exports-answer (accepts was e)) z = no-refusal (sym e)
+    go (some asks) x (exports-answer {a} (accepts was e)) z = record {
       asks = asks;
-      asked = f;
-      was = w;
+      asked = x;
+      was = was;
       answer = a;
-      accepted-as = h;
-      bytes = ap (λ o. storeBytes (apply leafHash innerHash number o (storeOf s) .store)) f;
+      accepted-as = e;
+      bytes = refl;
       told-as = refl;
     }
 
@@ -102,14 +100,14 @@ count-is number asks st a =
     same : {x : Applied} → _≡_ {A = Answer Applied} (accepted x) (accepted a) → a .count ≡ x .count
     same e = cc
 
-module _ {number : ℕ} {batch s t g : Bytes} (small : number ≤ top32) (bytes : All Byte batch) (m : Makes number batch s t g) where
+module _ {number : ℕ} {batch s t g : Bytes} (small : number ≤ top32) (m : Makes number batch s t g) where
   abbrev pub st′ : Store
   st′ = apply leafHash innerHash number (some (m .asks)) (storeOf s) .store
 
   made : AfterApply leafHash innerHash number (m .asks) (storeOf s) (m .answer) st′
   made =
       apply-keeps-sound leafHash innerHash leaf-hash-whole inner-hash-whole number (m .asks) (storeOf s) (m .answer) (m .was .sound) small
-      (batch-of-back batch (m .asks) bytes (m .asked) .2) (m .accepted-as)
+      (m .asked .form) (m .accepted-as)
 
   pub sound : SoundBytes t
   sound = subst SoundBytes (sym (m .bytes)) (stored-sound st′ (apply-form number (some (m .asks)) (storeOf s)) (made .sound))
@@ -195,6 +193,6 @@ module _ {number : ℕ} {batch s t g : Bytes} (small : number ≤ top32) (bytes 
   }
 
 -- An accepted batch makes the version of its number.
-pub accepted-batch-makes-next-version : (number : ℕ) (batch : Bytes) {s f t g : Bytes} → number ≤ top32 → All Byte batch →
+pub accepted-batch-makes-next-version : (number : ℕ) (batch : Bytes) {s f t g : Bytes} → number ≤ top32 →
     Applies number batch s f 0 t g → NextVersion number batch s t g
-accepted-batch-makes-next-version number batch small bytes w = next-version small bytes (makes number batch w refl)
+accepted-batch-makes-next-version number batch small w = next-version small (makes number batch w refl)

@@ -13,7 +13,6 @@ use Rattle.meaning.specs.History.{Call, formatting, applying, pruning, taking, 
 use Rattle.meaning.specs.Course.{held}
 use Rattle.histories.specs.Claims.{NoGap}
 use Rattle.layout.specs.Stores.{storeIn, storeOf}
-use Rattle.batch.specs.Batch.{batchOf}
 use Rattle.rescue_bytes.specs.Rescues.{slotsIn}
 use Rattle.rescue_bytes.specs.Claims.{runLedger}
 use Rattle.move_rules.specs.Claims.{SoundIn}
@@ -30,16 +29,15 @@ takenOver source latest g = runLedger (slotsIn source) (field 0 4 g) (latest - f
 pub data Called (s : Bytes) : Call × Bool → Bytes → Type 0 where
   -- formatting again, too
   formats : {r : ℕ} {t : Bytes} → Formats s r t → Called s (formatting, eqb r 0) t
-  -- a batch is lent bytes, and its number has four
-  applies : (number : ℕ) (batch : Bytes) {f t g : Bytes} {r : ℕ} → number ≤ top32 → All Byte batch →
-      Applies number batch s f r t g → Called s (applying number (batchOf batch), eqb r 0) t
+  -- the number of a batch has four bytes
+  applies : (number : ℕ) (batch : Bytes) {f t g : Bytes} {r : ℕ} → number ≤ top32 →
+      (w : Applies number batch s f r t g) → Called s (applying number (w .asked), eqb r 0) t
   prunes : {n r : ℕ} {f t g : Bytes} → Prunes n s f r t g → Called s (pruning n, eqb r 0) t
   -- with a table, format, apply and prune do to the store what they do without it, or are refused (2026-05)
   formats-both : {table u : List ℕ} {r : ℕ} {t : Bytes} → FormatsIndexed s table r t u →
       Called s (formatting, eqb r 0) t
   applies-both : (number : ℕ) (batch : Bytes) {table u : List ℕ} {f t g : Bytes} {r : ℕ} → number ≤ top32 →
-      All Byte batch → AppliesIndexed number batch s table f r t u g →
-      Called s (applying number (batchOf batch), eqb r 0) t
+      (w : AppliesIndexed number batch s table f r t u g) → Called s (applying number (w .asked), eqb r 0) t
   prunes-both : {table u : List ℕ} {n r : ℕ} {f t g : Bytes} → PrunesIndexed n s table f r t u g →
       Called s (pruning n, eqb r 0) t
   -- the target of a rescue begins anew, with what the source's trees of the run hold (2026-08)

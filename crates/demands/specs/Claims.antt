@@ -16,19 +16,17 @@ use Rattle.meaning.specs.Sound.{At, Kept, NodeOf, Lives}
 use Rattle.meaning.specs.Calls.{accepted, Applied}
 use Rattle.meaning.specs.Reading.{Verdict, present, absent, answerOf}
 use Rattle.checker.specs.Holding as checker
-use Rattle.refusals.specs.Rows.{ProofIs}
 use Rattle.meaning.specs.Proving.{proof, proofLength}
 use Rattle.meaning.specs.History.{Call, Entry, ledger, grantsOf, Holds}
 use Rattle.histories.specs.Claims.{AfterApply, AfterPrune}
 use Rattle.changed.specs.Changes.{Change, undone, items, listBytes}
 use Rattle.changed.specs.Compare.{changesOf, visitsOf}
 use Rattle.changed.specs.Claims.{WhatChanged}
-use Rattle.fields.specs.Written.{written}
 use Rattle.nodehash.specs.Node.{leafHash, innerHash}
-use Rattle.proofrecords.specs.ProofBytes.{presenceKind, absenceKind}
+use Rattle.proofrecords.specs.ProofBytes.{presenceKind, absenceKind, ProofIs}
 use Rattle.layout.specs.Sizes.{slotSize}
 use Rattle.layout.specs.Stores.{slotIn, storeOf, storeBytes}
-use Rattle.batch.specs.Batch.{batchOf}
+use Rattle.batch.specs.Asked.{AskedBy}
 use Rattle.promises.specs.Calls.{SoundBytes}
 use Rattle.rescue_rules.specs.Rescue.{sourceTree}
 use Rattle.rescue_bytes.specs.Rescues.{slotsIn, Report, reportBytes}
@@ -36,7 +34,7 @@ use Rattle.rescue_bytes.specs.Claims.{Worth, AsItWas}
 use Rattle.move_rules.specs.Claims.{Moved}
 use Rattle.contracts.specs.Apply.{told}
 use Rattle.meaning.specs.Counting.{grantAt}
-use Rattle.meaning.specs.Answers.{foundBytes, numberOf, toldOf}
+use Rattle.meaning.specs.Answers.{foundBytes, numberOf, toldOf, roomAfter}
 use Rattle.contracts.specs.Numbers.{grantBytes}
 use Rattle.contracts.specs.Contracts.{ReadsRoot, ReadsKey, Proves, Palettes, Changes, Verifies, Counts, ReadsAt}
 
@@ -123,7 +121,7 @@ pub record ComparesAs (t : Bytes) (v v′ : ℕ) (s : Bytes) (w w′ : ℕ) : Ty
 -- version 4, root 32, count 4. By 2026-13 the next version is that of the given number.
 pub record NextVersion (number : ℕ) (batch s t g : Bytes) : Type 0 where
   pub asks : List Ask
-  pub asked : batchOf batch ≡ some asks
+  pub asked : AskedBy batch asks
   pub was : SoundBytes s
   pub sound : SoundBytes t
   pub bytes : t ≡ storeBytes (storeOf t)
@@ -231,7 +229,7 @@ pub record ListsChanges (first second limit : ℕ) (s room t g : Bytes) : Type 0
   -- first and second swapped list what undoes it, and equal versions nothing
   pub undoes : changesOf (storeOf s) second first ≡ map undone changes
   pub equal : first ≡ second → changes ≡ []
-  pub room-holds : t ≡ written 0 (listBytes (items changes)) room
+  pub room-holds : t ≡ roomAfter listBytes (accepted (items changes)) room
   pub told : g ≡ le 4 (length (items changes))
   -- there are at most 16,384 of them
   pub short : length (items changes) ≤ 16384

@@ -9,7 +9,7 @@ use Rattle.meaning.specs.Answers.{numberOf, toldOf}
 use Rattle.meaning.specs.Desk.{Row, applies, prunes, reads, table}
 use Rattle.nodehash.specs.Node.{leafHash, innerHash}
 use Rattle.layout.specs.Stores.{storeBytes}
-use Rattle.batch.specs.Batch.{asksBytes}
+use Rattle.batch.specs.Asked.{asksBytes}
 use Rattle.contracts.specs.Apply.{told}
 use Rattle.contracts.specs.Contracts.{Applies, Prunes, ReadsRoot}
 

@@ -14,7 +14,8 @@ use Rattle.meaning.specs.Proving.{HoldsGrant}
 use Rattle.sha256.specs.Sha256.{sha256}
 use Rattle.layout.specs.Stores.{storeOf}
 use Rattle.promises.specs.Calls.{SoundBytes}
-use Rattle.refusals.specs.Rows.{ProofIs, rootOfVersion}
+use Rattle.refusals.specs.Rows.{rootOfVersion}
+use Rattle.proofrecords.specs.ProofBytes.{ProofIs}
 use Rattle.forgery.specs.Finding.{True, Among}
 use Rattle.finding_rules.specs.Claims.{theMessages}
 use Rattle.demands.specs.Claims.{grantsOfVersion, Accepts}

@@ -9,7 +9,7 @@ use Rattle.terms.specs.Fields.{num, flat, zeroBytes}
 use Rattle.meaning.specs.Reading.{answerOf}
 use Rattle.meaning.specs.Answers.{foundBytes}
 use Rattle.palette_rules.specs.Palette.{keysIn}
-use Rattle.refusals.specs.Rows.{Piece}
+use Rattle.verify_rows.specs.Rows.{Piece}
 use Rattle.contracts.specs.Contracts.{ReadsRoot, ReadsKey, Palettes, Verifies, VerifiesMany}
 use Rattle.demands.specs.Claims.{grantsOfVersion}
 

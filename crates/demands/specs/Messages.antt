@@ -10,7 +10,7 @@ use Rattle.terms.specs.Bits.{Bytes}
 use Rattle.terms.specs.Fields.{le, num}
 use Rattle.terms.specs.Records.{Presence, Proof}
 use Rattle.meaning.specs.Answers.{foundBytes}
-use Rattle.meaning.specs.Checking.{leadsTo}
+use Rattle.checker.specs.Holding.{Leads}
 use Rattle.sha256.specs.Sha256.{sha256}
 use Rattle.nodehash.specs.Node.{leafHash, innerHash}
 use Rattle.messages.specs.Message.{mostBytes, ownPresence}
@@ -66,5 +66,5 @@ pub record MessageTaken (m t g : Bytes) : Type 0 where
 
 -- A partner's check is led to a root by an existence proof of a message exactly if our own record of it is.
 pub record LedAlike (p : Presence) : Type 0 where
-  pub led : (root : Bytes) →
-      isRoot root (calculated ourSpec sha256 (existenceOf p)) ≡ leadsTo leafHash innerHash root (ownPresence sha256 p)
+  pub led : (root : Bytes) → (isRoot root (calculated ourSpec sha256 (existenceOf p)) ≡ true) ↔
+      Leads leafHash innerHash root (sha256 (p .key)) (ownPresence sha256 p)

@@ -4,7 +4,7 @@ use Prim.Native.Nat.{ℕ, _≤_}
 use mathlib.Core.Bool.{Bool, false}
 use mathlib.Core.List.{List, [], _∷_, _++_}
 use lib.Dec.{eqb}
-use Rattle.terms.specs.Bits.{Bytes, Byte, All}
+use Rattle.terms.specs.Bits.{Bytes}
 use Rattle.terms.specs.Form.{top32}
 use Rattle.meaning.specs.History.{Call, looking, Entry}
 use Rattle.index_rules.specs.Tables.{RightFor}
@@ -51,8 +51,7 @@ pub data Together : Bytes → List ℕ → Type 0 where
   then-formatted : {s t : Bytes} {table u : List ℕ} {r : ℕ} → Together s table → FormatsIndexed s table r t u →
       Together t u
   then-applied : (number : ℕ) (batch : Bytes) {r : ℕ} {s f t g : Bytes} {table u : List ℕ} → number ≤ top32 →
-      All Byte batch → Together s table →
-      AppliesIndexed number batch s table f r t u g → Together t u
+      Together s table → AppliesIndexed number batch s table f r t u g → Together t u
   then-pruned : (n : ℕ) {r : ℕ} {s f t g : Bytes} {table u : List ℕ} → Together s table →
       PrunesIndexed n s table f r t u g → Together t u
   then-built : {s : Bytes} {table u : List ℕ} {r : ℕ} → Together s table → Indexes s table r u → Together s u

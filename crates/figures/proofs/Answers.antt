@@ -21,7 +21,7 @@ use Rattle.quarter.specs.Figures.{rangeRight, Quarter, quarterOf, figures}
 use Rattle.quarter.specs.Living.{livingRecords}
 use Rattle.quarter.proofs.Theorems.{RangeRight, range-right, living-counts}
 use Rattle.figures.specs.Figures.{Totals, totals, totalsOf, Tells}
-use Rattle.contracts.specs.Figures.{eachBytes, roomAfter}
+use Rattle.contracts.proofs.Rooms.{front-written}
 use Rattle.figures.specs.Parts.{Range, Writes}
 
 -- the front of the room
@@ -78,7 +78,7 @@ module _ {s : Bytes} (w : SoundBytes s) (first last : ℕ) (room : Bytes) where
             subst (Does (figures first last (length room)) s (accepted (quarterOf st first last)))
             (ap (λ (o : Result Quarter). storeBytes (o .store)) it-fits ∙ sound-back w b) (accepts w (ap (λ (o : Result Quarter). o .answer) it-fits));
         says = ap₂ (λ x z. accepted (totals x z)) (e ∙ living-counts st first last leafHash innerHash (w .sound) r .1) (v .count);
-        bytes = part-written 0 end y room (zero-add (length y) ∙ l) ∙ ap (λ z. written 0 z room) (v .bytes);
+        bytes = part-written 0 end y room (zero-add (length y) ∙ l) ∙ ap (λ z. written 0 z room) (v .bytes) ∙ front-written _ room;
       }
         where
           it-fits : figures first last (length room) st ≡ record { answer = accepted (quarterOf st first last); store = st }

@@ -7,9 +7,10 @@ use Rattle.terms.specs.Bits.{Bytes}
 use Rattle.meaning.specs.Calls.{Answer, refused, accepted}
 use Rattle.quarter.specs.Figures.{Quarter, figures}
 use Rattle.promises.specs.Calls.{Does}
+use Rattle.meaning.specs.Answers.{roomAfter}
+use Rattle.contracts.specs.Figures.{eachBytes}
 use Rattle.figures.specs.declared.Figured as declared
 use Rattle.figures.specs.declared.Figured.the-variants.{Refused, Told}
-use Rattle.contracts.specs.Figures.{roomAfter}
 
 -- Over the range: distinct records, and the sum of records over versions.
 pub record Totals : Type 0 where
@@ -33,4 +34,4 @@ pub record Tells (first last : ℕ) (s room : Bytes) (r : Answer Totals) (left :
   pub answer : Answer Quarter
   pub does : Does (figures first last (length room)) s answer s
   pub says : r ≡ totalsOf answer
-  pub bytes : left ≡ roomAfter answer room
+  pub bytes : left ≡ roomAfter (λ q. eachBytes (q .each)) answer room

@@ -16,14 +16,15 @@ use Rattle.sha256.specs.Sha256.{sha256}
 use Rattle.nodehash.specs.Node as node
 use Rattle.proofrecords.specs.ProofBytes.{isPresence, presenceIn, isAbsence, absenceIn, proofIn}
 use Rattle.hash.specs.declared.Hash as declared-hash
-use Rattle.verify_rules.specs.Verify.{judged, verified}
+use Rattle.verify_rules.specs.Reading.{judged, verified}
 use Rattle.verify.specs.Says.{says}
 use Rattle.verify.specs.declared.Checked as declared
 use Rattle.verify.specs.declared.Checked.the-variants.{Refused, Present, Absent}
 use Rattle.forgery.specs.Messages.{leafHash, innerHash}
 use Rattle.forgery.specs.Finding.{Finding, finding}
 use Rattle.finding_rules.proofs.Hashes.{leaf-is, inner-is}
-use Rattle.finding_rules.specs.Call.{versionRoot, foundOf, foundAgainst}
+use Rattle.finding_rules.specs.Call.{versionRoot}
+use Rattle.finding_rules.specs.Reading.{foundOf, foundAgainst}
 
 -- with a root and a key of 32 bytes the check looks at the proof
 pub sizes-right : (root k x : Bytes) → length root ≡ 32 → length k ≡ 32 → verified root k x ≡ judged root k (proofIn x)

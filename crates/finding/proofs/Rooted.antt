@@ -26,9 +26,9 @@ use Rattle.read_step.specs.declared.Trouble as declared-trouble
 use Rattle.read_root.specs.Parts.{rootSays}
 use Rattle.read_root.specs.declared.RootRead as declared-root
 use Rattle.read_root.specs.declared.RootRead.the-variants as root
-use Rattle.finding_rules.specs.Call.{noGrant}
+use Rattle.finding_rules.specs.Reading.{noGrant}
 use Rattle.finding_rules.proofs.Hashes.{leaf-is, inner-is}
-use Rattle.finding_rules.proofs.Theorems.{some-granted}
+use Rattle.finding_rules.proofs.Told.{some-granted}
 use Rattle.forged_truth.specs.Truth.{SoundVersion, grantsAt}
 use Rattle.finding.specs.Says.{rootAt}
 

@@ -32,9 +32,9 @@ ghost use Rattle.promises.specs.Calls.{SoundBytes};
 ghost use Rattle.forgery.specs.Finding.{finding};
 ghost use Rattle.forged_nodes.specs.Nodes.{namedSays};
 ghost use Rattle.forged_truth.specs.Truth.{SoundVersion, grantsAt};
-ghost use Rattle.verify_rules.specs.Verify.{judged};
+ghost use Rattle.verify_rules.specs.Reading.{judged};
 ghost use Rattle.verify.specs.Says.{says};
-ghost use Rattle.finding_rules.specs.Call.{noGrant, foundAgainst, finds};
+ghost use Rattle.finding_rules.specs.Reading.{noGrant, foundAgainst, finds};
 ghost use Rattle.contracts.specs.Finds.{Answers};
 ghost use Rattle.finding.specs.Says.{foundSays, rootAt};
 
@@ -135,7 +135,7 @@ fn found_kept(store: &[u8], version: u32, key: &[u8], proof: &[u8]) -> Found
 // What is found of a proof in a version of a sound store.
 fn found_sound(store: &[u8], version: u32, key: &[u8], proof: &[u8]) -> Found
     requires { ⌜ SoundBytes (now store) × (length (now key) ≡ 32) ⌝ }
-    ensures { λ r. ⌜ foundSays r ≡ finds sha256 version (now (key .entry)) (proofIn (now (proof .entry))) (storeOf (now (store .entry))) .answer ⌝ }
+    ensures { λ r. ⌜ foundSays r ≡ finds sha256 version (now (key .entry)) (proofIn (now (proof .entry))) (storeOf (now (store .entry))) ⌝ }
 {
     if !is_kept(store, version) {
         return Found::Refused(NOT_KEPT);

@@ -1,2 +1,3 @@
 pub mod Hashes
 pub mod Theorems
+pub mod Told

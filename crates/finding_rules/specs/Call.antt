@@ -1,49 +1,45 @@
--- Document 02, request 2026-12: what the call answers of a proof for a key in a version of a sound store. Order: 8, 14;
--- then 10, 11. The hash of a message is given: SHA-256 in the call. Assumes nothing.
+-- Document 02, request 2026-12: what the call answers of bytes as a proof for a key in a version of a sound store.
+-- Order: 8, 14; then 10, 11. The hash of a message is given: SHA-256 in the call. Assumes nothing.
 use Prim.Native.Nat.{ℕ}
-use mathlib.Core.Bool.{Bool, true, false, cond}
-use mathlib.Core.List.{List, [], _∷_, _++_}
-use mathlib.Core.Option.{Option, none, some}
+use mathlib.Core.Path.{_≡_}
+use mathlib.Core.List.{[], _∷_, _++_}
 use Rattle.terms.specs.Bits.{Bytes}
 use Rattle.terms.specs.Fields.{zeroBytes}
-use Rattle.terms.specs.Records.{Grant, Proof, Store}
+use Rattle.terms.specs.Records.{Proof, Store}
 use Rattle.meaning.specs.Tree.{hash, unversioned, grantsIn}
 use Rattle.meaning.specs.Store.{treeAtVersion}
-use Rattle.meaning.specs.Calls.{Answer, refused, accepted, Result, isKept}
+use Rattle.meaning.specs.Sound.{Kept}
+use Rattle.meaning.specs.Calls.{Answer, refused, accepted}
 use Rattle.meaning.specs.Reading.{Verdict}
-use Rattle.meaning.specs.Checking.{checked}
+use Rattle.meaning.specs.Proving.{HoldsGrant}
+use Rattle.checker.specs.Holding.{Holds}
+use Rattle.proofrecords.specs.ProofBytes.{ProofIs}
 use Rattle.forgery.specs.Messages.{leafHash, innerHash}
 use Rattle.forgery.specs.Finding.{Finding, nothing, twoEqual, oneZero, finding}
-
--- There is no grant.
-abbrev pub noGrant : List Grant → Bool
-noGrant [] = true
-noGrant (g ∷ gs) = false
 
 module _ (H : Bytes → Bytes) where
   -- The root of a version: the hash of its tree.
   abbrev pub versionRoot : Store → ℕ → Bytes
   versionRoot st v = hash (leafHash H) (innerHash H) (unversioned (treeAtVersion st v))
 
-  -- What is found of a proof that the checker accepts; else its refusal.
-  abbrev pub foundOf : Store → ℕ → Proof → Answer Verdict → Answer Finding
-  foundOf st v p (refused n) = refused n
-  foundOf st v p (accepted a) = accepted (finding H st v p)
+  -- A proof holds for the key k against a version's root, with this answer.
+  abbrev pub HoldsAt : Store → ℕ → Bytes → Proof → Verdict → Type 0
+  HoldsAt st v k p a = Holds (leafHash H) (innerHash H) (versionRoot st v) k p a
 
-  -- 10 if there is no proof in form; 11 if it doesn't hold against the version's root.
-  abbrev pub foundAgainst : Store → ℕ → Bytes → Option Proof → Answer Finding
-  foundAgainst st v k none = refused 10
-  foundAgainst st v k (some p) = foundOf st v p (checked (leafHash H) (innerHash H) (versionRoot st v) k p)
-
-  -- 8 if the version isn't kept; 14 if it holds no grant; then 10, 11, or what is found. The store stays as it is.
-  unfoldable pub finds : ℕ → Bytes → Option Proof → Store → Result Finding
-  finds v k o st = record {
-    answer =
-        cond (isKept st v)
-        (cond (noGrant (grantsIn (treeAtVersion st v))) (refused 14) (foundAgainst st v k o))
-        (refused 8);
-    store = st;
-  }
+  -- What is found of the bytes x as a proof for the key k in version v of a sound store.
+  pub data FoundIn (st : Store) (v : ℕ) (k x : Bytes) : Answer Finding → Type 0 where
+    -- 8: the version isn't kept
+    not-kept : (Kept st v → ⊥) → FoundIn st v k x (refused 8)
+    -- 14: it holds no grant
+    no-grant : Kept st v → grantsIn (treeAtVersion st v) ≡ [] → FoundIn st v k x (refused 14)
+    -- 10: the bytes are no proof in form
+    not-in-form : Kept st v → HoldsGrant st v → ((p : Proof) → ProofIs x p → ⊥) → FoundIn st v k x (refused 10)
+    -- 11: they are one that doesn't hold against the version's root
+    not-holding : {p : Proof} → Kept st v → HoldsGrant st v → ProofIs x p → ((a : Verdict) → HoldsAt st v k p a → ⊥) →
+        FoundIn st v k x (refused 11)
+    -- else what is found of it
+    holding : {p : Proof} {a : Verdict} → Kept st v → HoldsGrant st v → ProofIs x p → HoldsAt st v k p a →
+        FoundIn st v k x (accepted (finding H st v p))
 
 -- What is found, in 131 bytes: 0, or 1 and two messages, or 2 and one message; zero where there is none.
 unfoldable pub findingBytes : Finding → Bytes

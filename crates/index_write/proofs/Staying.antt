@@ -21,8 +21,9 @@ use Rattle.histories.proofs.Theorems.{apply-keeps-sound, prune-keeps-sound}
 use Rattle.layout.specs.Headers.{headerOf}
 use Rattle.layout.specs.Stores.{storeIn, storeOf, storeBytes}
 use Rattle.layout.proofs.Stores.{store-accepted, store-said}
+use Rattle.batch.specs.Asked.{Asks}
 use Rattle.batch.specs.Batch.{batchOf}
-use Rattle.batch.proofs.Batches.{batch-of-back}
+use Rattle.batch.proofs.Batches.{asks-read}
 use Rattle.promises.specs.Calls.{SoundBytes, Does, accepts}
 use Rattle.promises.proofs.Calls.{sound-form}
 use Rattle.promises.proofs.Hashes.{leaf-hash-whole, inner-hash-whole}
@@ -73,14 +74,14 @@ not-answered e = let z : _≡_ {A = ℕ} 0 1 = cc in absurd (omega arith)
 pub applied-sound : (number : ℕ) (batch : Bytes) {s t : Bytes} {a : Applied} → number ≤ top32 → All Byte batch →
     Does (apply leafHash innerHash number (batchOf batch)) s (accepted a) t → SoundBytes t
 unfolding refuse
-applied-sound number batch {s} {t} {a} small bytes (accepts w e) = go (batchOf batch) refl e
+applied-sound number batch {s} {t} {a} small bytes (accepts w e) = go (batchOf batch) (asks-read batch bytes) e
   where
-    go : (asks : Option (List Ask)) → batchOf batch ≡ asks → apply leafHash innerHash number asks (storeOf s) .answer ≡ accepted a →
+    go : (asks : Option (List Ask)) → Asks batch asks → apply leafHash innerHash number asks (storeOf s) .answer ≡ accepted a →
         SoundBytes (storeBytes (apply leafHash innerHash number asks (storeOf s) .store))
     go none f h = not-answered h
     go (some asks) f h =
         stored-sound (apply leafHash innerHash number (some asks) (storeOf s) .store) (apply-form number asks (storeOf s))
-        (apply-keeps-sound leafHash innerHash leaf-hash-whole inner-hash-whole number asks (storeOf s) a (w .sound) small (batch-of-back batch asks bytes f .2) h .sound)
+        (apply-keeps-sound leafHash innerHash leaf-hash-whole inner-hash-whole number asks (storeOf s) a (w .sound) small (f .form) h .sound)
 
 -- a prune
 pub pruned-sound : (n : ℕ) {s t : Bytes} {k : ℕ} → Does (prune n) s (accepted k) t → SoundBytes t

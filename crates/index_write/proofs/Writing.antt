@@ -8,7 +8,8 @@ use Rattle.terms.specs.Bits.{Bytes, Byte, All}
 use Rattle.terms.specs.Fields.{le}
 use Rattle.terms.specs.Records.{Store}
 use Rattle.terms.specs.Form.{top32}
-use Rattle.meaning.specs.Calls.{refused, accepted, Result}
+use Rattle.meaning.specs.Calls.{refused, accepted, Result, apply}
+use Rattle.nodehash.specs.Node.{leafHash, innerHash}
 use Rattle.hash.specs.declared.Hash.{Hash}
 use Rattle.hash.specs.Hash.{hashBytes}
 use Rattle.fields.specs.Written.{written}
@@ -21,7 +22,9 @@ use Rattle.apply_publish.specs.declared.Applied.the-variants.{Refused, Made}
 use Rattle.prune_sound.specs.Prune.{prunedSays, PruneDoes}
 use Rattle.prune_sound.specs.declared.Pruned as declared-pruned
 use Rattle.prune_sound.specs.declared.Pruned.the-variants.{Refused as Kept, Freed}
-use Rattle.contracts.specs.Apply.{answerBytes}
+use Rattle.batch.specs.Batch.{batchOf}
+use Rattle.batch.proofs.Batches.{asks-read}
+use Rattle.contracts.specs.Apply.{answerBytes, told}
 use Rattle.index_rules.specs.Tables.{RightFor, Tells, DoesBoth, not-told, refuses-both, accepts-both, ExportsBoth, both-refused, both-answered}
 use Rattle.contracts.specs.Tabled.{AppliesBoth, PrunesBoth}
 use Rattle.index_write.proofs.Staying.{applied-sound, pruned-sound}
@@ -42,17 +45,25 @@ pub prune-sound-after : (n : ℕ) {s t : Bytes} {p : declared-pruned.Pruned} →
 unfolding prunedSays
 prune-sound-after n {s} {t} o e = pruned-sound n (subst (λ x. PruneDoes n s (prunedSays x) t) e o)
 
-module _ (number : ℕ) (batch : Bytes) {s f t : Bytes} {table : List ℕ} {r : ℕ} {a : declared-applied.Applied} (told : Tells s table r) (zero : r ≡ 0)
+-- a batch asks for what it is read as
+pub both-applied : (number : ℕ) (batch : Bytes) → All Byte batch → {s f t g : Bytes} {table u : List ℕ} {r : ℕ} →
+    ExportsBoth (apply leafHash innerHash number (batchOf batch)) told s table f r t u g → AppliesBoth number batch s table f r t u g
+both-applied number batch bytes w = record { asked = batchOf batch; asks = asks-read batch bytes; applied = w }
+
+module _ (number : ℕ) (batch : Bytes) (bytes : All Byte batch) {s f t : Bytes} {table : List ℕ} {r : ℕ} {a : declared-applied.Applied} (told : Tells s table r) (zero : r ≡ 0)
     (o : ApplyDoes number batch s (appliedSays a) t) where
   pub apply-refused : {m : ℕ} → a ≡ Refused m → AppliesBoth number batch s table f m t table f
   unfolding appliedSays
-  apply-refused e = both-refused (refuses-both (subst (Tells s table) zero told) (subst (λ q. ApplyDoes number batch s (appliedSays q) t) e o))
+  apply-refused e =
+      both-applied number batch bytes
+      (both-refused (refuses-both (subst (Tells s table) zero told) (subst (λ q. ApplyDoes number batch s (appliedSays q) t) e o)))
 
   pub apply-made : {v n : ℕ} {h : Hash} {g : Bytes} {u : List ℕ} → a ≡ Made v h n → RightFor t u → g ≡ answerBytes v (hashBytes h) n → AppliesBoth number batch s table f 0 t u g
   unfolding appliedSays
   apply-made {u = u} e w q =
       subst (AppliesBoth number batch s table f 0 t u) (sym q)
-      (both-answered (accepts-both (subst (Tells s table) zero told) (subst (λ x. ApplyDoes number batch s (appliedSays x) t) e o) w))
+      (both-applied number batch bytes
+      (both-answered (accepts-both (subst (Tells s table) zero told) (subst (λ x. ApplyDoes number batch s (appliedSays x) t) e o) w)))
 
 module _ (n : ℕ) {s f t : Bytes} {table : List ℕ} {r : ℕ} {p : declared-pruned.Pruned} (told : Tells s table r) (zero : r ≡ 0) (o : PruneDoes n s (prunedSays p) t) where
   pub prune-refused : {m : ℕ} → p ≡ Kept m → PrunesBoth n s table f m t table f

@@ -1,6 +1,7 @@
 -- What an answer is for a caller in another language: a number, and an array with what the call gives. Assumes nothing.
 use Prim.Native.Nat.{ℕ}
-use mathlib.Core.List.{_∷_}
+use mathlib.Core.List.{_∷_, _++_}
+use lib.ListN.{length, drop}
 use Rattle.terms.specs.Bits.{Bytes}
 use Rattle.terms.specs.Records.{zeros}
 use Rattle.meaning.specs.Calls.{Answer, refused, accepted}
@@ -15,6 +16,11 @@ numberOf (accepted a) = 0
 abbrev pub toldOf : {A : Type 0} → (A → Bytes) → Answer A → Bytes → Bytes
 toldOf tell (refused n) old = old
 toldOf tell (accepted a) old = tell a
+
+-- What is left of the room for what it gives: that fills its front, the rest stays; a refused call writes nothing.
+abbrev pub roomAfter : {A : Type 0} → (A → Bytes) → Answer A → Bytes → Bytes
+roomAfter bytes (refused n) room = room
+roomAfter bytes (accepted a) room = bytes a ++ drop (length (bytes a)) room
 
 -- What a key read finds: 1 and the value, or 0 and 32 zero bytes.
 abbrev pub foundBytes : Verdict → Bytes

@@ -11,8 +11,9 @@ use Rattle.terms.specs.Records.{Proof}
 use Rattle.meaning.specs.Calls.{Answer, refused, accepted}
 use Rattle.meaning.specs.Answers.{numberOf, toldOf}
 use Rattle.sha256.specs.Sha256.{sha256}
+use Rattle.proofrecords.specs.ProofBytes.{ProofSaid}
 use Rattle.messages.specs.Message.{messageBytes, RawProof}
-use Rattle.messages.specs.Lending.{Lent, written, readFrom, recordOf}
+use Rattle.messages.specs.Lending.{Lent, writtenFrom, readFrom, recordOf}
 use Rattle.messages.specs.Spots.{Spot, Spots, spotsIn}
 
 -- What an accepted call writes fills the front of the room, the rest stays; a refused call writes nothing.
@@ -31,15 +32,17 @@ lentOf asked key1 value1 key2 value2 =
           record { key = key2; value = value2 };
     }
 
--- The message of the record x, with what is lent, into a room: 10, 15, 9.
-abbrev pub writtenInto : Bytes → Lent → Bytes → Answer Bytes
-writtenInto x lent room = written sha256 x lent (length room)
+-- The message of the proof that a record is, with what is lent, into a room: 10, 15, 9.
+abbrev pub writtenInto : Option Proof → Lent → Bytes → Answer Bytes
+writtenInto said lent room = writtenFrom sha256 said lent (length room)
 
 -- Writing the message of the record x answers r; the room is left as t, the array f for the message's length as g.
 pub record WritesMessage (x : Bytes) (lent : Lent) (room f : Bytes) (r : ℕ) (t g : Bytes) : Type 0 where
-  pub answer : r ≡ numberOf (writtenInto x lent room)
-  pub message : t ≡ roomAfter (λ m. m) (writtenInto x lent room) room
-  pub told : g ≡ toldOf (λ m. le 4 (length m)) (writtenInto x lent room) f
+  pub said : Option Proof
+  pub exactly : ProofSaid x said
+  pub answer : r ≡ numberOf (writtenInto said lent room)
+  pub message : t ≡ roomAfter (λ m. m) (writtenInto said lent room) room
+  pub told : g ≡ toldOf (λ m. le 4 (length m)) (writtenInto said lent room) f
 
 -- The bytes m are the message of a proof with raw keys and values.
 pub record Encodes (m : Bytes) (q : Proof) : Type 0 where

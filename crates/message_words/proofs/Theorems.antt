@@ -16,14 +16,14 @@ use Rattle.terms.proofs.Fields.{num-le}
 use Rattle.meaning.specs.Calls.{Answer, refused, accepted}
 use Rattle.meaning.specs.Answers.{numberOf, toldOf}
 use Rattle.sha256.specs.Sha256.{sha256}
-use Rattle.proofrecords.specs.ProofBytes.{proofIn, ProofForm}
-use Rattle.proofrecords.proofs.Proofs.{proof-bytes}
+use Rattle.proofrecords.specs.ProofBytes.{ProofIs, ProofSaid}
+use Rattle.proofrecords.proofs.Proofs.{one-proof-said}
 use Rattle.messages.specs.Message.{messageBytes, mostBytes, RawProof, ownProof}
 use Rattle.messages.specs.Reading.{messageIn}
-use Rattle.messages.specs.Lending.{Lent, lentFits, rawProof, fitted, writtenFrom, written, recordOf, readFrom, LentBytes, lentIn}
+use Rattle.messages.specs.Lending.{Lent, lentFits, rawProof, fitted, writtenFrom, recordOf, readFrom, LentBytes, lentIn}
 use Rattle.messages.specs.Spots.{spotsIn, Stand}
 use Rattle.messages.proofs.Back.{message-at-most, message-exactly, message-said, one-message}
-use Rattle.messages.proofs.Lending.{Written, lent-said, written-said, reading-gives-back, read-was-written}
+use Rattle.messages.proofs.Lending.{lent-said, written-said, reading-gives-back, read-was-written}
 use Rattle.messages.proofs.Spots.{raw-stands-there}
 use Rattle.message_rules.specs.Contracts.{roomAfter, writtenInto, WritesMessage, Encodes, Said, readInto, spotsBytes, answerBytes, ReadsMessage}
 use Rattle.sha256.proofs.Digests.{digest-whole}
@@ -31,7 +31,12 @@ use Rattle.sha256.proofs.Digests.{digest-whole}
 -- Two outcomes are one.
 pub one-write : {x : Bytes} {lent : Lent} {room f t g u h : Bytes} {a b : ℕ} → WritesMessage x lent room f a t g → WritesMessage x lent room f b u h →
     (a ≡ b) × (t ≡ u) × (g ≡ h)
-one-write v w = (v .answer ∙ sym (w .answer), v .message ∙ sym (w .message), v .told ∙ sym (w .told))
+one-write {x} {lent} {room} {f} v w =
+    let e = one-proof-said x (v .said) (w .said) (v .exactly) (w .exactly) in (
+      v .answer ∙ ap (λ s. numberOf (writtenInto s lent room)) e ∙ sym (w .answer),
+      v .message ∙ ap (λ s. roomAfter (λ m. m) (writtenInto s lent room) room) e ∙ sym (w .message),
+      v .told ∙ ap (λ s. toldOf (λ m. le 4 (length m)) (writtenInto s lent room) f) e ∙ sym (w .told),
+    )
 
 one-said : (m : Bytes) (s o : Option Proof) → Said m s → Said m o → s ≡ o
 one-said m none none h k = refl
@@ -54,7 +59,7 @@ refused-keeps bytes tell (accepted a) room f h = absurd (h refl)
 
 pub refused-write-writes-nothing : {x : Bytes} {lent : Lent} {room f t g : Bytes} {r : ℕ} → WritesMessage x lent room f r t g → (r ≡ 0 → ⊥) → (t ≡ room) × (g ≡ f)
 refused-write-writes-nothing {x} {lent} {room} {f} w h =
-    let k = refused-keeps (λ m. m) (λ m. le 4 (length m)) (writtenInto x lent room) room f (λ z. h (w .answer ∙ z)) in
+    let k = refused-keeps (λ m. m) (λ m. le 4 (length m)) (writtenInto (w .said) lent room) room f (λ z. h (w .answer ∙ z)) in
     (w .message ∙ k .0, w .told ∙ k .1)
 
 pub refused-read-writes-nothing : {m room f t g : Bytes} {r : ℕ} → ReadsMessage m room f r t g → (r ≡ 0 → ⊥) → (t ≡ room) × (g ≡ f)
@@ -88,15 +93,14 @@ some-answer : (a : Answer Bytes) → (a ≡ refused 0 → ⊥) → numberOf a �
 some-answer (refused n) h e = absurd (h (ap refused e))
 some-answer (accepted m) h e = (m, refl)
 
-accepted-write : (x : Bytes) (lent : Lent) (room : Bytes) → numberOf (writtenInto x lent room) ≡ 0 → (m : Bytes) × (writtenInto x lent room ≡ accepted m)
-unfolding written
-accepted-write x lent room = some-answer (writtenFrom sha256 (proofIn x) lent (length room)) (not-refused-0 (proofIn x) lent (length room))
+accepted-write : (said : Option Proof) (lent : Lent) (room : Bytes) → numberOf (writtenInto said lent room) ≡ 0 → (m : Bytes) × (writtenInto said lent room ≡ accepted m)
+accepted-write said lent room = some-answer (writtenInto said lent room) (not-refused-0 said lent (length room))
 
 -- A message that was written.
 pub record Message (x : Bytes) (lent : Lent) (room t g : Bytes) : Type 0 where
   pub m : Bytes
   pub proof : Proof
-  pub proof-is : proofIn x ≡ some proof
+  pub proof-is : ProofIs x proof
   pub own : ownProof sha256 (rawProof lent proof) ≡ proof
   pub is : messageBytes (rawProof lent proof) ≡ m
   pub raw : RawProof (rawProof lent proof)
@@ -113,19 +117,20 @@ fits-room : (room : ℕ) (q : Proof) → length (recordOf sha256 q) ≤ room →
 unfolding readFrom fitted
 fits-room room q h = rw (le-ltb room (length (recordOf sha256 q)) h)
 
-pub written-message : {x : Bytes} {lent : Lent} {room f t g : Bytes} → All Byte x → LentBytes lent → WritesMessage x lent room f 0 t g → Message x lent room t g
-written-message {x} {lent} {room} {f} {t} {g} b lb w =
-    let a = accepted-write x lent room (sym (w .answer)) in
+pub written-message : {x : Bytes} {lent : Lent} {room f t g : Bytes} → LentBytes lent → WritesMessage x lent room f 0 t g → Message x lent room t g
+written-message {x} {lent} {room} {f} {t} {g} lb w =
+    let a = accepted-write (w .said) lent room (sym (w .answer)) in
     let m = a .0 in
-    let k = written-said sha256 x lent (length room) m (a .1) in
+    let k = written-said sha256 (w .said) lent (length room) m (a .1) in
     let p = k .proof in
     let q = rawProof lent p in
-    let back = reading-gives-back sha256 x lent (length room) m b lb k in
-    let raw : RawProof q = lent-said sha256 lent p (proof-bytes x p b (k .proof-is) .0) lb (k .fits) .0 in
+    let its : ProofIs x p = subst (ProofSaid x) (k .proof-is) (w .exactly) in
+    let back = reading-gives-back sha256 lent m its lb (k .fits) (k .is) in
+    let raw : RawProof q = lent-said sha256 lent p (its .form) lb (k .fits) .0 in
     record {
       m = m;
       proof = p;
-      proof-is = k .proof-is;
+      proof-is = its;
       own = back .2;
       is = k .is;
       raw = raw;
@@ -153,14 +158,14 @@ pub record ReadBack (m room t g : Bytes) : Type 0 where
   pub written-so : {room f t g : Bytes} {r : ℕ} → length m ≤ length room → WritesMessage (recordOf sha256 proof) (lentIn proof) room f r t g →
       (r ≡ 0) × (t ≡ m ++ drop (length m) room) × (g ≡ le 4 (length m))
 
-fits-again : (x : Bytes) (lent : Lent) (k : ℕ) (m : Bytes) (p : Proof) → proofIn x ≡ some p → lentFits sha256 lent p ≡ true → messageBytes (rawProof lent p) ≡ m → length m ≤ k →
-    written sha256 x lent k ≡ accepted m
-unfolding written writtenFrom fitted
-fits-again x lent k m p a b c d = rw (a, b, c, le-ltb k (length m) d)
+fits-again : (o : Option Proof) (lent : Lent) (k : ℕ) (m : Bytes) (p : Proof) → o ≡ some p → lentFits sha256 lent p ≡ true → messageBytes (rawProof lent p) ≡ m → length m ≤ k →
+    writtenFrom sha256 o lent k ≡ accepted m
+unfolding writtenFrom fitted
+fits-again o lent k m p a b c d = rw (a, b, c, le-ltb k (length m) d)
 
-accepted-fits : (x : Bytes) (lent : Lent) (n k : ℕ) (m : Bytes) → written sha256 x lent n ≡ accepted m → n ≤ k → written sha256 x lent k ≡ accepted m
-accepted-fits x lent n k m e l =
-    let w = written-said sha256 x lent n m e in fits-again x lent k m (w .proof) (w .proof-is) (w .fits) (w .is) (omega (arith, w .has-room))
+accepted-fits : (o : Option Proof) (lent : Lent) (n k : ℕ) (m : Bytes) → writtenFrom sha256 o lent n ≡ accepted m → n ≤ k → writtenFrom sha256 o lent k ≡ accepted m
+accepted-fits o lent n k m e l =
+    let w = written-said sha256 o lent n m e in fits-again o lent k m (w .proof) (w .proof-is) (w .fits) (w .is) (omega (arith, w .has-room))
 
 pub read-message : {m room f t g : Bytes} → All Byte m → ReadsMessage m room f 0 t g → ReadBack m room t g
 unfolding readFrom
@@ -176,7 +181,9 @@ read-message {m} {room} {f} {t} {g} b w = go (w .said) (w .exactly) (w .answer) 
       told-is = j ∙ ap (λ o. toldOf answerBytes o f) has;
       written-so = λ {room = room₁} {f = f₁} {t = t₁} {g = g₁} {r} long v.
           let a = read-was-written sha256 digest-whole m q b (message-exactly m q b .1 (h .raw, h .is)) in
-          let said = accepted-fits (recordOf sha256 q) (lentIn q) (length m) (length room₁) m a long in (
+          let same = one-proof-said (recordOf sha256 q) (v .said) (some (ownProof sha256 q)) (v .exactly) (a .0) in
+          let said : writtenInto (v .said) (lentIn q) room₁ ≡ accepted m =
+          ap (λ s. writtenInto s (lentIn q) room₁) same ∙ accepted-fits (some (ownProof sha256 q)) (lentIn q) (length m) (length room₁) m (a .1) long in (
             v .answer ∙ ap (λ o. numberOf o) said,
             v .message ∙ ap (λ o. roomAfter (λ y. y) o room₁) said,
             v .told ∙ ap (λ o. toldOf (λ y. le 4 (length y)) o f₁) said,

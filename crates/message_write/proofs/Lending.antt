@@ -19,7 +19,7 @@ use Rattle.proofrecords.specs.ProofBytes.{flags, isPresence, presenceIn, absenc
 use Rattle.proofrecords.proofs.Forms.{presence-whole, one-there, flags-both, left-there, right-there, rest-part, left-part, right-part}
 use Rattle.messages.specs.Message.{messageBytes}
 use Rattle.messages.specs.Reading.{lengthRight}
-use Rattle.messages.specs.Lending.{Leaf, Lent, hashesTo, leafFits, unlent, leavesFit, lentFits, rawProof, fitted, writtenFrom, written}
+use Rattle.messages.specs.Lending.{Leaf, Lent, hashesTo, leafFits, unlent, leavesFit, lentFits, rawProof, fitted, writtenFrom}
 use Rattle.message_lent.specs.Lent.{leaf, recordIn, InForm, neighbourFits}
 use Rattle.message_lent.proofs.Lengths.{nobody-is, somebody-is}
 use Rattle.message_put.specs.Inner.{Lendable}
@@ -149,16 +149,16 @@ module _ (room : Bytes) (q : Proof) {b c : Bool} where
   both-on e f = rw (e, f)
 
 -- the proof of a record in form
-pub is-presence : (p : Bytes) (given : Lent) (room : ℕ) → isPresence p ≡ true → written sha256 p given room ≡ writtenFrom sha256 (some (presence (presenceIn p))) given room
-unfolding written proofIn
+pub is-presence : (p : Bytes) (given : Lent) (room : ℕ) → isPresence p ≡ true → writtenFrom sha256 (proofIn p) given room ≡ writtenFrom sha256 (some (presence (presenceIn p))) given room
+unfolding proofIn
 is-presence p given room e = rw e
 
-pub is-absence : (p : Bytes) (given : Lent) (room : ℕ) → isPresence p ≡ false → isAbsence p ≡ true → written sha256 p given room ≡ writtenFrom sha256 (some (absence (absenceIn p))) given room
-unfolding written proofIn
+pub is-absence : (p : Bytes) (given : Lent) (room : ℕ) → isPresence p ≡ false → isAbsence p ≡ true → writtenFrom sha256 (proofIn p) given room ≡ writtenFrom sha256 (some (absence (absenceIn p))) given room
+unfolding proofIn
 is-absence p given room e f = rw (e, f)
 
-pub not-in-form : (p : Bytes) (given : Lent) (room : Bytes) → isPresence p ≡ false → isAbsence p ≡ false → Writes (written sha256 p given (length room)) room (Refused 10) room
-unfolding written writtenFrom proofIn
+pub not-in-form : (p : Bytes) (given : Lent) (room : Bytes) → isPresence p ≡ false → isAbsence p ≡ false → Writes (writtenFrom sha256 (proofIn p) given (length room)) room (Refused 10) room
+unfolding writtenFrom proofIn
 not-in-form p given room e f = record { answer = rw (e, f); bytes = rw (e, f) }
 
 -- the neighbours of an absence, by its flags

@@ -9,9 +9,9 @@ ghost use Rattle.terms.specs.Fields.{slice};
 ghost use Rattle.terms.specs.Records.{presence, absence};
 ghost use Rattle.meaning.specs.Calls.{refused};
 ghost use Rattle.sha256.specs.Sha256.{sha256};
-ghost use Rattle.proofrecords.specs.ProofBytes.{flags, isPresence, presenceIn, isAbsence, absenceIn};
+ghost use Rattle.proofrecords.specs.ProofBytes.{flags, isPresence, presenceIn, isAbsence, absenceIn, proofIn};
 ghost use Rattle.messages.specs.Message.{messageBytes};
-ghost use Rattle.messages.specs.Lending.{hashesTo, rawPresence, writtenFrom, written};
+ghost use Rattle.messages.specs.Lending.{hashesTo, rawPresence, writtenFrom};
 ghost use Rattle.message_lent.specs.Lent.{leaf, recordIn, InForm, neighbourFits};
 ghost use Rattle.message_put.specs.Inner.{Lendable};
 ghost use Rattle.message_write.specs.Wrote.{lent, fittedIn, besides, AskedRaw, LendableOr, Writes};
@@ -218,7 +218,7 @@ pub fn write(
     value2: &[u8],
     room: &mut [u8],
 ) -> Wrote
-    ensures { λ r. ⌜ Writes (written sha256 (now (p .entry)) (lent (now (asked .entry)) (leaf (now (key1 .entry)) (now (value1 .entry))) (leaf (now (key2 .entry)) (now (value2 .entry)))) (length (now (room .entry)))) (now (room .entry)) r (now (room .exit)) ⌝ }
+    ensures { λ r. ⌜ Writes (writtenFrom sha256 (proofIn (now (p .entry))) (lent (now (asked .entry)) (leaf (now (key1 .entry)) (now (value1 .entry))) (leaf (now (key2 .entry)) (now (value2 .entry)))) (length (now (room .entry)))) (now (room .entry)) r (now (room .exit)) ⌝ }
 {
     if is_presence(p) {
         return write_presence(p, asked, key1, value1, key2, value2, room);

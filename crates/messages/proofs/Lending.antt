@@ -13,14 +13,13 @@ use Rattle.terms.specs.Fields.{allOf}
 use Rattle.terms.specs.Records.{Presence, Absence, Proof, presence, absence}
 use Rattle.terms.proofs.Tests.{same-bytes, bytes-same}
 use Rattle.terms.proofs.Fields.{all-of-tests}
-use Rattle.proofrecords.specs.ProofBytes.{proofBytes, proofIn, flagsOf, PresenceForm, NeighbourForm, ProofForm}
-use Rattle.proofrecords.proofs.Proofs.{proof-back, proof-bytes}
+use Rattle.proofrecords.specs.ProofBytes.{proofBytes, flagsOf, PresenceForm, NeighbourForm, ProofForm, ProofIs}
 use Rattle.meaning.specs.Calls.{Answer, refused, accepted}
 use Rattle.meaning.specs.Reading.{Verdict}
 use Rattle.meaning.specs.Checking.{checked}
 use Rattle.messages.specs.Message.{messageBytes, Raw, RawPresence, RawNeighbour, RawProof, ownPresence, ownNeighbour, ownProof}
 use Rattle.messages.specs.Reading.{lengthRight, messageIn}
-use Rattle.messages.specs.Lending.{Leaf, Lent, rightLeaf, rawPresence, rawNeighbour, rawProof, unlent, hashesTo, leafFits, leavesFit, lentFits, fitted, writtenFrom, written, recordOf, readFrom, read, LentBytes, noLeaf, leafOf, leavesOf, lentIn}
+use Rattle.messages.specs.Lending.{Leaf, Lent, rightLeaf, rawPresence, rawNeighbour, rawProof, unlent, hashesTo, leafFits, leavesFit, lentFits, fitted, writtenFrom, recordOf, readFrom, read, LentBytes, noLeaf, leafOf, leavesOf, lentIn}
 use Rattle.messages.proofs.Back.{length-right, right-length, message-back, message-said}
 
 clash : {A B : Type 0} {n : ℕ} {a : B} → refused n ≡ accepted a → A
@@ -149,58 +148,56 @@ module _ (sha : Bytes → Bytes) where
   fitted-back room x a h = rw (le-ltb room (length x) h)
 
   -- What is known of a message that was written.
-  pub record Written (x : Bytes) (lent : Lent) (room : ℕ) (m : Bytes) : Type 0 where
+  pub record Written (said : Option Proof) (lent : Lent) (room : ℕ) (m : Bytes) : Type 0 where
     pub proof : Proof
-    pub proof-is : proofIn x ≡ some proof
+    pub proof-is : said ≡ some proof
     pub fits : lentFits sha lent proof ≡ true
     pub is : messageBytes (rawProof lent proof) ≡ m
     pub has-room : length m ≤ room
 
-  pub written-said : (x : Bytes) (lent : Lent) (room : ℕ) (m : Bytes) → written sha x lent room ≡ accepted m → Written x lent room m
-  unfolding written writtenFrom
-  written-said x lent room m = go (proofIn x) refl
+  pub written-said : (said : Option Proof) (lent : Lent) (room : ℕ) (m : Bytes) → writtenFrom sha said lent room ≡ accepted m → Written said lent room m
+  unfolding writtenFrom
+  written-said none lent room m e = clash e
+  written-said (some p) lent room m e = go (lentFits sha lent p) refl e
     where
-      some-go : (p : Proof) → proofIn x ≡ some p → (t : Bool) → lentFits sha lent p ≡ t →
-          cond t (fitted sha room (messageBytes (rawProof lent p)) (messageBytes (rawProof lent p))) (refused 15) ≡ accepted m → Written x lent room m
-      some-go p k true f e =
+      go : (t : Bool) → lentFits sha lent p ≡ t →
+          cond t (fitted sha room (messageBytes (rawProof lent p)) (messageBytes (rawProof lent p))) (refused 15) ≡ accepted m → Written (some p) lent room m
+      go true f e =
           let w = fitted-said room (messageBytes (rawProof lent p)) (messageBytes (rawProof lent p)) m e in
-          record { proof = p; proof-is = k; fits = f; is = w .1; has-room = rw (w .1) at (w .0) }
-      some-go p k false f e = clash e
-
-      go : (o : Option Proof) → proofIn x ≡ o → writtenFrom sha o lent room ≡ accepted m → Written x lent room m
-      go none k e = clash e
-      go (some p) k e = some-go p k (lentFits sha lent p) refl e
+          record { proof = p; proof-is = refl; fits = f; is = w .1; has-room = rw (w .1) at (w .0) }
+      go false f e = clash e
 
   -- Reading gives back what was written: what was lent in place of the hashes, and our own record, byte for byte.
-  pub reading-gives-back : (x : Bytes) (lent : Lent) (room : ℕ) (m : Bytes) → All Byte x → LentBytes lent → (w : Written x lent room m) →
-      (readFrom sha (messageIn m) (length x) ≡ accepted (rawProof lent (w .proof)))
-      × (recordOf sha (rawProof lent (w .proof)) ≡ x)
-      × (ownProof sha (rawProof lent (w .proof)) ≡ w .proof)
+  pub reading-gives-back : {x : Bytes} {p : Proof} (lent : Lent) (m : Bytes) → ProofIs x p → LentBytes lent → lentFits sha lent p ≡ true →
+      messageBytes (rawProof lent p) ≡ m →
+      (readFrom sha (messageIn m) (length x) ≡ accepted (rawProof lent p))
+      × (recordOf sha (rawProof lent p) ≡ x)
+      × (ownProof sha (rawProof lent p) ≡ p)
   unfolding readFrom
-  reading-gives-back x lent room m b lb w =
-      let f = proof-bytes x (w .proof) b (w .proof-is) in
-      let s = lent-said lent (w .proof) (f .0) lb (w .fits) in
-      let q = rawProof lent (w .proof) in
-      let r : recordOf sha q ≡ x = ap proofBytes (s .1) ∙ f .1 in
-      let back : messageIn m ≡ some q = ap messageIn (sym (w .is)) ∙ message-back q (s .0) in
+  reading-gives-back {x} {p} lent m w lb fits is =
+      let s = lent-said lent p (w .form) lb fits in
+      let q = rawProof lent p in
+      let r : recordOf sha q ≡ x = ap proofBytes (s .1) ∙ sym (w .bytes) in
+      let back : messageIn m ≡ some q = ap messageIn (sym is) ∙ message-back q (s .0) in
       (rw (back) (fitted-back (length x) (recordOf sha q) q (omega (arith, ap length r))), r, s .1)
 
   -- What is read was written so: our own record of it, lent the raw keys and values that the message holds, makes the message.
   pub read-was-written : ((x : Bytes) → Whole32 (sha x)) → (m : Bytes) (q : Proof) → All Byte m → messageIn m ≡ some q →
-      written sha (recordOf sha q) (lentIn q) (length m) ≡ accepted m
-  unfolding written writtenFrom
+      ProofIs (recordOf sha q) (ownProof sha q) × (writtenFrom sha (some (ownProof sha q)) (lentIn q) (length m) ≡ accepted m)
+  unfolding writtenFrom
   read-was-written w m q b e =
       let s = message-said m q b e in
-      let l = lent-back q (s .0) in
-      rw (proof-back (ownProof sha q) (own-form w q (s .0)), l .0, l .1, s .1) (fitted-back (length m) m m (omega arith))
+      let l = lent-back q (s .0) in (
+        record { bytes = refl; form = own-form w q (s .0) },
+        rw (l .0, l .1, s .1) (fitted-back (length m) m m (omega arith)),
+      )
 
   -- The reading is accepted exactly when our own record would be, against any root and for any key.
-  pub accepted-exactly-as-ours : (leafHash innerHash : Bytes → Bytes → Bytes) (x : Bytes) (lent : Lent) (room : ℕ) (m : Bytes) →
-      All Byte x → LentBytes lent → (w : Written x lent room m) (q : Proof) → messageIn m ≡ some q →
-      (root k : Bytes) → checked leafHash innerHash root k (ownProof sha q) ≡ checked leafHash innerHash root k (w .proof)
-  accepted-exactly-as-ours leafHash innerHash x lent room m b lb w q e root k =
-      let f = proof-bytes x (w .proof) b (w .proof-is) in
-      let s = lent-said lent (w .proof) (f .0) lb (w .fits) in
-      let back : messageIn m ≡ some (rawProof lent (w .proof)) = ap messageIn (sym (w .is)) ∙ message-back (rawProof lent (w .proof)) (s .0) in
-      let same : q ≡ rawProof lent (w .proof) = cc in
+  pub accepted-exactly-as-ours : (leafHash innerHash : Bytes → Bytes → Bytes) {x : Bytes} {p : Proof} (lent : Lent) (m : Bytes) →
+      ProofIs x p → LentBytes lent → lentFits sha lent p ≡ true → messageBytes (rawProof lent p) ≡ m → (q : Proof) → messageIn m ≡ some q →
+      (root k : Bytes) → checked leafHash innerHash root k (ownProof sha q) ≡ checked leafHash innerHash root k p
+  accepted-exactly-as-ours leafHash innerHash {x} {p} lent m w lb fits is q e root k =
+      let s = lent-said lent p (w .form) lb fits in
+      let back : messageIn m ≡ some (rawProof lent p) = ap messageIn (sym is) ∙ message-back (rawProof lent p) (s .0) in
+      let same : q ≡ rawProof lent p = cc in
       ap (checked leafHash innerHash root k) (ap (ownProof sha) same ∙ s .1)

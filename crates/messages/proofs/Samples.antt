@@ -12,7 +12,7 @@ use Rattle.meaning.specs.Calls.{refused, accepted}
 use Rattle.messages.specs.Wire.{varintIn, varint, numberTag, bytesTag, messageField, bytesField, numberField}
 use Rattle.messages.specs.Message.{leafOp, innerOp, existence, nonexistence, messageBytes}
 use Rattle.messages.specs.Reading.{onward, onlyIf, notZero, stepIn, lengthRight, existenceIn, neighbourFrom, nonexistenceIn, fieldAlone, messageIn}
-use Rattle.messages.specs.Lending.{Lent, unlent, hashesTo, leafFits, fitted, writtenFrom, written, recordOf, readFrom, read}
+use Rattle.messages.specs.Lending.{Lent, unlent, hashesTo, leafFits, fitted, writtenFrom, recordOf, readFrom, read}
 
 -- key a, value b, no step
 abbrev alone : Presence
@@ -140,17 +140,17 @@ lending asked key value key2 value2 =
 -- written with just enough room; 10 before 15, 15 before 9, 9 with a byte less; 15 for a key, a value or a key asked for that hashes to something else, has no byte or
 -- 257, and for a leaf too many
 writing :
-    (written shown32 aloneRecord (lending (97 ∷ []) (97 ∷ []) (98 ∷ []) [] []) 19 ≡ accepted aloneMessage)
-    × (written shown32 (aloneRecord ++ (0 ∷ [])) (lending [] [] [] [] []) 0 ≡ refused 10)
-    × (written shown32 aloneRecord (lending (97 ∷ []) (99 ∷ []) (98 ∷ []) [] []) 18 ≡ refused 15)
-    × (written shown32 aloneRecord (lending (97 ∷ []) (97 ∷ []) (98 ∷ []) [] []) 18 ≡ refused 9)
-    × (written shown32 aloneRecord (lending (97 ∷ []) (97 ∷ []) (99 ∷ []) [] []) 19 ≡ refused 15)
-    × (written shown32 aloneRecord (lending (99 ∷ []) (97 ∷ []) (98 ∷ []) [] []) 19 ≡ refused 15)
-    × (written shown32 aloneRecord (lending [] (97 ∷ []) (98 ∷ []) [] []) 19 ≡ refused 15)
-    × (written shown32 aloneRecord (lending (97 ∷ []) (replicate 257 97) (98 ∷ []) [] []) 600 ≡ refused 15)
-    × (written shown32 aloneRecord (lending (97 ∷ []) (97 ∷ []) (98 ∷ []) (97 ∷ []) (98 ∷ [])) 19 ≡ refused 15)
+    (writtenFrom shown32 (proofIn aloneRecord) (lending (97 ∷ []) (97 ∷ []) (98 ∷ []) [] []) 19 ≡ accepted aloneMessage)
+    × (writtenFrom shown32 (proofIn (aloneRecord ++ (0 ∷ []))) (lending [] [] [] [] []) 0 ≡ refused 10)
+    × (writtenFrom shown32 (proofIn aloneRecord) (lending (97 ∷ []) (99 ∷ []) (98 ∷ []) [] []) 18 ≡ refused 15)
+    × (writtenFrom shown32 (proofIn aloneRecord) (lending (97 ∷ []) (97 ∷ []) (98 ∷ []) [] []) 18 ≡ refused 9)
+    × (writtenFrom shown32 (proofIn aloneRecord) (lending (97 ∷ []) (97 ∷ []) (99 ∷ []) [] []) 19 ≡ refused 15)
+    × (writtenFrom shown32 (proofIn aloneRecord) (lending (99 ∷ []) (97 ∷ []) (98 ∷ []) [] []) 19 ≡ refused 15)
+    × (writtenFrom shown32 (proofIn aloneRecord) (lending [] (97 ∷ []) (98 ∷ []) [] []) 19 ≡ refused 15)
+    × (writtenFrom shown32 (proofIn aloneRecord) (lending (97 ∷ []) (replicate 257 97) (98 ∷ []) [] []) 600 ≡ refused 15)
+    × (writtenFrom shown32 (proofIn aloneRecord) (lending (97 ∷ []) (97 ∷ []) (98 ∷ []) (97 ∷ []) (98 ∷ [])) 19 ≡ refused 15)
 unfolding varintIn varint numberTag bytesTag messageField bytesField numberField leafOp existence allOf slice field le stepCount isPresence presenceIn leftLength leftPart
-    rightPart flags neighboursFit isAbsence proofIn lengthRight unlent hashesTo leafFits fitted writtenFrom written
+    rightPart flags neighboursFit isAbsence proofIn lengthRight unlent hashesTo leafFits fitted writtenFrom
 writing = (refl, refl, refl, refl, refl, refl, refl, refl, refl)
 
 reading :

@@ -9,7 +9,7 @@ use lib.Dec.{eqb, ltb}
 use Rattle.terms.specs.Bits.{Bytes, Byte, All, sameBytes}
 use Rattle.terms.specs.Fields.{allOf}
 use Rattle.terms.specs.Records.{Presence, Proof, presence, absence}
-use Rattle.proofrecords.specs.ProofBytes.{proofBytes, proofIn}
+use Rattle.proofrecords.specs.ProofBytes.{proofBytes}
 use Rattle.meaning.specs.Calls.{Answer, refused, accepted}
 use Rattle.messages.specs.Message.{messageBytes, mostKey, mostValue, ownProof}
 use Rattle.messages.specs.Reading.{lengthRight, messageIn}
@@ -77,15 +77,12 @@ module _ (sha : Bytes → Bytes) where
   unfoldable pub fitted : {A : Type 0} → ℕ → Bytes → A → Answer A
   fitted room x a = cond (ltb room (length x)) (refused 9) (accepted a)
 
-  -- The message of a record's proof.
+  -- The message of the proof that a record is.
   unfoldable pub writtenFrom : Option Proof → Lent → ℕ → Answer Bytes
   writtenFrom none lent room = refused 10
   writtenFrom (some p) lent room =
       let m = messageBytes (rawProof lent p) in
       cond (lentFits lent p) (fitted room m m) (refused 15)
-
-  unfoldable pub written : Bytes → Lent → ℕ → Answer Bytes
-  written x lent room = writtenFrom (proofIn x) lent room
 
   -- Our own record of what a message says; what it says is the answer.
   abbrev pub recordOf : Proof → Bytes

@@ -2,17 +2,17 @@
 use Prim.Native.Nat.{ℕ, _-_, _<_, _≤_}
 use native.Mathlib.Omega.{arith}
 use native.Mathlib.Nat.{zero-add}
-use mathlib.Core.Path.{_≡_, refl, ap, sym, _∙_, fun-ext}
+use mathlib.Core.Path.{_≡_, refl, ap, sym, _∙_}
 use mathlib.Core.Bool.{Bool, true, false, cond}
 use mathlib.Core.List.{List, [], _∷_, _++_}
+use mathlib.Core.Option.{none, some}
 use lib.ListN.{length, take, drop}
 use borrow.Author.Tests.{lt-ltb, le-ltb}
 use Rattle.terms.specs.declared.Form.the-variants.{Counted as counted}
 use Rattle.terms.specs.Bits.{Bytes}
 use Rattle.terms.specs.Records.{Proof, Store}
 use Rattle.meaning.specs.Calls.{Answer, refused, accepted, isKept}
-use Rattle.meaning.specs.Sight.{scan}
-use Rattle.meaning.specs.Proving.{proofBy, proof}
+use Rattle.meaning.specs.Proving.{proofBy}
 use Rattle.meaning.proofs.Sights.{node-sighted}
 use Rattle.indexed.specs.Index.{byTable}
 use Rattle.indexed.proofs.Scanned.{node-without-table, without-table}
@@ -29,21 +29,22 @@ use Rattle.read_open.specs.declared.Opened.the-variants as first
 use Rattle.read_open.proofs.Opening as opening
 use Rattle.prove_paths.proofs.Records.{part-room}
 use Rattle.prove_plan.proofs.Ending.{by-searches}
-use Rattle.palette_rules.specs.Palette.{wholeKeys, keysIn, inTurn, lengthTogether, fittedTogether, paletteOf, palette}
+use Rattle.palette_rules.specs.Palette.{wholeKeys, keysIn, inTurn, lengthTogether, fittedTogether, paletteOf}
 use Rattle.palette_rules.proofs.Turns.{in-turn-same}
 use Rattle.prove.specs.Parts.{provedSays}
 use Rattle.prove.specs.declared.Proved as declared
 use Rattle.prove.specs.declared.Proved.the-variants.{Refused, Length}
-use Rattle.contracts.specs.Palettes.{paletteAnswer, paletteIndexed, proofsBytes, roomAfter}
+use Rattle.meaning.specs.Answers.{roomAfter}
+use Rattle.contracts.specs.Palettes.{paletteAnswer, proofsBytes}
 use Rattle.promises.proofs.Heading.{as-many, not-as-many}
 use Rattle.palette.specs.Parts.{paletteAnswerBy, plannedFor, plannedIn, togetherLength, togetherBytes, Gives}
 
 pub gives-refusal : {a : Answer (List Proof)} (n : ℕ) (room : Bytes) → a ≡ refused n → Gives a room room (Refused n)
 unfolding provedSays
-gives-refusal n room e = record { answer = sym (ap togetherLength e); bytes = sym (ap (λ a. roomAfter a room) e) }
+gives-refusal n room e = record { answer = sym (ap togetherLength e); bytes = sym (ap (λ a. roomAfter proofsBytes a room) e) }
 
 pub gives-as : {a b : Answer (List Proof)} {room after : Bytes} {r : declared.Proved} → a ≡ b → Gives a room after r → Gives b room after r
-gives-as {room = room} e g = record { answer = g .answer ∙ ap togetherLength e; bytes = g .bytes ∙ ap (λ a. roomAfter a room) e }
+gives-as {room = room} e g = record { answer = g .answer ∙ ap togetherLength e; bytes = g .bytes ∙ ap (λ a. roomAfter proofsBytes a room) e }
 
 -- what is left of the room whose front was lent and came back as y
 abbrev front : ℕ → Bytes → Bytes → Bytes
@@ -90,7 +91,7 @@ module _ (a : Answer (List Proof)) (len : ℕ) (room : Bytes) (e : togetherLengt
       let n : length (proofsBytes (m .0)) ≡ len = ap length (sym its) ∙ l ∙ part-room 0 len len room (omega arith) h in
       record {
         answer = ap accepted (sym (m .2)) ∙ sym (ap togetherLength fits);
-        bytes = ap (front len room) its ∙ front-filled len room (proofsBytes (m .0)) n ∙ sym (ap (λ b. roomAfter b room) fits);
+        bytes = ap (front len room) its ∙ front-filled len room (proofsBytes (m .0)) n ∙ sym (ap (λ b. roomAfter proofsBytes b room) fits);
       }
 
 -- 12
@@ -138,33 +139,24 @@ pub kept-size : {o : declared-opened.Opened} (s : Bytes) (v : ℕ) → openedSay
 kept-size s v says e = opening.kept-size s v (sym (ap openedSays e) ∙ says)
 
 -- by a table without entries it is that of the scan
-pub palette-plain : (s : Bytes) (v : ℕ) (ks : Bytes) (room : ℕ) → paletteAnswerBy s [] v ks room ≡ paletteAnswer s v ks room
-unfolding paletteAnswerBy paletteAnswer palette proof
+pub palette-plain : (s : Bytes) (v : ℕ) (ks : Bytes) (room : ℕ) → paletteAnswerBy s [] v ks room ≡ paletteAnswer s none v ks room
+unfolding paletteAnswerBy paletteAnswer
 palette-plain s v ks room =
     ap (λ look. cond (wholeKeys ks) (byHeader (headerOf counted s) (paletteOf (proofBy look (storeOf s) v) (storeOf s) v (keysIn ks) room)) (refused 12))
     (without-table (storeOf s))
-    ∙ ap (λ single. cond (wholeKeys ks) (byHeader (headerOf counted s) (paletteOf single (storeOf s) v (keysIn ks) room)) (refused 12))
-    (fun-ext (λ k. single-plain k))
-  where
-    single-plain : (k : Bytes) → proofBy (scan (storeOf s)) (storeOf s) v k ≡ proof (storeOf s) v k
-    single-plain k = refl
 
 -- a table of another length is refused with 1, after 12; else its palette is one by a table of any length
 module _ (s : Bytes) (table : List ℕ) (v : ℕ) (ks : Bytes) (room : ℕ) where
   abbrev byIt : Answer (List Proof)
   byIt = paletteOf (proofBy (byTable table (storeOf s)) (storeOf s) v) (storeOf s) v (keysIn ks) room
 
-  pub palette-as-many : wholeKeys ks ≡ true → asMany s table ≡ true → paletteAnswerBy s table v ks room ≡ paletteIndexed s table v ks room
-  unfolding paletteAnswerBy paletteIndexed
+  pub palette-as-many : wholeKeys ks ≡ true → asMany s table ≡ true → paletteAnswerBy s table v ks room ≡ paletteAnswer s (some table) v ks room
+  unfolding paletteAnswerBy paletteAnswer
   palette-as-many whole e = ap (λ a. cond (wholeKeys ks) a (refused 12)) (as-many byIt s table e)
 
-  pub palette-not-as-many : wholeKeys ks ≡ true → asMany s table ≡ false → refused 1 ≡ paletteIndexed s table v ks room
-  unfolding paletteIndexed
+  pub palette-not-as-many : wholeKeys ks ≡ true → asMany s table ≡ false → refused 1 ≡ paletteAnswer s (some table) v ks room
+  unfolding paletteAnswer
   palette-not-as-many whole e = rw whole (not-as-many byIt s table e)
-
-  pub palette-torn : wholeKeys ks ≡ false → refused 12 ≡ paletteIndexed s table v ks room
-  unfolding paletteIndexed
-  palette-torn f = rw f
 
 -- a table of which the length is 0
 pub without-entries : (t : List ℕ) → length t ≡ 0 → t ≡ []
@@ -173,5 +165,5 @@ without-entries (x ∷ t) e = absurd (omega arith)
 
 -- Guesses of children that each lead are what a scan finds.
 pub led-own : (st : Store) (kids : List ℕ) → Leading (st .slots) kids → Led st [] kids
-led-own st kids leading m r l some e =
-    node-without-table st (r .version) (r .place) ∙ node-sighted st (r .version) (r .place) r (leading m l some r e)
+led-own st kids leading m r l least e =
+    node-without-table st (r .version) (r .place) ∙ node-sighted st (r .version) (r .place) r (leading m l least r e)

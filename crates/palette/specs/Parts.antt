@@ -17,7 +17,8 @@ use Rattle.promises.specs.Headed.{byHeader}
 use Rattle.palette_rules.specs.Palette.{wholeKeys, keysIn, inTurn, lengthTogether, paletteOf}
 use Rattle.prove.specs.Parts.{provedSays}
 use Rattle.prove.specs.declared.Proved as declared
-use Rattle.contracts.specs.Palettes.{proofsBytes, roomAfter}
+use Rattle.meaning.specs.Answers.{roomAfter}
+use Rattle.contracts.specs.Palettes.{proofsBytes}
 
 -- What the call answers by a table of any length; one without entries is the scan.
 unfoldable pub paletteAnswerBy : Bytes → List ℕ → ℕ → Bytes → ℕ → Answer (List Proof)
@@ -46,4 +47,4 @@ togetherBytes (accepted ps) = proofsBytes ps
 -- The answer and the room afterwards are those of the answer a.
 pub record Gives (a : Answer (List Proof)) (room after : Bytes) (r : declared.Proved) : Type 0 where
   pub answer : provedSays r ≡ togetherLength a
-  pub bytes : after ≡ roomAfter a room
+  pub bytes : after ≡ roomAfter proofsBytes a room

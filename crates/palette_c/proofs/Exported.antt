@@ -2,6 +2,7 @@
 use Prim.Native.Nat.{ℕ}
 use mathlib.Core.Path.{_≡_, ap, sym, _∙_}
 use mathlib.Core.List.{List}
+use mathlib.Core.Option.{none, some}
 use lib.ListN.{length}
 use Rattle.terms.specs.Bits.{Bytes}
 use Rattle.terms.specs.Fields.{le}
@@ -9,13 +10,13 @@ use Rattle.fields.specs.Written.{written}
 use Rattle.fields.proofs.Written.{number-fills}
 use Rattle.terms.specs.Records.{Proof}
 use Rattle.meaning.specs.Calls.{Answer, refused}
-use Rattle.meaning.specs.Answers.{numberOf}
+use Rattle.meaning.specs.Answers.{numberOf, roomAfter}
 use Rattle.meaning.proofs.Told.{told-refused, told-given}
 use Rattle.palette_rules.specs.Palette.{lengthTogether}
 use Rattle.prove.specs.Parts.{provedSays}
 use Rattle.prove.specs.declared.Proved as declared
 use Rattle.prove.specs.declared.Proved.the-variants.{Refused, Length}
-use Rattle.contracts.specs.Palettes.{paletteIndexed, roomAfter, palettedInto, lengthBytes, Palettes, PalettesBy}
+use Rattle.contracts.specs.Palettes.{paletteAnswer, palettedInto, lengthBytes, Palettes, PalettesBy, proofsBytes}
 use Rattle.palette.specs.Parts.{Gives}
 use Rattle.palette_c.specs.Export.{PaletteTold}
 
@@ -36,18 +37,18 @@ module _ {a : Answer (List Proof)} {room after : Bytes} {r : declared.Proved} (g
 pub palette-as : {a b : Answer (List Proof)} {room f t g : Bytes} {r : ℕ} → a ≡ b → PaletteTold a room f r t g → PaletteTold b room f r t g
 palette-as {room = room} {f = f} e w = record {
   answer = w .answer ∙ ap numberOf e;
-  proofs = w .proofs ∙ ap (λ x. roomAfter x room) e;
+  proofs = w .proofs ∙ ap (λ x. roomAfter proofsBytes x room) e;
   told = w .told ∙ ap (λ x. lengthBytes x f) e;
 }
 
 pub palette-refusal : {b : Answer (List Proof)} (n : ℕ) (room f : Bytes) → refused n ≡ b → PaletteTold b room f n room f
-palette-refusal n room f e = record { answer = ap numberOf e; proofs = ap (λ x. roomAfter x room) e; told = ap (λ x. lengthBytes x f) e }
+palette-refusal n room f e = record { answer = ap numberOf e; proofs = ap (λ x. roomAfter proofsBytes x room) e; told = ap (λ x. lengthBytes x f) e }
 
 -- an answer that is told is what the contract says
 module _ {s : Bytes} {v : ℕ} {list room f : Bytes} {r : ℕ} {t g : Bytes} where
-  pub palette-told : PaletteTold (palettedInto s v list room) room f r t g → Palettes s v list room f r t g
+  pub palette-told : PaletteTold (palettedInto s none v list room) room f r t g → Palettes s v list room f r t g
   palette-told w = record { answer = w .answer; proofs = w .proofs; told = w .told }
 
-  pub palette-told-by : {table : List ℕ} → PaletteTold (paletteIndexed s table v list (length room)) room f r t g →
+  pub palette-told-by : {table : List ℕ} → PaletteTold (paletteAnswer s (some table) v list (length room)) room f r t g →
       PalettesBy s table v list room f r t g
   palette-told-by w = record { answer = w .answer; proofs = w .proofs; told = w .told }

@@ -6,12 +6,12 @@ use mathlib.Core.List.{List}
 use Rattle.terms.specs.Bits.{Bytes}
 use Rattle.terms.specs.Records.{Proof}
 use Rattle.meaning.specs.Calls.{Answer}
-use Rattle.meaning.specs.Answers.{numberOf}
-use Rattle.contracts.specs.Palettes.{roomAfter, lengthBytes}
+use Rattle.meaning.specs.Answers.{numberOf, roomAfter}
+use Rattle.contracts.specs.Palettes.{lengthBytes, proofsBytes}
 
 -- A palette's answer is told: r is the number of refusal or 0;
 -- the room is left as t, the array f for the length of all together as g.
 pub record PaletteTold (a : Answer (List Proof)) (room f : Bytes) (r : ℕ) (t g : Bytes) : Type 0 where
   pub answer : r ≡ numberOf a
-  pub proofs : t ≡ roomAfter a room
+  pub proofs : t ≡ roomAfter proofsBytes a room
   pub told : g ≡ lengthBytes a f

@@ -20,7 +20,8 @@ use Rattle.meaning.specs.Reading.{Verdict, readRoot, answerOf}
 use Rattle.meaning.specs.Proving.{HoldsGrant, proof, presenceLength, neighbourLength, proofLength, fitted, prove}
 use Rattle.meaning.specs.Checking.{checked}
 use Rattle.shown.proofs.Theorems.{shown}
-use Rattle.pocket.specs.Pocket.{pocketSteps, Shows, Outside, shortPath, shortNeighbour, small, inProfile, pocketProve, pocketChecked}
+use Rattle.pocket.specs.Pocket.{pocketSteps, Shows, Outside, shortPath, shortNeighbour, small, inProfile, pocketProve}
+use Rattle.pocket.specs.Checking.{pocketChecked}
 
 module _ (leafHash innerHash : Bytes → Bytes → Bytes) (root k : Bytes) (p : Proof) where
   -- Inside the profile, the pocket checker and the full one agree;

@@ -1,1 +1,2 @@
 pub mod Pocket
+pub mod Checking

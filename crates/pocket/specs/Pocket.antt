@@ -9,9 +9,7 @@ use lib.Dec.{leb}
 use Rattle.terms.specs.Bits.{Bytes}
 use Rattle.terms.specs.Records.{Presence, Proof, presence, absence, Store}
 use Rattle.meaning.specs.Calls.{Answer, refused, accepted}
-use Rattle.meaning.specs.Reading.{Verdict}
 use Rattle.meaning.specs.Proving.{proof, fitted}
-use Rattle.meaning.specs.Checking.{checked}
 
 abbrev pub pocketSteps : ℕ
 pocketSteps = 32
@@ -46,8 +44,3 @@ inProfile (accepted p) = cond (small p) (accepted p) (refused 19)
 -- The pocket writer refuses as the full one does, with 19 before 9.
 unfoldable pub pocketProve : Store → ℕ → Bytes → ℕ → Answer Proof
 pocketProve st v k room = fitted room (inProfile (proof st v k))
-
--- The pocket checker, of a proof in form: 19, before 11; else what the full one says.
-module _ (leafHash innerHash : Bytes → Bytes → Bytes) where
-  unfoldable pub pocketChecked : Bytes → Bytes → Proof → Answer Verdict
-  pocketChecked root k p = cond (small p) (checked leafHash innerHash root k p) (refused 19)

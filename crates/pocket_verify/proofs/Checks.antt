@@ -2,14 +2,16 @@
 use Prim.Native.Nat.{ℕ}
 use mathlib.Core.Path.{_≡_, refl, ap, sym, _∙_}
 use mathlib.Core.Bool.{true, false, not}
-use Rattle.terms.specs.Bits.{Bytes}
+use Rattle.terms.specs.Bits.{Bytes, Byte, All}
 use Rattle.terms.specs.Records.{absence}
 use Rattle.meaning.specs.Calls.{refused}
 use Rattle.meaning.specs.Answers.{numberOf, foundAfter}
 use Rattle.proofrecords.specs.ProofBytes.{isPresence, presenceIn, isAbsence, absenceIn, proofIn}
 use Rattle.pocket.specs.Pocket.{shortPath, small}
-use Rattle.verify_rules.specs.Verify.{verified, Verifies}
-use Rattle.verify_rules.specs.Pocket.{pocketVerified, PocketVerifies, outside}
+use Rattle.verify_rules.specs.Verify.{Verifies}
+use Rattle.verify_rules.specs.Reading.{verified, pocketVerified, outside}
+use Rattle.verify_rules.specs.Pocket.{PocketVerifies}
+use Rattle.verify_rules.proofs.Told.{told-exactly, pocket-verifies}
 
 -- which bytes are outside, by their form
 module _ (x : Bytes) where
@@ -26,8 +28,11 @@ module _ (x : Bytes) where
   off-form-inside p a = rw (p, a) refl
 
 -- what the call leaves: a refusal nothing, else what the full check leaves
-pub pocket-refused : {root k x : Bytes} {n : ℕ} (f : Bytes) → refused n ≡ pocketVerified root k x → PocketVerifies root k x f n f
-pocket-refused f e = record { answer = ap (λ a. numberOf a) e; found = ap (λ a. foundAfter a f) e }
+module _ {root k x : Bytes} (bytes : All Byte x) where
+  pub pocket-refused : {n : ℕ} (f : Bytes) → refused n ≡ pocketVerified root k x → PocketVerifies root k x f n f
+  pocket-refused f e = pocket-verifies bytes (ap (λ a. numberOf a) e) (ap (λ a. foundAfter a f) e)
 
-pub as-full : {root k x f g : Bytes} {r : ℕ} → pocketVerified root k x ≡ verified root k x → Verifies root k x f r g → PocketVerifies root k x f r g
-as-full {f = f} e w = record { answer = w .answer ∙ ap (λ a. numberOf a) (sym e); found = w .found ∙ ap (λ a. foundAfter a f) (sym e) }
+  pub as-full : {f g : Bytes} {r : ℕ} → pocketVerified root k x ≡ verified root k x → Verifies root k x f r g → PocketVerifies root k x f r g
+  as-full {f} e w =
+      let d = told-exactly root k x bytes (w .verdict) .0 (w .told) ∙ sym e in
+      pocket-verifies bytes (w .answer ∙ ap (λ a. numberOf a) d) (w .found ∙ ap (λ a. foundAfter a f) d)

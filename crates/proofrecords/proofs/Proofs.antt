@@ -15,7 +15,7 @@ use Rattle.terms.specs.Records.{Presence, Absence, Proof, presence, absence}
 use Rattle.terms.proofs.Tests.{and-left, and-right, is-false}
 use Rattle.terms.proofs.Lists.{all-drop}
 use Rattle.terms.proofs.Fields.{num-le, length-le, le-field, length-slice, all-slice, cuts, flat-cuts, all-of-tests, tests-all, Sized, cuts-flat, length-flat, drop-fields, slice-rest}
-use Rattle.proofrecords.specs.ProofBytes.{presenceBytes, stepsBytes, neighbourBytes, flagsOf, absenceBytes, proofBytes, stepCount, presenceTests, isPresence, presenceIn, leftLength, leftPart, rightPart, flags, neighboursFit, absenceTests, isAbsence, absenceIn, proofIn, PresenceForm, NeighbourForm, ProofForm}
+use Rattle.proofrecords.specs.ProofBytes.{presenceBytes, stepsBytes, neighbourBytes, flagsOf, absenceBytes, proofBytes, stepCount, presenceTests, isPresence, presenceIn, leftLength, leftPart, rightPart, flags, neighboursFit, absenceTests, isAbsence, absenceIn, proofIn, PresenceForm, NeighbourForm, ProofForm, ProofIs, ProofSaid}
 use Rattle.proofrecords.proofs.Steps.{length-steps, steps-back, sides-written, steps-are, length-steps-in, steps-form}
 
 -- the last field is the rest
@@ -443,3 +443,38 @@ proof-bytes x p h = go (isPresence x) (isAbsence x) refl refl
         let q : absence (absenceIn x) ≡ p = cc in
         subst (λ y. (ProofForm y) × (proofBytes y ≡ x)) q (absence-form x h d, absence-bytes x h d)
     go false false e d k = let z : _≡_ {A = ℕ} 0 1 = cc in absurd (omega arith)
+
+-- bytes are a proof exactly if they are read as it, and none if they are read as none
+module _ (x : Bytes) where
+  pub read-as : (p : Proof) → ProofIs x p → proofIn x ≡ some p
+  read-as p w = ap proofIn (w .bytes) ∙ proof-back p (w .form)
+
+  pub proof-is : All Byte x → (p : Proof) → proofIn x ≡ some p → ProofIs x p
+  proof-is bytes p e = let w = proof-bytes x p bytes e in record { bytes = sym (w .1); form = w .0 }
+
+  pub no-proof-is : proofIn x ≡ none → (p : Proof) → ProofIs x p → ⊥
+  no-proof-is e p w = none-some (sym e ∙ read-as p w)
+    where
+      none-some : none ≡ some p → ⊥
+      none-some z = let y : _≡_ {A = ℕ} 0 1 = cc in omega arith
+
+  -- so they are one proof at most
+  pub one-proof-is : (p q : Proof) → ProofIs x p → ProofIs x q → p ≡ q
+  one-proof-is p q v w = same (sym (read-as p v) ∙ read-as q w)
+    where
+      same : some p ≡ some q → p ≡ q
+      same e = cc
+
+  -- and what they are said to be is what they are read as
+  pub said-as-read : All Byte x → ProofSaid x (proofIn x)
+  said-as-read bytes = go (proofIn x) refl
+    where
+      go : (o : Option Proof) → proofIn x ≡ o → ProofSaid x o
+      go none e = no-proof-is e
+      go (some p) e = proof-is bytes p e
+
+  pub one-proof-said : (o u : Option Proof) → ProofSaid x o → ProofSaid x u → o ≡ u
+  one-proof-said none none h k = refl
+  one-proof-said none (some q) h k = absurd (h q k)
+  one-proof-said (some p) none h k = absurd (k p h)
+  one-proof-said (some p) (some q) h k = ap some (one-proof-is p q h k)

@@ -1,5 +1,6 @@
 -- Document 01, 'Bytes': presence and absence proofs; with 2026-03, by which flags 0 is off form. Assumes nothing.
 use Prim.Native.Nat.{ℕ, zero, suc, _+_, _*_, _≤_}
+use mathlib.Core.Path.{_≡_}
 use mathlib.Core.Bool.{Bool, true, cond, _&&_}
 use mathlib.Core.List.{List, [], _∷_, _++_}
 use mathlib.Core.Option.{Option, none, some}
@@ -174,3 +175,13 @@ ProofForm (presence p) = PresenceForm p
 ProofForm (absence a) =
     Whole32 (a .key) × NeighbourForm (a .leftward) × NeighbourForm (a .rightward) ×
     (1 ≤ flagsOf (a .leftward) (a .rightward))
+
+-- The bytes are one whole proof in form, no byte over.
+pub record ProofIs (x : Bytes) (p : Proof) : Type 0 where
+  pub bytes : x ≡ proofBytes p
+  pub form : ProofForm p
+
+-- Which proof the bytes are; none, where they are none (10).
+abbrev pub ProofSaid : Bytes → Option Proof → Type 0
+ProofSaid x none = (p : Proof) → ProofIs x p → ⊥
+ProofSaid x (some p) = ProofIs x p

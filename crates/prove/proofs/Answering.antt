@@ -3,6 +3,7 @@ use Prim.Native.Nat.{ℕ}
 use mathlib.Core.Path.{_≡_, refl, ap, sym, _∙_, subst}
 use mathlib.Core.Bool.{Bool, true, false, cond}
 use mathlib.Core.List.{List, []}
+use mathlib.Core.Option.{none, some}
 use lib.ListN.{length}
 use lib.Dec.{eqb}
 use borrow.Author.Tests.{eq-eqb, ne-eqb}
@@ -11,7 +12,7 @@ use Rattle.terms.specs.Bits.{Bytes}
 use Rattle.terms.specs.Records.{Proof}
 use Rattle.meaning.specs.Calls.{Answer, refused, isKept}
 use Rattle.meaning.specs.Reading.{seen}
-use Rattle.meaning.specs.Proving.{proveSeen, proofBy, proof, proveBy, prove, fitted}
+use Rattle.meaning.specs.Proving.{proveSeen, proveBy, fitted}
 use Rattle.indexed.specs.Index.{byTable}
 use Rattle.indexed.proofs.Scanned.{without-table}
 use Rattle.layout.specs.Headers.{sizeRight, headerOf}
@@ -24,7 +25,9 @@ use Rattle.read_open.proofs.Opening as opening
 use Rattle.prove_plan.specs.Plans.{planSays, Plans}
 use Rattle.prove_plan.specs.declared.Plan as declared-plan
 use Rattle.prove_plan.proofs.Ending.{by-searches}
-use Rattle.contracts.specs.Proves.{proveAnswer, proveIndexed, roomAfter}
+use Rattle.meaning.specs.Answers.{roomAfter}
+use Rattle.proofrecords.specs.ProofBytes.{proofBytes}
+use Rattle.contracts.specs.Proves.{proveAnswer}
 use Rattle.promises.proofs.Heading.{as-many, not-as-many}
 use Rattle.prove.specs.Parts.{proveAnswerBy, Gives, lengthAnswer, provedSays}
 use Rattle.prove.specs.declared.Proved as declared
@@ -34,11 +37,11 @@ use Rattle.prove.proofs.Giving.{gives-refusal}
 -- the call's answer and room
 abbrev Answers : Bytes → List ℕ → ℕ → Bytes → Bytes → Bytes → declared.Proved → Type 0
 Answers s table v k room after r =
-    (provedSays r ≡ lengthAnswer (proveAnswerBy s table v k (length room))) × (after ≡ roomAfter (proveAnswerBy s table v k (length room)) room)
+    (provedSays r ≡ lengthAnswer (proveAnswerBy s table v k (length room))) × (after ≡ roomAfter proofBytes (proveAnswerBy s table v k (length room)) room)
 
 answers : {a : Answer Proof} (s : Bytes) (table : List ℕ) (v : ℕ) (k room after : Bytes) (r : declared.Proved) → Gives a room after r → a ≡ proveAnswerBy s table v k (length room) →
     Answers s table v k room after r
-answers s table v k room after r g e = (g .answer ∙ ap lengthAnswer e, g .bytes ∙ ap (λ a. roomAfter a room) e)
+answers s table v k room after r g e = (g .answer ∙ ap lengthAnswer e, g .bytes ∙ ap (λ a. roomAfter proofBytes a room) e)
 
 fitted-kept : (n : ℕ) (b : Bool) (a : Answer Proof) → fitted n (cond b a (refused 8)) ≡ cond b (fitted n a) (refused 8)
 fitted-kept n true a = refl
@@ -76,23 +79,23 @@ pub kept-size : {o : declared-opened.Opened} (s : Bytes) (v : ℕ) → openedSay
 kept-size s v says e = opening.kept-size s v (sym (ap openedSays e) ∙ says)
 
 -- by a table without entries it is that of the scan
-pub prove-plain : (s : Bytes) (v : ℕ) (k : Bytes) (room : ℕ) → proveAnswerBy s [] v k room ≡ proveAnswer s v k room
-unfolding proveAnswerBy proveAnswer prove proof
+pub prove-plain : (s : Bytes) (v : ℕ) (k : Bytes) (room : ℕ) → proveAnswerBy s [] v k room ≡ proveAnswer s none v k room
+unfolding proveAnswerBy proveAnswer
 prove-plain s v k room =
     ap (λ look. cond (eqb (length k) 32) (byHeader (headerOf counted s) (proveBy look (storeOf s) v k room)) (refused 12)) (without-table (storeOf s))
 
 -- a table of another length is refused with 1, after 12; else its proof is one by a table of any length
 module _ (s : Bytes) (table : List ℕ) (v : ℕ) (k : Bytes) (room : ℕ) where
-  pub prove-as-many : length k ≡ 32 → asMany s table ≡ true → proveAnswerBy s table v k room ≡ proveIndexed s table v k room
-  unfolding proveAnswerBy proveIndexed
+  pub prove-as-many : length k ≡ 32 → asMany s table ≡ true → proveAnswerBy s table v k room ≡ proveAnswer s (some table) v k room
+  unfolding proveAnswerBy proveAnswer
   prove-as-many whole e =
       ap (λ a. cond (eqb (length k) 32) a (refused 12)) (as-many (proveBy (byTable table (storeOf s)) (storeOf s) v k room) s table e)
 
-  pub prove-not-as-many : length k ≡ 32 → asMany s table ≡ false → refused 1 ≡ proveIndexed s table v k room
-  unfolding proveIndexed
+  pub prove-not-as-many : length k ≡ 32 → asMany s table ≡ false → refused 1 ≡ proveAnswer s (some table) v k room
+  unfolding proveAnswer
   prove-not-as-many whole e =
       rw (eq-eqb (length k) 32 whole) (not-as-many (proveBy (byTable table (storeOf s)) (storeOf s) v k room) s table e)
 
-  pub prove-wrong-key : (length k ≡ 32 → ⊥) → refused 12 ≡ proveIndexed s table v k room
-  unfolding proveIndexed
+  pub prove-wrong-key : (length k ≡ 32 → ⊥) → refused 12 ≡ proveAnswer s (some table) v k room
+  unfolding proveAnswer
   prove-wrong-key f = rw (ne-eqb (length k) 32 f)

@@ -15,7 +15,7 @@ use Rattle.fields.proofs.Written.{part-written}
 use Rattle.proofrecords.specs.ProofBytes.{proofBytes}
 use Rattle.prove_paths.proofs.Records.{part-room}
 use Rattle.prove_write.specs.Written.{plannedLength, plannedBytes}
-use Rattle.contracts.specs.Proves.{roomAfter}
+use Rattle.meaning.specs.Answers.{roomAfter}
 use Rattle.prove.specs.Parts.{lengthAnswer, provedSays, Gives}
 use Rattle.prove.specs.declared.Proved as declared
 use Rattle.prove.specs.declared.Proved.the-variants.{Refused, Length}
@@ -31,7 +31,7 @@ front-filled len room f l = part-written 0 len f room (zero-add (length f) ∙ l
 -- a refusal
 pub gives-refusal : {a : Answer Proof} (n : ℕ) (room : Bytes) → a ≡ refused n → Gives a room room (Refused n)
 unfolding provedSays
-gives-refusal n room e = record { answer = sym (ap lengthAnswer e); bytes = sym (ap (λ a. roomAfter a room) e) }
+gives-refusal n room e = record { answer = sym (ap lengthAnswer e); bytes = sym (ap (λ a. roomAfter proofBytes a room) e) }
 
 pub planned-refusal : {n : ℕ} {a : Answer Proof} (room : Bytes) → a ≡ refused n → Gives (fitted (length room) a) room room (Refused n)
 planned-refusal {n} room e = gives-refusal n room (ap (fitted (length room)) e)
@@ -55,5 +55,5 @@ module _ {len : ℕ} {a : Answer Proof} (room : Bytes) (p : Proof) (says : a ≡
       let n : length (proofBytes p) ≡ len = ap length (sym its) ∙ l ∙ part-room 0 len len room (omega arith) h in
       record {
         answer = ap accepted e ∙ sym (ap lengthAnswer fits);
-        bytes = ap (front len room) its ∙ front-filled len room (proofBytes p) n ∙ sym (ap (λ a. roomAfter a room) fits);
+        bytes = ap (front len room) its ∙ front-filled len room (proofBytes p) n ∙ sym (ap (λ a. roomAfter proofBytes a room) fits);
       }

@@ -16,9 +16,10 @@ use Rattle.indexed.specs.Index.{byTable}
 use Rattle.layout.specs.Headers.{headerOf}
 use Rattle.layout.specs.Stores.{storeOf}
 use Rattle.promises.specs.Headed.{byHeader}
+use Rattle.meaning.specs.Answers.{roomAfter}
+use Rattle.proofrecords.specs.ProofBytes.{proofBytes}
 use Rattle.prove.specs.declared.Proved as declared
 use Rattle.prove.specs.declared.Proved.the-variants.{Refused, Length}
-use Rattle.contracts.specs.Proves.{roomAfter}
 
 -- What is proved by a table of any length; one without entries is the scan.
 unfoldable pub proveAnswerBy : Bytes → List ℕ → ℕ → Bytes → ℕ → Answer Proof
@@ -38,7 +39,7 @@ provedSays (Length n) = accepted n
 -- The answer and the room afterwards are those of the answer a.
 pub record Gives (a : Answer Proof) (room after : Bytes) (r : declared.Proved) : Type 0 where
   pub answer : provedSays r ≡ lengthAnswer a
-  pub bytes : after ≡ roomAfter a room
+  pub bytes : after ≡ roomAfter proofBytes a room
 
 -- The same where the proof is still to be fitted into the room: 9 if it is longer.
 abbrev pub Offers : Answer Proof → Bytes → Bytes → declared.Proved → Type 0

@@ -10,7 +10,8 @@ use refusal_numbers::wide::NO_ROOM;
 ghost use mathlib.Core.Path.{_≡_};
 ghost use lib.ListN.{length};
 ghost use Rattle.prove_plan.specs.Plans.{planSays, PlanIn};
-ghost use Rattle.contracts.specs.Proves.{roomAfter};
+ghost use Rattle.meaning.specs.Answers.{roomAfter};
+ghost use Rattle.proofrecords.specs.ProofBytes.{proofBytes};
 ghost use Rattle.prove.specs.Parts.{proveAnswerBy, Offers, provedSays, lengthAnswer};
 
 // What proving answers.
@@ -42,7 +43,7 @@ pub fn give(store: &[u8], key: &[u8], plan: Plan, room: &mut [u8]) -> Proved
 // and the rest stays; refused, nothing is written.
 pub fn prove(store: &[u8], index: &[u32], version: u32, key: &[u8], room: &mut [u8]) -> Proved
     ensures answer { λ r. ⌜ provedSays r ≡ lengthAnswer (proveAnswerBy (now (store .entry)) (now (index .entry)) version (now (key .entry)) (length (now (room .entry)))) ⌝ }
-    ensures bytes { λ _. ⌜ now (room .exit) ≡ roomAfter (proveAnswerBy (now (store .entry)) (now (index .entry)) version (now (key .entry)) (length (now (room .entry)))) (now (room .entry)) ⌝ }
+    ensures bytes { λ _. ⌜ now (room .exit) ≡ roomAfter proofBytes (proveAnswerBy (now (store .entry)) (now (index .entry)) version (now (key .entry)) (length (now (room .entry)))) (now (room .entry)) ⌝ }
 {
     if key.len() != 32 {
         return Proved::Refused(NOT_32_BYTES as u64);

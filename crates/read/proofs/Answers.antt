@@ -3,13 +3,14 @@ use Prim.Native.Nat.{ℕ}
 use mathlib.Core.Path.{_≡_, ap, sym, _∙_}
 use mathlib.Core.Bool.{true, cond}
 use mathlib.Core.List.{List, []}
+use mathlib.Core.Option.{none, some}
 use lib.ListN.{length}
 use lib.Dec.{eqb}
 use borrow.Author.Tests.{eq-eqb, ne-eqb}
 use Rattle.terms.specs.declared.Form.the-variants.{Counted as counted}
 use Rattle.terms.specs.Bits.{Bytes}
 use Rattle.meaning.specs.Calls.{refused, accepted}
-use Rattle.meaning.specs.Reading.{rootRead, readRootBy, readRoot, readKeyBy, readKey}
+use Rattle.meaning.specs.Reading.{rootRead, readRootBy, readKeyBy}
 use Rattle.indexed.specs.Index.{rootBy, byTable}
 use Rattle.indexed.proofs.Scanned.{without-table}
 use Rattle.nodehash.specs.Node.{leafHash, innerHash}
@@ -26,7 +27,7 @@ use Rattle.read_root.specs.Parts.{rootSays}
 use Rattle.read_root.specs.declared.RootRead as declared-root
 use Rattle.read_root.specs.declared.RootRead.the-variants as root
 use Rattle.promises.specs.Headed.{byHeader, asMany}
-use Rattle.contracts.specs.Reads.{rootAnswer, rootIndexed, keyAnswer, keyIndexed}
+use Rattle.contracts.specs.Reads.{rootAnswer, keyAnswer}
 use Rattle.promises.proofs.Heading.{as-many}
 use Rattle.read.specs.Parts.{rootAnswerBy, keyAnswerBy}
 
@@ -63,22 +64,22 @@ unfolding readSays keyAnswerBy
 key-wrong s table v k f = rw (ne-eqb (length k) 32 f)
 
 -- by a table without entries they are those of the scan
-pub root-plain : (s : Bytes) (v : ℕ) → rootAnswerBy s [] v ≡ rootAnswer s v
-unfolding rootAnswerBy rootAnswer readRoot
+pub root-plain : (s : Bytes) (v : ℕ) → rootAnswerBy s [] v ≡ rootAnswer s none v
+unfolding rootAnswerBy rootAnswer
 root-plain s v = ap (λ look. byHeader (headerOf counted s) (readRootBy leafHash innerHash look (storeOf s) v)) (without-table (storeOf s))
 
-pub key-plain : (s : Bytes) (v : ℕ) (k : Bytes) → keyAnswerBy s [] v k ≡ keyAnswer s v k
-unfolding keyAnswerBy keyAnswer readKey
+pub key-plain : (s : Bytes) (v : ℕ) (k : Bytes) → keyAnswerBy s [] v k ≡ keyAnswer s none v k
+unfolding keyAnswerBy keyAnswer
 key-plain s v k =
     ap (λ look. cond (eqb (length k) 32) (byHeader (headerOf counted s) (readKeyBy look (storeOf s) v k)) (refused 12)) (without-table (storeOf s))
 
 -- of a table as long as the capacity the read is one by a table of any length
 module _ (s : Bytes) (table : List ℕ) (v : ℕ) where
-  pub root-as-many : asMany s table ≡ true → rootAnswerBy s table v ≡ rootIndexed s table v
-  unfolding rootAnswerBy rootIndexed
+  pub root-as-many : asMany s table ≡ true → rootAnswerBy s table v ≡ rootAnswer s (some table) v
+  unfolding rootAnswerBy rootAnswer
   root-as-many e = as-many (readRootBy leafHash innerHash (byTable table (storeOf s)) (storeOf s) v) s table e
 
-  pub key-as-many : (k : Bytes) → length k ≡ 32 → asMany s table ≡ true → keyAnswerBy s table v k ≡ keyIndexed s table v k
-  unfolding keyAnswerBy keyIndexed
+  pub key-as-many : (k : Bytes) → length k ≡ 32 → asMany s table ≡ true → keyAnswerBy s table v k ≡ keyAnswer s (some table) v k
+  unfolding keyAnswerBy keyAnswer
   key-as-many k whole e =
       ap (λ a. cond (eqb (length k) 32) a (refused 12)) (as-many (readKeyBy (byTable table (storeOf s)) (storeOf s) v k) s table e)

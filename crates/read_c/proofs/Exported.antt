@@ -3,6 +3,7 @@ use Prim.Native.Nat.{ℕ, _-_}
 use native.Mathlib.Omega.{arith}
 use mathlib.Core.Path.{_≡_, ap, ap₂, sym, _∙_}
 use mathlib.Core.List.{List, [], _∷_, _++_, append-nil}
+use mathlib.Core.Option.{none, some}
 use lib.ListN.{length, take, drop, set, drop-of-length-le, length-take}
 use Rattle.terms.specs.Bits.{Bytes}
 use Rattle.terms.specs.Records.{zeros}
@@ -12,7 +13,7 @@ use Rattle.meaning.specs.Reading.{Verdict, present, absent}
 use Rattle.hash.specs.declared.Hash.{Hash}
 use Rattle.hash.specs.Hash.{hashBytes}
 use Rattle.hash.proofs.Laws.{put-over}
-use Rattle.contracts.specs.Reads.{rootAnswer, rootIndexed, keyAnswer, keyIndexed, rootBytes, ReadsRoot, ReadsRootBy, ReadsKey, ReadsKeyBy}
+use Rattle.contracts.specs.Reads.{rootAnswer, keyAnswer, rootBytes, ReadsRoot, ReadsRootBy, ReadsKey, ReadsKeyBy}
 use Rattle.read_key.specs.Parts.{readSays}
 use Rattle.read_root.specs.Parts.{rootSays}
 use Rattle.read_root.specs.declared.RootRead as declared-root
@@ -61,16 +62,16 @@ key-refusal n f e = record { answer = ap numberOf e; found = ap (λ x. foundAfte
 
 -- an answer that is told is what the contract says
 module _ {s : Bytes} {v : ℕ} {f : Bytes} {r : ℕ} {g : Bytes} where
-  pub root-told : RootTold (rootAnswer s v) f r g → ReadsRoot s v f r g
+  pub root-told : RootTold (rootAnswer s none v) f r g → ReadsRoot s v f r g
   root-told w = record { answer = w .answer; root = w .root }
 
-  pub root-told-by : {table : List ℕ} → RootTold (rootIndexed s table v) f r g → ReadsRootBy s table v f r g
+  pub root-told-by : {table : List ℕ} → RootTold (rootAnswer s (some table) v) f r g → ReadsRootBy s table v f r g
   root-told-by w = record { answer = w .answer; root = w .root }
 
-  pub key-told : {k : Bytes} → KeyTold (keyAnswer s v k) f r g → ReadsKey s v k f r g
+  pub key-told : {k : Bytes} → KeyTold (keyAnswer s none v k) f r g → ReadsKey s v k f r g
   key-told w = record { answer = w .answer; found = w .found }
 
-  pub key-told-by : {table : List ℕ} {k : Bytes} → KeyTold (keyIndexed s table v k) f r g → ReadsKeyBy s table v k f r g
+  pub key-told-by : {table : List ℕ} {k : Bytes} → KeyTold (keyAnswer s (some table) v k) f r g → ReadsKeyBy s table v k f r g
   key-told-by w = record { answer = w .answer; found = w .found }
 
 -- one byte in front, then a hash

@@ -3,6 +3,7 @@ use Prim.Native.Nat.{ℕ, _+_, _*_, _-_, _/_, _%_}
 use native.Mathlib.Omega.{arith}
 use mathlib.Core.Path.{_≡_, ap, sym, _∙_}
 use mathlib.Core.List.{List, [], _∷_, _++_, append-nil}
+use mathlib.Core.Option.{none, some}
 use lib.ListN.{length, take, drop, length-take, length-drop}
 use Rattle.terms.specs.Bits.{Bytes}
 use Rattle.terms.specs.Fields.{le}
@@ -16,7 +17,7 @@ use Rattle.hash.proofs.Laws.{hash-whole, put-over}
 use Rattle.fields.specs.Written.{written}
 use Rattle.fields.proofs.Written.{length-written, part-written, fields-fill}
 use Rattle.read_number.specs.Numbers.{numberSays}
-use Rattle.contracts.specs.Numbers.{numberAnswer, numberIndexed, positionAnswer, positionIndexed, grantBytes, Counts, CountsBy, ReadsAt, ReadsAtBy}
+use Rattle.contracts.specs.Numbers.{numberAnswer, positionAnswer, grantBytes, Counts, CountsBy, ReadsAt, ReadsAtBy}
 use Rattle.read_number.specs.declared.NumberRead as declared-number
 use Rattle.read_number.specs.declared.NumberRead.the-variants as number
 use Rattle.read_position.specs.Positions.{positionSays}
@@ -106,14 +107,14 @@ grant-refusal n f e = record { answer = ap numberOf e; grant = ap (λ x. toldOf 
 
 -- an answer that is told is what the contract says
 module _ {s : Bytes} {v : ℕ} {f : Bytes} {r : ℕ} {g : Bytes} where
-  pub number-told : NumberTold (numberAnswer s v) f r g → Counts s v f r g
+  pub number-told : NumberTold (numberAnswer s none v) f r g → Counts s v f r g
   number-told w = record { answer = w .answer; count = w .count }
 
-  pub number-told-by : {table : List ℕ} → NumberTold (numberIndexed s table v) f r g → CountsBy s table v f r g
+  pub number-told-by : {table : List ℕ} → NumberTold (numberAnswer s (some table) v) f r g → CountsBy s table v f r g
   number-told-by w = record { answer = w .answer; count = w .count }
 
-  pub grant-told : {i : ℕ} → GrantTold (positionAnswer s v i) f r g → ReadsAt s v i f r g
+  pub grant-told : {i : ℕ} → GrantTold (positionAnswer s none v i) f r g → ReadsAt s v i f r g
   grant-told w = record { answer = w .answer; grant = w .grant }
 
-  pub grant-told-by : {table : List ℕ} {i : ℕ} → GrantTold (positionIndexed s table v i) f r g → ReadsAtBy s table v i f r g
+  pub grant-told-by : {table : List ℕ} {i : ℕ} → GrantTold (positionAnswer s (some table) v i) f r g → ReadsAtBy s table v i f r g
   grant-told-by w = record { answer = w .answer; grant = w .grant }

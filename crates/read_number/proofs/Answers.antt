@@ -3,6 +3,7 @@ use Prim.Native.Nat.{ℕ}
 use mathlib.Core.Path.{_≡_, ap, sym, _∙_, subst}
 use mathlib.Core.Bool.{true, false}
 use mathlib.Core.List.{List, []}
+use mathlib.Core.Option.{none, some}
 use lib.ListN.{length}
 use Rattle.terms.specs.declared.Form.the-variants.{Counted as counted}
 use Rattle.terms.specs.Bits.{Bytes}
@@ -10,7 +11,7 @@ use Rattle.terms.specs.Records.{Record, used}
 use Rattle.meaning.specs.Sight.{Sight, matches, nothing, spoilt}
 use Rattle.meaning.specs.Calls.{refused, accepted}
 use Rattle.meaning.specs.Reading.{spoiltRecord, refusalOf}
-use Rattle.meaning.specs.Counting.{weight, numberAt, readNumberBy, readNumber}
+use Rattle.meaning.specs.Counting.{weight, numberAt, readNumberBy}
 use Rattle.indexed.specs.Index.{rootBy, byTable}
 use Rattle.indexed.proofs.Scanned.{without-table}
 use Rattle.layout.specs.Headers.{sizeRight, headerOf}
@@ -24,7 +25,7 @@ use Rattle.read_open.specs.declared.Opened as declared-opened
 use Rattle.read_open.specs.declared.Opened.the-variants.{Refused, Kept}
 use Rattle.read_open.proofs.Opening as opening
 use Rattle.read_number.specs.Numbers.{numberSays, numberAnswerBy}
-use Rattle.contracts.specs.Numbers.{numberAnswer, numberIndexed}
+use Rattle.contracts.specs.Numbers.{numberAnswer}
 use Rattle.promises.proofs.Heading.{as-many, not-as-many}
 use Rattle.read_number.specs.declared.NumberRead as declared
 use Rattle.read_number.specs.declared.NumberRead.the-variants as number
@@ -66,16 +67,16 @@ module _ (s : Bytes) (v : ℕ) {o : declared-opened.Opened} (says : openedSays o
   number-is-read table r e f = f ∙ sym (opening.rest-decides (numberAt (rootBy table (storeOf s) v)) s v (first-kept e))
 
 -- by a table without entries it is that of the scan
-pub number-plain : (s : Bytes) (v : ℕ) → numberAnswerBy s [] v ≡ numberAnswer s v
-unfolding numberAnswerBy numberAnswer readNumber
+pub number-plain : (s : Bytes) (v : ℕ) → numberAnswerBy s [] v ≡ numberAnswer s none v
+unfolding numberAnswerBy numberAnswer
 number-plain s v = ap (λ look. byHeader (headerOf counted s) (readNumberBy look (storeOf s) v)) (without-table (storeOf s))
 
 -- a table of another length is refused with 1; else its read is one by a table of any length
 module _ (s : Bytes) (table : List ℕ) (v : ℕ) where
-  pub number-as-many : asMany s table ≡ true → numberAnswerBy s table v ≡ numberIndexed s table v
-  unfolding numberAnswerBy numberIndexed
+  pub number-as-many : asMany s table ≡ true → numberAnswerBy s table v ≡ numberAnswer s (some table) v
+  unfolding numberAnswerBy numberAnswer
   number-as-many e = as-many (readNumberBy (byTable table (storeOf s)) (storeOf s) v) s table e
 
-  pub number-not-as-many : asMany s table ≡ false → refused 1 ≡ numberIndexed s table v
-  unfolding numberIndexed
+  pub number-not-as-many : asMany s table ≡ false → refused 1 ≡ numberAnswer s (some table) v
+  unfolding numberAnswer
   number-not-as-many e = not-as-many (readNumberBy (byTable table (storeOf s)) (storeOf s) v) s table e

@@ -3,6 +3,7 @@ use Prim.Native.Nat.{ℕ, _<_, _≤_}
 use mathlib.Core.Path.{_≡_, refl, ap, ap₂, sym, _∙_, subst}
 use mathlib.Core.Bool.{Bool, true, false, cond}
 use mathlib.Core.List.{List, [], _∷_}
+use mathlib.Core.Option.{none, some}
 use lib.ListN.{length}
 use lib.Dec.{ltb}
 use borrow.Author.Tests.{lt-ltb, le-ltb}
@@ -12,7 +13,7 @@ use Rattle.terms.specs.Records.{Grant, Record, used}
 use Rattle.meaning.specs.Sight.{Sight, matches, nothing, spoilt}
 use Rattle.meaning.specs.Calls.{Answer, refused, accepted}
 use Rattle.meaning.specs.Reading.{spoiltRecord, refusalOf}
-use Rattle.meaning.specs.Counting.{weight, atBody, descend, positionAt, readPositionBy, readPosition}
+use Rattle.meaning.specs.Counting.{weight, atBody, descend, positionAt, readPositionBy}
 use Rattle.indexed.specs.Index.{rootBy, byTable}
 use Rattle.indexed.proofs.Scanned.{without-table}
 use Rattle.layout.specs.Headers.{sizeRight, headerOf}
@@ -30,7 +31,7 @@ use Rattle.read_open.proofs.Opening as opening
 use Rattle.read_step.specs.Walk.{bodyIn}
 use Rattle.read_step.proofs.Seeing.{body-is, inside}
 use Rattle.read_position.specs.Positions.{positionSays, positionAnswerBy}
-use Rattle.contracts.specs.Numbers.{positionAnswer, positionIndexed}
+use Rattle.contracts.specs.Numbers.{positionAnswer}
 use Rattle.promises.proofs.Heading.{as-many, not-as-many}
 use Rattle.read_position.specs.Parts.{kidsFrom, bodyAt}
 use Rattle.read_position.specs.declared.PositionRead as declared
@@ -102,16 +103,16 @@ module _ (s : Bytes) (v n : ℕ) {o : declared-opened.Opened} (says : openedSays
   position-is-read table r e f = f ∙ sym (opening.rest-decides (positionAt (byTable table (storeOf s)) (rootBy table (storeOf s) v) n) s v (first-kept e))
 
 -- by a table without entries it is that of the scan
-pub position-plain : (s : Bytes) (v n : ℕ) → positionAnswerBy s [] v n ≡ positionAnswer s v n
-unfolding positionAnswerBy positionAnswer readPosition
+pub position-plain : (s : Bytes) (v n : ℕ) → positionAnswerBy s [] v n ≡ positionAnswer s none v n
+unfolding positionAnswerBy positionAnswer
 position-plain s v n = ap (λ look. byHeader (headerOf counted s) (readPositionBy look (storeOf s) v n)) (without-table (storeOf s))
 
 -- a table of another length is refused with 1; else its read is one by a table of any length
 module _ (s : Bytes) (table : List ℕ) (v n : ℕ) where
-  pub position-as-many : asMany s table ≡ true → positionAnswerBy s table v n ≡ positionIndexed s table v n
-  unfolding positionAnswerBy positionIndexed
+  pub position-as-many : asMany s table ≡ true → positionAnswerBy s table v n ≡ positionAnswer s (some table) v n
+  unfolding positionAnswerBy positionAnswer
   position-as-many e = as-many (readPositionBy (byTable table (storeOf s)) (storeOf s) v n) s table e
 
-  pub position-not-as-many : asMany s table ≡ false → refused 1 ≡ positionIndexed s table v n
-  unfolding positionIndexed
+  pub position-not-as-many : asMany s table ≡ false → refused 1 ≡ positionAnswer s (some table) v n
+  unfolding positionAnswer
   position-not-as-many e = not-as-many (readPositionBy (byTable table (storeOf s)) (storeOf s) v n) s table e

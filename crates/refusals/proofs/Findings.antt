@@ -1,31 +1,19 @@
 -- Rows 8, 14, 10 and 11 of a finding: what a sound store answers is what they deserve. Assumes nothing.
 use Prim.Native.Nat.{ℕ}
-use mathlib.Core.Path.{_≡_, refl, ap, ap₂, sym, _∙_, subst}
+use mathlib.Core.Path.{refl, subst}
 use mathlib.Core.Logic.{inl, inr}
-use mathlib.Core.Bool.{Bool, true, false, cond, true≢false}
-use mathlib.Core.List.{_∷_}
-use mathlib.Core.Option.{Option, none, some}
-use Rattle.terms.specs.Bits.{Bytes, Byte, All}
-use Rattle.terms.specs.Records.{Proof}
-use Rattle.meaning.specs.Tree.{hash, unversioned, grantsIn}
-use Rattle.meaning.specs.Store.{treeAtVersion}
-use Rattle.meaning.specs.Calls.{Answer, refused, accepted, isKept}
-use Rattle.meaning.specs.Reading.{Verdict}
-use Rattle.meaning.specs.Checking.{checked}
+use Rattle.terms.specs.Bits.{Bytes}
+use Rattle.meaning.specs.Calls.{Answer}
 use Rattle.meaning.specs.Answers.{numberOf}
 use Rattle.sha256.specs.Sha256.{sha256}
-use Rattle.nodehash.specs.Node as node
-use Rattle.proofrecords.specs.ProofBytes.{proofIn}
+use Rattle.proofrecords.proofs.Proofs.{one-proof-is}
 use Rattle.layout.specs.Stores.{storeOf}
-use Rattle.forgery.specs.Messages.{leafHash, innerHash}
-use Rattle.finding_rules.specs.Call.{noGrant, versionRoot, foundOf, foundAgainst, finds}
-use Rattle.finding_rules.proofs.Hashes.{leaf-is, inner-is}
-use Rattle.finding_rules.proofs.Theorems.{none-granted}
-use Rattle.refusals.specs.Rows.{NotKept, ProofOffForm, HoldsNoGrant, rootOfVersion}
-use Rattle.refusals.specs.Orders.{holdingRows, foundRows}
+use Rattle.forgery.specs.Finding.{Finding}
+use Rattle.finding_rules.specs.Call.{HoldsAt, FoundIn, not-kept, no-grant, not-in-form, not-holding, holding}
+use Rattle.finding_rules.proofs.Hashes.{holds-alike}
+use Rattle.refusals.specs.Rows.{NotKept, ProofOffForm, HoldsNoGrant}
+use Rattle.refusals.specs.Orders.{foundRows}
 use Rattle.refusals.proofs.Exactly.{First}
-use Rattle.refusals.proofs.Walks.{kept-said, not-kept}
-use Rattle.refusals.proofs.Proofs.{off-form, form-first}
 
 module _ (s : Bytes) (v : ℕ) (k x : Bytes) where
   -- Where two neighbouring rows are deserved at once, the answer is the number of the one that is tested first.
@@ -35,35 +23,23 @@ module _ (s : Bytes) (v : ℕ) (k x : Bytes) where
   fourteen-before-ten : (NotKept s v → ⊥) → HoldsNoGrant s v → ProofOffForm x → First (foundRows s v k x) 14
   fourteen-before-ten kept a b = inr (kept, inl (a, refl))
 
-  -- what the check refuses is refused
-  number-passed : (p : Proof) (a : Answer Verdict) → numberOf (foundOf sha256 (storeOf s) v p a) ≡ numberOf a
-  number-passed p (refused n) = refl
-  number-passed p (accepted w) = refl
-
-  same-number : (p : Proof) → numberOf (checked node.leafHash node.innerHash (rootOfVersion s v) k p)
-      ≡ numberOf (foundAgainst sha256 (storeOf s) v k (some p))
-  same-number p =
-      ap₂ (λ f g. numberOf (checked f g (hash f g (unversioned (treeAtVersion (storeOf s) v))) k p)) leaf-is inner-is
-      ∙ sym (number-passed p (checked (leafHash sha256) (innerHash sha256) (versionRoot sha256 (storeOf s) v) k p))
-
-  pub finding-first : All Byte x → First (foundRows s v k x) (numberOf (finds sha256 v k (proofIn x) (storeOf s) .answer))
-  unfolding finds
-  finding-first bytes = kept (isKept (storeOf s) v) refl
-    where
-      proved : (o : Option Proof) → proofIn x ≡ o → First (holdingRows (rootOfVersion s v) k x) (numberOf (foundAgainst sha256 (storeOf s) v k o))
-      proved none e = inl (off-form x bytes e, refl)
-      proved (some p) e = subst (First (holdingRows (rootOfVersion s v) k x)) (same-number p) (form-first x bytes (rootOfVersion s v) k p e)
-
-      granted : (b : Bool) → noGrant (grantsIn (treeAtVersion (storeOf s) v)) ≡ b →
-          First ((14, HoldsNoGrant s v) ∷ holdingRows (rootOfVersion s v) k x)
-          (numberOf (cond b (refused 14) (foundAgainst sha256 (storeOf s) v k (proofIn x))))
-      granted true e = inl (none-granted (grantsIn (treeAtVersion (storeOf s) v)) e, refl)
-      granted false e = inr (λ n. true≢false (sym (ap noGrant n) ∙ e), proved (proofIn x) refl)
-
-      kept : (b : Bool) → isKept (storeOf s) v ≡ b →
-          First (foundRows s v k x)
-          (numberOf (cond b
-          (cond (noGrant (grantsIn (treeAtVersion (storeOf s) v))) (refused 14) (foundAgainst sha256 (storeOf s) v k (proofIn x)))
-          (refused 8)))
-      kept false e = inl (not-kept s v e, refl)
-      kept true e = inr (λ n. n (kept-said (storeOf s) v e), granted (noGrant (grantsIn (treeAtVersion (storeOf s) v))) refl)
+  pub finding-first : {a : Answer Finding} → FoundIn sha256 (storeOf s) v k x a → First (foundRows s v k x) (numberOf a)
+  finding-first (not-kept n) = inl (n, refl)
+  finding-first (no-grant i e) = inr (λ n. n i, inl (e, refl))
+  finding-first (not-in-form i g n) = inr (λ m. m i, inr (g, inl (n, refl)))
+  finding-first (not-holding {p} i g w n) =
+      inr (λ m. m i, inr (g, inr (λ f. f p w, inl ((p, w, λ a h. n a (holds-alike (storeOf s) v k p a .1 h)), refl))))
+  finding-first (holding {p} {a} i g w h) =
+      inr (
+        λ m. m i,
+        inr (
+          g,
+          inr (
+            λ f. f p w,
+            inr (
+              λ d. d .2 a (holds-alike (storeOf s) v k (d .0) a .0 (subst (λ q. HoldsAt sha256 (storeOf s) v k q a) (one-proof-is x p (d .0) w (d .1)) h)),
+              refl,
+            ),
+          ),
+        ),
+      )

@@ -1,7 +1,7 @@
 -- Rows 10, 15 and 9 of writing a message, 10 and 9 of reading one: what the definitions answer is what the rows deserve. Assumes nothing.
 use Prim.Native.Nat.{ℕ, _<_}
 use native.Mathlib.Omega.{arith}
-use mathlib.Core.Path.{_≡_, refl, ap, sym, _∙_, subst}
+use mathlib.Core.Path.{_≡_, refl, sym, _∙_, subst}
 use mathlib.Core.Logic.{inl, inr}
 use mathlib.Core.Bool.{Bool, true, false, cond, false≢true}
 use mathlib.Core.List.{[], _∷_}
@@ -9,21 +9,21 @@ use mathlib.Core.Option.{Option, none, some}
 use lib.ListN.{length}
 use lib.Dec.{ltb}
 use borrow.Author.Tests.{ltb-true, ltb-false}
-use Rattle.terms.specs.Bits.{Bytes, Byte, All}
+use Rattle.terms.specs.Bits.{Bytes}
 use Rattle.terms.specs.Records.{Proof}
 use Rattle.meaning.specs.Calls.{Answer, refused, accepted}
 use Rattle.meaning.specs.Answers.{numberOf}
 use Rattle.sha256.specs.Sha256.{sha256}
-use Rattle.proofrecords.specs.ProofBytes.{proofIn}
+use Rattle.proofrecords.specs.ProofBytes.{ProofIs, ProofSaid}
+use Rattle.proofrecords.proofs.Proofs.{one-proof-is}
 use Rattle.messages.specs.Message.{messageBytes}
-use Rattle.messages.specs.Lending.{Lent, lentFits, rawProof, fitted, writtenFrom, written, recordOf, readFrom}
+use Rattle.messages.specs.Lending.{Lent, lentFits, rawProof, fitted, writtenFrom, recordOf, readFrom}
 use Rattle.messages.proofs.Back.{one-message}
 use Rattle.message_rules.specs.Contracts.{writtenInto, Encodes, Said, readInto}
 use Rattle.refusals.specs.Exactly.{Table}
-use Rattle.refusals.specs.Rows.{ProofIs, ProofOffForm, NotRaw, MessageTooLong, NoMessage, RecordTooLong}
+use Rattle.refusals.specs.Rows.{ProofOffForm, NotRaw, MessageTooLong, NoMessage, RecordTooLong}
 use Rattle.refusals.specs.Orders.{messageRows, readingRows}
 use Rattle.refusals.proofs.Exactly.{First}
-use Rattle.refusals.proofs.Proofs.{read-as, proof-is, off-form}
 
 -- Where two neighbouring rows are deserved at once, the answer is the number of the one that is tested first.
 ten-before-fifteen : (x : Bytes) (lent : Lent) (room : Bytes) → ProofOffForm x → First (messageRows x lent room) 10
@@ -35,45 +35,36 @@ fifteen-before-nine x lent room form a b = inr (form, inl (a, refl))
 ten-before-nine : (m room : Bytes) → NoMessage m → First (readingRows m room) 10
 ten-before-nine m room a = inl (a, refl)
 
-same-proof : {p q : Proof} → some p ≡ some q → p ≡ q
-same-proof e = cc
-
 -- writing
-module _ (x : Bytes) (bytes : All Byte x) (lent : Lent) (room : Bytes) where
-  one : {p q : Proof} → proofIn x ≡ some p → ProofIs x q → q ≡ p
-  one {p} {q} e is = same-proof (sym (read-as x bytes q is) ∙ e)
-
-  room-first : (p : Proof) → proofIn x ≡ some p → First ((9, MessageTooLong x lent room) ∷ []) (numberOf (fitted sha256 (length room) (messageBytes (rawProof lent p)) (messageBytes (rawProof lent p))))
+module _ (x : Bytes) (lent : Lent) (room : Bytes) where
+  room-first : (p : Proof) → ProofIs x p → First ((9, MessageTooLong x lent room) ∷ []) (numberOf (fitted sha256 (length room) (messageBytes (rawProof lent p)) (messageBytes (rawProof lent p))))
   unfolding fitted
   room-first p e = go (ltb (length room) (length (messageBytes (rawProof lent p)))) refl
     where
       go : (b : Bool) → ltb (length room) (length (messageBytes (rawProof lent p))) ≡ b →
           First ((9, MessageTooLong x lent room) ∷ []) (numberOf (cond b (refused 9) (accepted (messageBytes (rawProof lent p)))))
-      go true f = inl ((p, proof-is x bytes p e, ltb-true _ _ f), refl)
+      go true f = inl ((p, e, ltb-true _ _ f), refl)
       go false f =
           inr (
             λ d. let l = ltb-false (length room) (length (messageBytes (rawProof lent p))) f in
-                omega (arith, l, subst (λ q. length room < length (messageBytes (rawProof lent q))) (one e (d .1)) (d .2)),
+                omega (arith, l, subst (λ q. length room < length (messageBytes (rawProof lent q))) (one-proof-is x (d .0) p (d .1) e) (d .2)),
             refl,
           )
 
-  form-first : (p : Proof) → proofIn x ≡ some p → First (messageRows x lent room) (numberOf (writtenFrom sha256 (some p) lent (length room)))
+  form-first : (p : Proof) → ProofIs x p → First (messageRows x lent room) (numberOf (writtenFrom sha256 (some p) lent (length room)))
   unfolding writtenFrom
-  form-first p e = inr (λ f. f p (proof-is x bytes p e), go (lentFits sha256 lent p) refl)
+  form-first p e = inr (λ f. f p e, go (lentFits sha256 lent p) refl)
     where
       go : (b : Bool) → lentFits sha256 lent p ≡ b →
           First ((15, NotRaw x lent) ∷ (9, MessageTooLong x lent room) ∷ [])
           (numberOf (cond b (fitted sha256 (length room) (messageBytes (rawProof lent p)) (messageBytes (rawProof lent p))) (refused 15)))
-      go false f = inl ((p, proof-is x bytes p e, λ t. false≢true (sym f ∙ t)), refl)
-      go true f = inr (λ d. d .2 (subst (λ q. lentFits sha256 lent q ≡ true) (sym (one e (d .1))) f), room-first p e)
+      go false f = inl ((p, e, λ t. false≢true (sym f ∙ t)), refl)
+      go true f = inr (λ d. d .2 (subst (λ q. lentFits sha256 lent q ≡ true) (sym (one-proof-is x (d .0) p (d .1) e)) f), room-first p e)
 
-  pub write-first : First (messageRows x lent room) (numberOf (writtenInto x lent room))
-  unfolding written writtenFrom
-  write-first = go (proofIn x) refl
-    where
-      go : (o : Option Proof) → proofIn x ≡ o → First (messageRows x lent room) (numberOf (writtenFrom sha256 o lent (length room)))
-      go none e = inl (off-form x bytes e, refl)
-      go (some p) e = form-first p e
+  pub write-first : (said : Option Proof) → ProofSaid x said → First (messageRows x lent room) (numberOf (writtenInto said lent room))
+  unfolding writtenFrom
+  write-first none h = inl (h, refl)
+  write-first (some p) h = form-first p h
 
 -- reading
 pub read-first : (m room : Bytes) (said : Option Proof) → Said m said → First (readingRows m room) (numberOf (readInto said room))

@@ -5,13 +5,13 @@ use mathlib.Core.Path.{_≡_}
 use mathlib.Core.Logic.{_⊎_}
 use mathlib.Core.Bool.{false, true}
 use mathlib.Core.List.{List, [], _∷_}
+use mathlib.Core.Option.{none}
 use lib.ListN.{length}
 use Rattle.terms.specs.declared.Form.{Form}
 use Rattle.terms.specs.declared.Form.the-variants.{Counted as counted}
 use Rattle.terms.specs.Bits.{Bytes, All}
 use Rattle.terms.specs.Fields.{field, slice, flat, zeroBytes}
 use Rattle.terms.specs.Records.{Ask, Proof}
-use Rattle.terms.specs.Form.{AskForm}
 use Rattle.meaning.specs.Tree.{hash, unversioned, nextTree, grantsIn}
 use Rattle.meaning.specs.Store.{treeAtVersion, freeSlots, newRecords}
 use Rattle.meaning.specs.Sound.{Kept, Sound}
@@ -34,14 +34,13 @@ use Rattle.sha256.specs.Sha256.{sha256}
 use Rattle.messages.specs.Message.{messageBytes}
 use Rattle.messages.specs.Lending.{Lent, lentFits, rawProof, recordOf}
 use Rattle.message_rules.specs.Contracts.{Encodes}
-use Rattle.proofrecords.specs.ProofBytes.{proofBytes, ProofForm}
+use Rattle.proofrecords.specs.ProofBytes.{ProofIs}
 use Rattle.layout.specs.Sizes.{headerSize, headerKind, mostSlots, kindAt, capacityAt, oldestAt, latestAt, slotSize}
 use Rattle.layout.specs.Stores.{storeIn, storeOf}
 use Rattle.move_rules.specs.Moves.{other}
-use Rattle.shelf_rules.specs.Shelf.{mostBits, ShelfProof, shelfBytes, ShelfForm}
-use Rattle.shelf_rules.specs.Holding.{ShelfHolds}
-use Rattle.batch.specs.Sizes.{mostRecords}
-use Rattle.batch.specs.Batch.{asks, asksBytes}
+use Rattle.shelf_rules.specs.Shelf.{mostBits, ShelfProof, ShelfIs, ShelfHolds}
+use Rattle.batch.specs.Asked.{AskedBy, Asks}
+use Rattle.verify_rows.specs.Rows.{Pieces}
 
 -- 1: the store's length isn't 24 + 128n, n in 1 to 16,384.
 abbrev pub WrongLength : Bytes → Type 0
@@ -94,19 +93,13 @@ Lost stops = stops lostRecord
 abbrev pub Unsound : (Trouble → Type 0) → Type 0
 Unsound stops = stops strayLeaf ⊎ ((i : ℕ) × stops (spoiltRecord i))
 
--- The bytes of a batch are whole records in form, at most 1,024, and ask for this.
-pub record AskedBy (batch : Bytes) (as′ : List Ask) : Type 0 where
-  pub bytes : batch ≡ asksBytes as′
-  pub form : All AskForm as′
-  pub few : length as′ ≤ mostRecords
-
 -- 4: the batch isn't whole records in form, or has over 1,024.
 abbrev pub BatchOffForm : Bytes → Type 0
-BatchOffForm batch = (as′ : List Ask) → AskedBy batch as′ → ⊥
+BatchOffForm batch = Asks batch none
 
--- 5: keys not strictly ascending, those of the whole records, in form or not.
+-- 5: keys not strictly ascending.
 abbrev pub NotAscending : Bytes → Type 0
-NotAscending batch = ascending (asks batch) ≡ false
+NotAscending batch = (as′ : List Ask) × AskedBy batch as′ × (ascending as′ ≡ false)
 
 -- 18: the number given is not above latest (2026-13).
 abbrev pub NotAbove : ℕ → Bytes → Type 0
@@ -130,11 +123,6 @@ NotKept s v = Kept (storeOf s) v → ⊥
 -- 9: the proof is longer than the buffer.
 abbrev pub TooLong : Bytes → ℕ → Bytes → Bytes → Type 0
 TooLong s v k room = (p : Proof) × (proof (storeOf s) v k ≡ accepted p) × (length room < proofLength p)
-
--- The bytes are one whole proof in form, no byte over.
-pub record ProofIs (x : Bytes) (p : Proof) : Type 0 where
-  pub bytes : x ≡ proofBytes p
-  pub form : ProofForm p
 
 -- 10: the proof isn't one whole record in form, no byte over.
 abbrev pub ProofOffForm : Bytes → Type 0
@@ -185,13 +173,9 @@ TooLongTogether s v keys room =
 abbrev pub NotRootAndKeys : Bytes → Bytes → Type 0
 NotRootAndKeys root list = Not32 (root ∷ []) ⊎ NotKeys list
 
--- A piece is as long as its first four bytes say, at least 4.
-abbrev pub Piece : Bytes → Type 0
-Piece x = (4 ≤ length x) × (field 0 4 x ≡ length x)
-
 -- 10 of many proofs: the bytes aren't n pieces one after the other, none over.
 abbrev pub NotPieces : ℕ → Bytes → Type 0
-NotPieces n row = (xs : List Bytes) → All Piece xs → length xs ≡ n → row ≡ flat xs → ⊥
+NotPieces n row = (xs : List Bytes) → Pieces n row xs → ⊥
 
 -- 9 of many proofs: fewer than 34 bytes for each of n answers.
 abbrev pub AnswersTooLong : ℕ → Bytes → Type 0
@@ -260,13 +244,7 @@ NotSoundIn from s = Sound leafHash innerHash (storeIn from s) → ⊥
 abbrev pub TooManyBits : ℕ → Type 0
 TooManyBits b = mostBits < b
 
--- The bytes are one whole proof of a shelf in form, no byte over: the list's record, and the part's exactly if the
--- list's shows a presence.
-pub record ShelfIs (x : Bytes) (p : ShelfProof) : Type 0 where
-  pub bytes : x ≡ shelfBytes p
-  pub form : ShelfForm p
-
--- 10 of a shelf's proof: they aren't.
+-- 10 of a shelf's proof: the bytes aren't one whole one in form.
 abbrev pub ShelfOffForm : Bytes → Type 0
 ShelfOffForm x = (p : ShelfProof) → ShelfIs x p → ⊥
 

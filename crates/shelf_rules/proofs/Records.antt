@@ -16,7 +16,8 @@ use Rattle.terms.proofs.Fields.{all-of-tests}
 use Rattle.terms.proofs.Lists.{all-take, all-drop}
 use Rattle.proofrecords.specs.ProofBytes.{neighbourBytes, proofBytes, presenceTests, isPresence, presenceIn, absenceTests, isAbsence, absenceIn, proofIn, PresenceForm, NeighbourForm, ProofForm}
 use Rattle.proofrecords.proofs.Proofs.{length-presence, length-absence, proof-back, proof-bytes}
-use Rattle.shelf_rules.specs.Shelf.{ShelfProof, noPart, inPart, shelfBytes, ShelfForm, listRecord, partRecord, bySecond, byEnd, byFirst, shelfIn}
+use Rattle.shelf_rules.specs.Shelf.{ShelfProof, noPart, inPart, shelfBytes, ShelfForm}
+use Rattle.shelf_rules.specs.Reading.{listRecord, partRecord, bySecond, byEnd, byFirst, shelfIn}
 
 -- what a record in form says of its length
 abbrev Says : Bytes → Type 0
@@ -34,7 +35,7 @@ absence-says x e =
     let t = all-of-tests (absenceTests x) e in
     (eqb-true (field 0 4 x) (length x) (t .1 .0), leb-true 40 (length x) (t .0))
 
-pub nothing-read : {A B : Type 0} {p : A} → none ≡ some p → B
+nothing-read : {A B : Type 0} {p : A} → none ≡ some p → B
 nothing-read e = let z : _≡_ {A = ℕ} 0 1 = cc in absurd (omega arith)
 
 pub record-says : (x : Bytes) (p : Proof) → proofIn x ≡ some p → (field 0 4 x ≡ length x) × (40 ≤ length x)

@@ -12,8 +12,8 @@ use Rattle.meaning.specs.Reading.{Verdict, present, absent}
 use Rattle.meaning.specs.Checking.{leadsTo, absenceHolds, checked}
 use Rattle.checker.proofs.Theorems.{accepted-exactly-if-holds, refused-with-11}
 use Rattle.nodehash.specs.Node.{leafHash, innerHash}
-use Rattle.shelf_rules.specs.Shelf.{partKey, ShelfProof, noPart, inPart, byList, shelfChecked}
-use Rattle.shelf_rules.specs.Holding.{ShelfHolds, no-part, in-part}
+use Rattle.shelf_rules.specs.Shelf.{partKey, ShelfProof, noPart, inPart, ShelfHolds, no-part, in-part}
+use Rattle.shelf_rules.specs.Reading.{byList, shelfChecked}
 
 not-both : {A B : Type 0} {n : ℕ} {v : A} → _≡_ {A = Answer A} (refused n) (accepted v) → B
 not-both e = let z : _≡_ {A = ℕ} 0 1 = cc in absurd (omega arith)

@@ -1,2 +1,2 @@
 pub mod Shelf
-pub mod Holding
+pub mod Reading

@@ -1,22 +1,19 @@
 -- A shelf is a list of stores under one root: grants whose keys begin with the same bits are in one store, its part;
--- the list is a store too, with the root of each part that has a grant. Here: the proof of a key of a shelf, and what
--- its check answers to any bytes. Order: 12, 21, 10, 11. Assumes nothing.
-use Prim.Native.Nat.{ℕ}
+-- the list is a store too, with the root of each part that has a grant. Here: the proof of a key of a shelf, when it
+-- holds, and what its check answers to any bytes. Order: 12, 21, 10, 11. Assumes nothing.
+use Prim.Native.Nat.{ℕ, _≤_, _<_}
 use mathlib.Core.Path.{_≡_}
-use mathlib.Core.Bool.{cond, _&&_}
-use mathlib.Core.List.{[], _∷_, _++_}
-use mathlib.Core.Option.{Option, none, some}
-use lib.ListN.{length, take, drop}
-use lib.Dec.{eqb, leb}
+use mathlib.Core.List.{_++_}
+use lib.ListN.{take}
 use Rattle.terms.specs.Bits.{Bytes, bits, pack}
-use Rattle.terms.specs.Fields.{field}
 use Rattle.terms.specs.Records.{Presence, Absence, Proof, presence, absence}
 use Rattle.meaning.specs.Calls.{Answer, refused, accepted}
 use Rattle.meaning.specs.Reading.{Verdict, present, absent}
-use Rattle.meaning.specs.Checking.{checked}
 use Rattle.meaning.specs.Answers.{numberOf, foundAfter}
+use Rattle.checker.specs.Holding.{Holds}
 use Rattle.nodehash.specs.Node.{leafHash, innerHash}
-use Rattle.proofrecords.specs.ProofBytes.{proofBytes, proofIn, ProofForm}
+use Rattle.proofrecords.specs.ProofBytes.{proofBytes, ProofForm}
+use Rattle.verify_rules.specs.Verify.{Sizes32}
 
 -- A shelf has 0 to 12 bits.
 abbrev pub mostBits : ℕ
@@ -41,60 +38,40 @@ abbrev pub ShelfForm : ShelfProof → Type 0
 ShelfForm (noPart a) = ProofForm (absence a)
 ShelfForm (inPart p q) = ProofForm (presence p) × ProofForm q
 
--- The first record's own length says where it ends.
-unfoldable pub listRecord : Bytes → Bytes
-listRecord x = take (field 0 4 x) x
+-- The bytes are one whole proof of a shelf in form, no byte over: the list's record, and the part's exactly if the
+-- list's shows a presence.
+pub record ShelfIs (x : Bytes) (p : ShelfProof) : Type 0 where
+  pub bytes : x ≡ shelfBytes p
+  pub form : ShelfForm p
 
-unfoldable pub partRecord : Bytes → Bytes
-partRecord x = drop (field 0 4 x) x
+-- It holds, with this answer: the list's record shows that there is no part, and the key is absent; or it shows a part
+-- with its root, and the second record holds for the key against that root.
+pub data ShelfHolds (root : Bytes) (b : ℕ) (k : Bytes) : ShelfProof → Verdict → Type 0 where
+  no-part : {a : Absence} → Holds leafHash innerHash root (partKey b k) (absence a) absent →
+      ShelfHolds root b k (noPart a) absent
+  in-part : {p : Presence} {q : Proof} {part : Bytes} {answer : Verdict} →
+      Holds leafHash innerHash root (partKey b k) (presence p) (present part) →
+      Holds leafHash innerHash part k q answer → ShelfHolds root b k (inPart p q) answer
 
--- A second record follows exactly if the first shows a presence, and no byte is over.
-abbrev pub bySecond : Presence → Option Proof → Option ShelfProof
-bySecond p none = none
-bySecond p (some q) = some (inPart p q)
-
-abbrev pub byEnd : Absence → Bytes → Option ShelfProof
-byEnd a [] = some (noPart a)
-byEnd a (x ∷ rest) = none
-
-abbrev pub byFirst : Option Proof → Bytes → Option ShelfProof
-byFirst none rest = none
-byFirst (some (presence p)) rest = bySecond p (proofIn rest)
-byFirst (some (absence a)) rest = byEnd a rest
-
--- The proof that bytes stand for; none where they aren't one or two whole records in form (10).
-unfoldable pub shelfIn : Bytes → Option ShelfProof
-shelfIn x = byFirst (proofIn (listRecord x)) (partRecord x)
-
--- What the list says of the part, then the part of the key. Where the list shows that there is no part, the key is
--- absent.
-abbrev pub byList : Answer Verdict → (Bytes → Answer Verdict) → Answer Verdict
-byList (refused n) part = refused n
-byList (accepted absent) part = accepted absent
-byList (accepted (present root)) part = part root
-
--- The list's record is checked for the part's key against the root, and the part's for the key against the root that
--- the list shows.
-abbrev pub shelfChecked : Bytes → ℕ → Bytes → ShelfProof → Answer Verdict
-shelfChecked root b k (noPart a) = checked leafHash innerHash root (partKey b k) (absence a)
-shelfChecked root b k (inPart p q) =
-    byList (checked leafHash innerHash root (partKey b k) (presence p)) (λ part. checked leafHash innerHash part k q)
-
--- 10 if there is no proof in form; else both records hold, or 11.
-abbrev pub shelfJudged : Bytes → ℕ → Bytes → Option ShelfProof → Answer Verdict
-shelfJudged root b k none = refused 10
-shelfJudged root b k (some p) = shelfChecked root b k p
-
--- 12 if the root or the key isn't 32 bytes; 21 if there are over 12 bits; else 10, 11, "present" with the value, or
--- "absent".
-unfoldable pub shelfVerified : Bytes → ℕ → Bytes → Bytes → Answer Verdict
-shelfVerified root b k x =
-    cond (eqb (length root) 32 && eqb (length k) 32)
-    (cond (leb b mostBits) (shelfJudged root b k (shelfIn x)) (refused 21))
-    (refused 12)
+-- What is said of the bytes x as a proof of the key k of a shelf of b bits, against the list's root.
+pub data ShelfTold (root : Bytes) (b : ℕ) (k x : Bytes) : Answer Verdict → Type 0 where
+  -- 12: the root or the key isn't 32 bytes
+  not-32-bytes : (Sizes32 root k → ⊥) → ShelfTold root b k x (refused 12)
+  -- 21: over 12 bits
+  too-many-bits : Sizes32 root k → mostBits < b → ShelfTold root b k x (refused 21)
+  -- 10: they are no proof in form
+  not-in-form : Sizes32 root k → b ≤ mostBits → ((p : ShelfProof) → ShelfIs x p → ⊥) → ShelfTold root b k x (refused 10)
+  -- 11: they are one that doesn't hold
+  not-holding : {p : ShelfProof} → Sizes32 root k → b ≤ mostBits → ShelfIs x p →
+      ((v : Verdict) → ShelfHolds root b k p v → ⊥) → ShelfTold root b k x (refused 11)
+  -- else "present" with the value, or "absent"
+  holding : {p : ShelfProof} {v : Verdict} → Sizes32 root k → b ≤ mostBits → ShelfIs x p → ShelfHolds root b k p v →
+      ShelfTold root b k x (accepted v)
 
 -- Checking the bytes x as a proof of the key k of a shelf of b bits against the list's root answers r; the array f for
 -- what is found is left as g.
 pub record ShelfVerifies (root : Bytes) (b : ℕ) (k x f : Bytes) (r : ℕ) (g : Bytes) : Type 0 where
-  pub answer : r ≡ numberOf (shelfVerified root b k x)
-  pub found : g ≡ foundAfter (shelfVerified root b k x) f
+  pub verdict : Answer Verdict
+  pub told : ShelfTold root b k x verdict
+  pub answer : r ≡ numberOf verdict
+  pub found : g ≡ foundAfter verdict f

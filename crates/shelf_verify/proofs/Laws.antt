@@ -11,10 +11,11 @@ use lib.ListN.{length, take, drop, length-take, length-drop, drop-of-length-le}
 use lib.Seq.{take-all}
 use lib.Dec.{eqb, leb}
 use borrow.Author.Tests.{eq-eqb, ne-eqb, eqb-true, eqb-false, le-leb, lt-leb, leb-true, leb-false}
-use Rattle.terms.specs.Bits.{Bytes, bits, pack, sameBytes}
+use Rattle.terms.specs.Bits.{Bytes, Byte, All, bits, pack, sameBytes}
 use Rattle.terms.specs.Fields.{field, slice, zeroBytes}
 use Rattle.terms.specs.Records.{Presence, Absence, Proof, presence, absence}
 use Rattle.terms.proofs.Tests.{and-left, and-right}
+use Rattle.terms.proofs.Lists.{all-drop}
 use Rattle.terms.proofs.Fields.{length-slice}
 use Rattle.terms.proofs.Places.{length-pack}
 use Rattle.meaning.specs.Calls.{Answer, refused, accepted}
@@ -26,8 +27,12 @@ use Rattle.proofrecords.specs.ProofBytes.{isPresence, presenceIn, isAbsence, ab
 use Rattle.proofrecords.proofs.Forms.{presence-off, absence-off, presence-whole}
 use Rattle.place.specs.declared.Place as declared
 use Rattle.place.specs.Place.{Stands}
-use Rattle.shelf_rules.specs.Shelf.{partKey, listRecord, partRecord, bySecond, byEnd, byFirst, shelfIn, byList, shelfJudged, shelfVerified, ShelfVerifies}
-use Rattle.verify_rules.specs.Verify.{judged, verified, Verifies}
+use Rattle.shelf_rules.specs.Shelf.{partKey, ShelfVerifies}
+use Rattle.shelf_rules.specs.Reading.{listRecord, partRecord, bySecond, byEnd, byFirst, shelfIn, byList, shelfJudged, shelfVerified}
+use Rattle.shelf_rules.proofs.Told.{shelf-verifies}
+use Rattle.verify_rules.specs.Verify.{Verifies}
+use Rattle.verify_rules.specs.Reading.{judged, verified}
+use Rattle.verify_rules.proofs.Told.{told-exactly}
 use Rattle.verify.proofs.Boundary.{zeros-found}
 use Rattle.shelf_verify.specs.Both.{isProof, firstLength, isShelf, both, ChecksBoth}
 
@@ -308,19 +313,20 @@ module _ {root part k x : Bytes} {e : ℕ} (f : Bytes) where
       let go : Answer Verdict → Answer Verdict = λ a. byList a (λ top. verified top k (drop e x)) in
       record { answer = ap (λ a. numberOf (go a)) h; found = z ∙ zeros-found f l ∙ ap (λ a. foundAfter (go a) f) h }
 
-  pub list-present : {top tops y g : Bytes} {r : ℕ} → accepted (present top) ≡ verified root part (take e x) → tops ≡ top ++ [] → y ≡ drop e x →
+  pub list-present : All Byte x → {top tops y g : Bytes} {r : ℕ} → accepted (present top) ≡ verified root part (take e x) → tops ≡ top ++ [] → y ≡ drop e x →
       Verifies tops k y f r g → ChecksBoth root part k e x f r g
   unfolding both
-  list-present {top} h t i w =
+  list-present bytes {top} {tops} {y} h t i w =
       let go : Answer Verdict → Answer Verdict = λ a. byList a (λ top. verified top k (drop e x)) in
-      let j = ap₂ (λ z y. verified z k y) (t ∙ append-nil top) i ∙ ap go h in
+      let is = told-exactly tops k y (subst (All Byte) (sym i) (all-drop Byte e x bytes)) (w .verdict) .0 (w .told) in
+      let j = is ∙ ap₂ (λ z y. verified z k y) (t ∙ append-nil top) i ∙ ap go h in
       record { answer = w .answer ∙ ap (λ a. numberOf a) j; found = w .found ∙ ap (λ a. foundAfter a f) j }
 
-pub shelf-refused : {root k x : Bytes} {b n : ℕ} (f : Bytes) → refused n ≡ shelfVerified root b k x → ShelfVerifies root b k x f n f
-shelf-refused f e = record { answer = ap (λ a. numberOf a) e; found = ap (λ a. foundAfter a f) e }
+pub shelf-refused : {root k x : Bytes} {b n : ℕ} → All Byte x → (f : Bytes) → refused n ≡ shelfVerified root b k x → ShelfVerifies root b k x f n f
+shelf-refused {root} {k} {x} {b} bytes f e = shelf-verifies root b k x bytes (ap (λ a. numberOf a) e) (ap (λ a. foundAfter a f) e)
 
-pub as-both : {root part k x f g : Bytes} {e b r : ℕ} → both root (partKey b k) k (firstLength x) x ≡ shelfVerified root b k x →
+pub as-both : {root part k x f g : Bytes} {e b r : ℕ} → All Byte x → both root (partKey b k) k (firstLength x) x ≡ shelfVerified root b k x →
     part ≡ partKey b k → e ≡ firstLength x → ChecksBoth root part k e x f r g → ShelfVerifies root b k x f r g
-as-both {root} {k = k} {x} {f} h p i w =
+as-both {root} {k = k} {x} {f} {b = b} bytes h p i w =
     let j = ap₂ (λ z n. both root z k n x) p i ∙ h in
-    record { answer = w .answer ∙ ap (λ a. numberOf a) j; found = w .found ∙ ap (λ a. foundAfter a f) j }
+    shelf-verifies root b k x bytes (w .answer ∙ ap (λ a. numberOf a) j) (w .found ∙ ap (λ a. foundAfter a f) j)

@@ -11,8 +11,8 @@ use Rattle.meaning.specs.Calls.{Answer}
 use Rattle.meaning.specs.Reading.{Verdict}
 use Rattle.meaning.specs.Answers.{numberOf, foundAfter}
 use Rattle.proofrecords.specs.ProofBytes.{isPresence, isAbsence}
-use Rattle.shelf_rules.specs.Shelf.{byList}
-use Rattle.verify_rules.specs.Verify.{verified}
+use Rattle.shelf_rules.specs.Reading.{byList}
+use Rattle.verify_rules.specs.Reading.{verified}
 
 -- Bytes are one whole record in form.
 unfoldable pub isProof : Bytes → Bool

@@ -97,4 +97,4 @@ module _ {b : ℕ} {x : Shelf} {v : ℕ} (w : StandsAt b x v) (granted : HoldsGr
   -- A proof that the check accepts with a false answer has a false record, and a finding is named of that.
   pub false-shelf-proof-has-a-false-record : {y f g : Bytes} → All Byte y → ShelfVerifies root b k y f 0 g → g ≡ foundBytes answer →
       FalseRecord b x v k y
-  false-shelf-proof-has-a-false-record bytes c e = false-record bytes (only-what-single-checks-accept bytes c) e
+  false-shelf-proof-has-a-false-record bytes c e = false-record bytes (only-what-single-checks-accept c) e

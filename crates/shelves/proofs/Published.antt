@@ -7,13 +7,12 @@ use mathlib.Core.Path.{_≡_, refl, ap, ap₂, sym, _∙_, subst}
 use mathlib.Core.Logic.{_⊎_, inl, inr}
 use mathlib.Core.Bool.{Bool, true, false, cond}
 use mathlib.Core.List.{List, [], _∷_, _++_}
-use mathlib.Core.Option.{Option, none, some}
 use lib.ListN.{length}
 use lib.Dec.{leb}
 use borrow.Author.Tests.{leb-true, leb-false}
 use Rattle.terms.specs.declared.Form.the-variants.{Counted as counted}
 use Rattle.terms.specs.Bits.{Bytes, left, right, Place, longer, All, begins}
-use Rattle.terms.specs.Records.{Grant, Ask, askKey, Store}
+use Rattle.terms.specs.Records.{Grant, askKey, Store}
 use Rattle.meaning.specs.Tree.{hash, treeOf, withBatch, grantsIn}
 use Rattle.meaning.specs.Store.{formatted, treeAtVersion}
 use Rattle.meaning.specs.Calls.{accepted, refuse, prune}
@@ -28,7 +27,7 @@ use Rattle.layout.specs.Headers.{sizeRight}
 use Rattle.layout.specs.Stores.{storeOf, storeBytes}
 use Rattle.layout.proofs.Headers.{size-says}
 use Rattle.contracts.specs.Format.{formatAnswer, formatBytes}
-use Rattle.batch.specs.Batch.{batchOf}
+use Rattle.batch.proofs.Batches.{asked-one}
 use Rattle.promises.specs.Calls.{SoundBytes, accepts, exports-refusal, exports-answer}
 use Rattle.shelf_grants.specs.Contents.{Parts, gathered, allGrants, Among, InPlace, rootOf, listed, listGrants, newRoots, shelfRoot}
 use Rattle.shelf_grants.proofs.Gathered.{gathered-same}
@@ -110,9 +109,6 @@ module _ {n : ℕ} {batch s t g : Bytes} (a : NextVersion n batch s t g) where
   applied-now : grantsOfVersion t (earlier n (latestOf t)) ≡ withBatch (a .asks) (grantsOfVersion s (latestOf s))
   applied-now = ap (grantsOfVersion t) (earlier-second n (latestOf t) (omega (arith, a .latest))) ∙ a .grants
 
-same-asks : {a b : List Ask} {o : Option (List Ask)} → o ≡ some a → o ≡ some b → a ≡ b
-same-asks e f = let z : some _ ≡ some _ = sym e ∙ f in cc
-
 -- what becomes of a part
 record PartStep (n top : ℕ) (p : Place) (s t : Bytes) : Type 0 where
   pub sound : SoundBytes t
@@ -127,10 +123,10 @@ module _ {b n : ℕ} {x y : Shelf} (w : Standing b x) (act : Publishes b n x y) 
   top = latestOf (x .list)
 
   list-next : NextVersion n (act .batch) (x .list) (y .list) (act .g)
-  list-next = accepted-batch-makes-next-version n (act .batch) (act .number) (act .bytes) (act .applied)
+  list-next = accepted-batch-makes-next-version n (act .batch) (act .number) (act .applied)
 
   run-next : (p : Place) (r : Run n p (x .part p) (y .part p)) → NextVersion n (r .batch) (x .part p) (y .part p) (r .g)
-  run-next p r = accepted-batch-makes-next-version n (r .batch) (act .number) (r .bytes) (r .applied)
+  run-next p r = accepted-batch-makes-next-version n (r .batch) (act .number) (r .applied)
 
   -- at the top of the list a part is at its own latest
   at-top : (p : Place) → length p ≡ b → earlier top (latestOf (x .part p)) ≡ latestOf (x .part p)
@@ -151,7 +147,7 @@ module _ {b n : ℕ} {x y : Shelf} (w : Standing b x) (act : Publishes b n x y) 
   ran : (p : Place) → length p ≡ b → Run n p (x .part p) (y .part p) → PartStep n top p (x .part p) (y .part p)
   ran p h r =
       let a = run-next p r in
-      let asks = same-asks (a .asked) (r .asked) in
+      let asks = asked-one (a .asked) (r .asked) in
       record {
         sound = a .sound;
         oldest = a .after .oldest;
@@ -194,7 +190,7 @@ module _ {b n : ℕ} {x y : Shelf} (w : Standing b x) (act : Publishes b n x y) 
 
   new-list : grantsOfVersion (y .list) n ≡ listGrants leafHash innerHash b (partsAt y n)
   new-list =
-      let asks = same-asks (list-next .asked) (act .asked) in
+      let asks = asked-one (list-next .asked) (act .asked) in
       ap (grantsOfVersion (y .list)) (sym (list-next .latest))
       ∙ list-next .grants
       ∙ ap₂ withBatch asks (w .roots top top-kept)

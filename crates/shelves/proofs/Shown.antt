@@ -8,7 +8,7 @@ use mathlib.Core.Bool.{Bool, true, false, cond}
 use mathlib.Core.List.{List, [], _∷_, _++_, append-nil}
 use lib.ListN.{length, take, length-append}
 use lib.Dec.{leb}
-use borrow.Author.Tests.{eq-eqb, le-leb, lt-leb, leb-true, leb-false}
+use borrow.Author.Tests.{le-leb, leb-true, leb-false}
 use Rattle.terms.specs.declared.Form.the-variants.{Counted as counted}
 use Rattle.terms.specs.Bits.{Bytes, Byte, Place, All, Whole32, bits, pack}
 use Rattle.terms.specs.Fields.{num, field}
@@ -22,6 +22,8 @@ use Rattle.meaning.specs.Proving.{HoldsGrant}
 use Rattle.meaning.specs.Checking.{checked}
 use Rattle.meaning.specs.Answers.{numberOf, foundBytes, foundAfter}
 use Rattle.histories.proofs.Theorems.{sound-tree-of-grants}
+use Rattle.checker.specs.Holding.{Holds}
+use Rattle.checker.proofs.Theorems.{accepted-exactly-if-holds}
 use Rattle.shown.proofs.Verdicts.{accepted-same}
 use Rattle.shown.proofs.Theorems.{root-read-is-hash, shown}
 use Rattle.nodehash.specs.Node.{leafHash, innerHash}
@@ -29,8 +31,9 @@ use Rattle.proofrecords.specs.ProofBytes.{presenceKind, absenceKind, proofBytes
 use Rattle.layout.specs.Stores.{storeOf}
 use Rattle.promises.specs.Calls.{SoundBytes}
 use Rattle.promises.proofs.Calls.{sound-form}
-use Rattle.shelf_rules.specs.Shelf.{partKey, ShelfProof, noPart, inPart, shelfBytes, ShelfForm, shelfChecked, shelfJudged, shelfIn, byList, shelfVerified}
-use Rattle.shelf_rules.proofs.Records.{shelf-back, shelf-proofs-have-25600-bytes}
+use Rattle.shelf_rules.specs.Shelf.{partKey, ShelfProof, noPart, inPart, shelfBytes, ShelfForm, ShelfHolds, no-part as by-list-alone, in-part, ShelfTold, holding}
+use Rattle.shelf_rules.proofs.Records.{shelf-proofs-have-25600-bytes}
+use Rattle.shelf_rules.proofs.Told.{one-shelf-told}
 use Rattle.shelf_grants.specs.Contents.{Parts, allGrants, InPlace, rootOf, listGrants}
 use Rattle.shelf_grants.proofs.Gathered.{front-prefix, answer-of-part}
 use Rattle.shelf_grants.proofs.Listed.{said, answer-in-list}
@@ -109,24 +112,22 @@ said-present {y} (g ∷ gs) e =
     let same : rootOf leafHash innerHash (g ∷ gs) ≡ y = cc in
     (λ n. let z : _≡_ {A = ℕ} 0 1 = cc in omega arith, sym same)
 
--- the check on the bytes of a shelf's proof in form
-pub shelf-on : (root : Bytes) (b : ℕ) (k : Bytes) (p : ShelfProof) {a : Verdict} → length root ≡ 32 → length k ≡ 32 → b ≤ 12 → ShelfForm p →
-    shelfChecked root b k p ≡ accepted a → shelfVerified root b k (shelfBytes p) ≡ accepted a
-unfolding shelfVerified
-shelf-on root b k p r l h f e = rw (eq-eqb (length root) 32 r, eq-eqb (length k) 32 l, le-leb b 12 h, shelf-back p f) e
-
-pub shelf-left : {root k y f : Bytes} {b r : ℕ} {g : Bytes} {a : Verdict} → ShelfVerifies root b k y f r g → shelfVerified root b k y ≡ accepted a →
+-- what the check leaves where an answer is told
+shelf-left : {root k y f : Bytes} {b r : ℕ} {g : Bytes} {a : Verdict} → ShelfVerifies root b k y f r g → ShelfTold root b k y (accepted a) →
     (r ≡ 0) × (g ≡ foundBytes a)
-shelf-left {f = f} x e = (x .answer ∙ ap (λ c. numberOf c) e, x .found ∙ ap (λ c. foundAfter c f) e)
+shelf-left {root} {k} {y} {f} {b} {a = a} x t =
+    let e = one-shelf-told root b k y (x .verdict) (accepted a) (x .told) t in
+    (x .answer ∙ ap (λ c. numberOf c) e, x .found ∙ ap (λ c. foundAfter c f) e)
 
 -- a proof that is given holds
 module _ {s : Bytes} (w : SoundBytes s) {v : ℕ} (kept : Kept (storeOf s) v) {k : Bytes} (whole : Whole32 k) (some : HoldsGrant (storeOf s) v)
     {room f t g : Bytes} (x : Proves s v k room f 0 t g) where
-  pub holds : checked leafHash innerHash (rootOf leafHash innerHash (grantsOfVersion s v)) k (its-proof x) ≡ accepted (answerOf k (grantsOfVersion s v))
+  holds : Holds leafHash innerHash (rootOf leafHash innerHash (grantsOfVersion s v)) k (its-proof x) (answerOf k (grantsOfVersion s v))
   holds =
       let its = shown leafHash innerHash (storeOf s) (w .sound) v kept k whole some _ (root-read-is-hash leafHash innerHash (storeOf s) (w .sound) v kept) in
       let same : its .0 ≡ its-proof x = accepted-same (its .0) (its-proof x) (sym (its .1) ∙ its-tests x .proved) in
-      ap₂ (λ h p. checked leafHash innerHash h k p) (sym (version-root w kept)) (sym same) ∙ its .2
+      accepted-exactly-if-holds leafHash innerHash _ k (its-proof x) _ .0
+      (ap₂ (λ h p. checked leafHash innerHash h k p) (sym (version-root w kept)) (sym same) ∙ its .2)
 
 -- the kinds of proofs
 of-absence : {n : ℕ} (P : Proof) → n ≡ kindOf P → n ≡ absenceKind → (a : Absence) × (P ≡ absence a)
@@ -170,8 +171,12 @@ module _ {b : ℕ} {x : Shelf} {v : ℕ} (w : StandsAt b x v) (k : Bytes) (whole
       let u = said-present mine (sym (list-says w k whole) ∙ z .1) in
       (u .0, z .1 ∙ ap present (u .1))
 
+  -- what holds of a proof by another name, with an answer by another
+  held : {key : Bytes} {p q : Proof} {a c : Verdict} → p ≡ q → a ≡ c → Holds leafHash innerHash root key p a → Holds leafHash innerHash root key q c
+  held {key} {q = q} {a} e i h = subst (Holds leafHash innerHash root key q) i (subst (λ r. Holds leafHash innerHash root key r a) e h)
+
   -- the bytes that are given
-  given : {y : Bytes} → Proved b x v k y → (p : ShelfProof) × (y ≡ shelfBytes p) × ShelfForm p × (shelfChecked root b k p ≡ accepted (answerOf k (shelfGrants b x v)))
+  given : {y : Bytes} → Proved b x v k y → (p : ShelfProof) × (y ≡ shelfBytes p) × ShelfForm p × ShelfHolds root b k p (answerOf k (shelfGrants b x v))
   given (by-list {t = t} {g} y e) =
       let a = of-absence (its-proof y) (kind-told y) e in
       let f = form (w .list-sound) (w .list-kept) (key-whole w k whole) y in
@@ -179,9 +184,8 @@ module _ {b : ℕ} {x : Shelf} {v : ℕ} (w : StandsAt b x v) (k : Bytes) (whole
         noPart (a .0),
         front-is y f ∙ ap proofBytes (a .1),
         subst ProofForm (a .1) f,
-        ap (checked leafHash innerHash root (partKey b k)) (sym (a .1))
-            ∙ holds (w .list-sound) (w .list-kept) (key-whole w k whole) some y
-            ∙ ap accepted (list-says w k whole ∙ ap (said leafHash innerHash) gone ∙ sym (part-says w k whole ∙ ap (answerOf k) gone)),
+        subst (ShelfHolds root b k (noPart (a .0))) (sym (part-says w k whole ∙ ap (answerOf k) gone))
+            (by-list-alone (held (a .1) (list-says w k whole ∙ ap (said leafHash innerHash) gone) (holds (w .list-sound) (w .list-kept) (key-whole w k whole) some y))),
       )
   given (by-both {t = t} {g} {t₁ = t₁} {g₁} y e z) =
       let p = of-presence (its-proof y) (kind-told y) e in
@@ -191,12 +195,8 @@ module _ {b : ℕ} {x : Shelf} {v : ℕ} (w : StandsAt b x v) (k : Bytes) (whole
         inPart (p .0) (its-proof z),
         ap₂ _++_ (front-is y f ∙ ap proofBytes (p .1)) (front-is z h),
         (subst ProofForm (p .1) f, h),
-        ap (λ c. byList c (λ top. checked leafHash innerHash top k (its-proof z)))
-            (ap (checked leafHash innerHash root (partKey b k)) (sym (p .1))
-            ∙ holds (w .list-sound) (w .list-kept) (key-whole w k whole) some y
-            ∙ ap accepted (u .1))
-            ∙ holds part-sound the-part-kept whole (u .0) z
-            ∙ ap accepted (sym (part-says w k whole)),
+        subst (ShelfHolds root b k (inPart (p .0) (its-proof z))) (sym (part-says w k whole))
+            (in-part (held (p .1) (u .1) (holds (w .list-sound) (w .list-kept) (key-whole w k whole) some y)) (holds part-sound the-part-kept whole (u .0) z)),
       )
 
   -- For every key, what proving gives is accepted, and says what the grants of all parts say.
@@ -209,7 +209,9 @@ module _ {b : ℕ} {x : Shelf} {v : ℕ} (w : StandsAt b x v) (k : Bytes) (whole
         let a = root-of-tree (w .list-sound) (w .list-kept) r in
         let u = given y₁ in
         let same = a .1 ∙ version-root (w .list-sound) (w .list-kept) in
-        let c = shelf-left z (ap₂ (λ h q. shelfVerified h b k q) same (u .1) ∙ shelf-on root b k (u .0) root-whole (whole .0) (w .few) (u .2) (u .3)) in
+        let t : ShelfTold root b k y (accepted (answerOf k (shelfGrants b x v))) =
+        holding (root-whole, whole .0) (w .few) (record { bytes = u .1; form = u .2 }) (u .3) in
+        let c = shelf-left z (subst (λ h. ShelfTold h b k y (accepted (answerOf k (shelfGrants b x v)))) (sym same) t) in
         (a .0, c .0, c .1);
     short = λ y. let u = given y in omega (arith, ap length (u .1), shelf-proofs-have-25600-bytes (u .0) (u .2));
   }

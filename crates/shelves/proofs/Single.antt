@@ -3,29 +3,19 @@
 use Prim.Native.Nat.{ℕ, _≤_}
 use native.Mathlib.Omega.{arith}
 use mathlib.Core.Path.{_≡_, refl, ap, sym, _∙_, subst}
-use mathlib.Core.Logic.{_⊎_, inl, inr}
-use mathlib.Core.Bool.{Bool, true, false, cond, _&&_}
-use mathlib.Core.List.{List, [], _∷_, _++_}
-use mathlib.Core.Option.{Option, none, some}
 use lib.ListN.{length}
-use lib.Dec.{eqb, leb}
-use borrow.Author.Tests.{eqb-true, leb-true}
-use Rattle.terms.specs.Bits.{Bytes, Byte, All}
-use Rattle.terms.specs.Records.{Presence, Absence, Proof, presence, absence}
+use Rattle.terms.specs.Bits.{Bytes}
+use Rattle.terms.specs.Records.{Proof, presence, absence}
 use Rattle.terms.proofs.Places.{length-pack}
-use Rattle.meaning.specs.Calls.{Answer, refused, accepted}
-use Rattle.meaning.specs.Reading.{Verdict, present, absent, answerOf}
+use Rattle.meaning.specs.Calls.{Answer, accepted}
+use Rattle.meaning.specs.Reading.{Verdict, present, absent}
 use Rattle.meaning.specs.Answers.{numberOf, foundBytes, foundAfter}
 use Rattle.checker.specs.Holding.{Holds, shown, only-left, only-right, both}
-use Rattle.checker.proofs.Theorems.{accepted-exactly-if-holds}
 use Rattle.nodehash.specs.Node.{leafHash, innerHash}
 use Rattle.proofrecords.specs.ProofBytes.{proofBytes, ProofForm}
-use Rattle.shelf_rules.specs.Shelf.{partKey, ShelfProof, noPart, inPart, shelfBytes, ShelfForm, shelfIn, shelfChecked, shelfJudged, shelfVerified}
-use Rattle.shelf_rules.specs.Holding.{ShelfHolds, no-part, in-part}
-use Rattle.shelf_rules.proofs.Records.{shelf-bytes}
-use Rattle.shelf_rules.proofs.Theorems.{shelf-accepted-exactly-if-holds, shelf-refused-with-11}
+use Rattle.shelf_rules.specs.Shelf.{partKey, ShelfProof, shelfBytes, ShelfForm, ShelfIs, ShelfHolds, no-part, in-part, ShelfTold, not-32-bytes, too-many-bits, not-in-form, not-holding, holding}
+use Rattle.verify_rules.specs.Verify.{holding as holding-alone, in-form}
 use Rattle.contracts.specs.Contracts.{Verifies, ShelfVerifies}
-use Rattle.demands.proofs.Showing.{checker-on}
 use Rattle.shelves.specs.Shelf.{BySingleChecks, list-alone, both-records}
 
 -- what was accepted
@@ -34,48 +24,27 @@ pub record Accepted (root : Bytes) (b : ℕ) (k y g : Bytes) : Type 0 where
   pub key32 : length k ≡ 32
   pub few : b ≤ 12
   pub proof : ShelfProof
-  pub is-proof : shelfIn y ≡ some proof
+  pub is-proof : ShelfIs y proof
   pub answer : Verdict
   pub holds : ShelfHolds root b k proof answer
   pub told : g ≡ foundBytes answer
 
 pub what-was-accepted : {root k y f g : Bytes} {b : ℕ} → ShelfVerifies root b k y f 0 g → Accepted root b k y g
-unfolding shelfVerified
-what-was-accepted {root} {k} {y} {f} {g} {b} w = sizes (eqb (length root) 32) (eqb (length k) 32) (leb b 12) refl refl refl (w .answer) (w .found)
+what-was-accepted {root} {k} {y} {f} {g} {b} w = go (w .told) (w .answer) (w .found)
   where
-    held : (p : ShelfProof) → shelfIn y ≡ some p → length root ≡ 32 → length k ≡ 32 → b ≤ 12 → (a : Answer Verdict) → shelfChecked root b k p ≡ a →
-        0 ≡ numberOf a → g ≡ foundAfter a f → Accepted root b k y g
-    held p e r l h (refused n) d c z = absurd (omega (arith, c, shelf-refused-with-11 root b k p d))
-    held p e r l h (accepted v) d c z = record {
-      root32 = r;
-      key32 = l;
-      few = h;
-      proof = p;
-      is-proof = e;
-      answer = v;
-      holds = shelf-accepted-exactly-if-holds root b k p v .0 d;
-      told = z;
-    }
-
-    form : (o : Option ShelfProof) → shelfIn y ≡ o → length root ≡ 32 → length k ≡ 32 → b ≤ 12 → 0 ≡ numberOf (shelfJudged root b k o) →
-        g ≡ foundAfter (shelfJudged root b k o) f → Accepted root b k y g
-    form none e r l h c z = absurd (omega arith)
-    form (some p) e r l h c z = held p e r l h (shelfChecked root b k p) refl c z
-
-    sizes : (c d h : Bool) → eqb (length root) 32 ≡ c → eqb (length k) 32 ≡ d → leb b 12 ≡ h →
-        0 ≡ numberOf (cond (c && d) (cond h (shelfJudged root b k (shelfIn y)) (refused 21)) (refused 12)) →
-        g ≡ foundAfter (cond (c && d) (cond h (shelfJudged root b k (shelfIn y)) (refused 21)) (refused 12)) f → Accepted root b k y g
-    sizes false d h e i j c z = absurd (omega arith)
-    sizes true false h e i j c z = absurd (omega arith)
-    sizes true true false e i j c z = absurd (omega arith)
-    sizes true true true e i j c z = form (shelfIn y) refl (eqb-true (length root) 32 e) (eqb-true (length k) 32 i) (leb-true b 12 j) c z
+    go : {a : Answer Verdict} → ShelfTold root b k y a → 0 ≡ numberOf a → g ≡ foundAfter a f → Accepted root b k y g
+    go (not-32-bytes n) c z = absurd (omega arith)
+    go (too-many-bits s m) c z = absurd (omega arith)
+    go (not-in-form s l n) c z = absurd (omega arith)
+    go (not-holding s l i n) c z = absurd (omega arith)
+    go (holding {p} {v} s l i h) c z =
+        record { root32 = s .0; key32 = s .1; few = l; proof = p; is-proof = i; answer = v; holds = h; told = z }
 
 -- a record that holds is accepted by itself
 pub accepted-alone : (root k : Bytes) (p : Proof) (a : Verdict) (f : Bytes) → length root ≡ 32 → length k ≡ 32 → ProofForm p →
     Holds leafHash innerHash root k p a → Verifies root k (proofBytes p) f 0 (foundBytes a)
 accepted-alone root k p a f r l h i =
-    let e = checker-on root k p r l h (accepted-exactly-if-holds leafHash innerHash root k p a .1 i) in
-    record { answer = sym (ap (λ c. numberOf c) e); found = sym (ap (λ c. foundAfter c f) e) }
+    record { verdict = accepted a; told = in-form (r, l) (record { bytes = refl; form = h }) (holding-alone i); answer = refl; found = refl }
 
 pub key-32 : (b : ℕ) (k : Bytes) → length (partKey b k) ≡ 32
 unfolding partKey
@@ -92,11 +61,12 @@ value-32 _ _ h (only-right e l o) v q = no-presence q
 value-32 _ _ h (both e l r o) v q = no-presence q
 
 -- Nothing is accepted that the single checks don't accept.
-pub only-what-single-checks-accept : {root k y f g : Bytes} {b : ℕ} → All Byte y → ShelfVerifies root b k y f 0 g → BySingleChecks root b k y g
-only-what-single-checks-accept {root} {k} {y} {f} {g} {b} bytes w =
+pub only-what-single-checks-accept : {root k y f g : Bytes} {b : ℕ} → ShelfVerifies root b k y f 0 g → BySingleChecks root b k y g
+only-what-single-checks-accept {root} {k} {y} {f} {g} {b} w =
     let a = what-was-accepted w in
-    let u = shelf-bytes y bytes (a .proof) (a .is-proof) in
-    subst (BySingleChecks root b k y) (sym (a .told)) (subst (λ z. BySingleChecks root b k z (foundBytes (a .answer))) (u .1) (go (a .root32) (a .key32) (u .0) (a .holds)))
+    let u = a .is-proof in
+    subst (BySingleChecks root b k y) (sym (a .told))
+    (subst (λ z. BySingleChecks root b k z (foundBytes (a .answer))) (sym (u .bytes)) (go (a .root32) (a .key32) (u .form) (a .holds)))
   where
     go : {p : ShelfProof} {v : Verdict} → length root ≡ 32 → length k ≡ 32 → ShelfForm p → ShelfHolds root b k p v → BySingleChecks root b k (shelfBytes p) (foundBytes v)
     go r l h (no-part {a} i) = list-alone (accepted-alone root (partKey b k) (absence a) absent f r (key-32 b k) h i)

@@ -4,10 +4,9 @@ use mathlib.Core.Path.{_≡_}
 use mathlib.Core.Logic.{_↔_, _⊎_}
 use mathlib.Core.Bool.{true, cond}
 use mathlib.Core.List.{List, [], _++_}
-use mathlib.Core.Option.{some}
 use lib.ListN.{length, take}
 use lib.Dec.{leb}
-use Rattle.terms.specs.Bits.{Bytes, Byte, Place, All, bits, begins}
+use Rattle.terms.specs.Bits.{Bytes, Place, All, bits, begins}
 use Rattle.terms.specs.Fields.{num, field}
 use Rattle.terms.specs.Records.{Grant, Ask, askKey, zeros}
 use Rattle.terms.specs.Form.{top32}
@@ -17,7 +16,7 @@ use Rattle.meaning.specs.Answers.{foundBytes}
 use Rattle.nodehash.specs.Node.{leafHash, innerHash}
 use Rattle.proofrecords.specs.ProofBytes.{presenceKind, absenceKind}
 use Rattle.layout.specs.Stores.{storeOf}
-use Rattle.batch.specs.Batch.{batchOf}
+use Rattle.batch.specs.Asked.{AskedBy}
 use Rattle.promises.specs.Calls.{SoundBytes}
 use Rattle.shelf_rules.specs.Shelf.{mostBits, partKey}
 use Rattle.shelf_grants.specs.Contents.{Parts, allGrants, Among, InPlace, listGrants, newRoots}
@@ -116,9 +115,8 @@ pub data FalseRecord (b : ℕ) (x : Shelf) (v : ℕ) (k : Bytes) : Bytes → Typ
 -- A run of a batch that a part applies as n: its asks are for keys of the part.
 pub record Run (n : ℕ) (p : Place) (s t : Bytes) : Type 0 where
   pub batch : Bytes
-  pub bytes : All Byte batch
   pub asks : List Ask
-  pub asked : batchOf batch ≡ some asks
+  pub asked : AskedBy batch asks
   pub placed : All (λ a. begins p (askKey a) ≡ true) asks
   pub f : Bytes
   pub g : Bytes
@@ -133,8 +131,7 @@ pub record Publishes (b n : ℕ) (x y : Shelf) : Type 0 where
   pub parts : (p : Place) → length p ≡ b →
       (Among p touched × Run n p (x .part p) (y .part p)) ⊎ ((Among p touched → ⊥) × (y .part p ≡ x .part p))
   pub batch : Bytes
-  pub bytes : All Byte batch
-  pub asked : batchOf batch ≡ some (newRoots leafHash innerHash (partsAt y n) touched)
+  pub asked : AskedBy batch (newRoots leafHash innerHash (partsAt y n) touched)
   pub f : Bytes
   pub g : Bytes
   pub applied : Applies n batch (x .list) f 0 (y .list) g

@@ -13,7 +13,7 @@ use Rattle.meaning.specs.Checking.{checked}
 use Rattle.nodehash.specs.Node.{leafHash, innerHash}
 use Rattle.proofrecords.specs.ProofBytes.{isPresence, presenceIn, isAbsence, absenceIn, proofIn}
 use Rattle.verify.specs.Holding.{presenceHolds, absenceProofHolds}
-use Rattle.verify_rules.specs.Verify.{judged, verified}
+use Rattle.verify_rules.specs.Reading.{judged, verified}
 use Rattle.verify.proofs.Judged as by-form
 
 module _ (root k x : Bytes) where

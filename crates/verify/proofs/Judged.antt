@@ -7,7 +7,7 @@ use Rattle.meaning.specs.Calls.{refused}
 use Rattle.meaning.specs.Checking.{checked}
 use Rattle.nodehash.specs.Node.{leafHash, innerHash}
 use Rattle.proofrecords.specs.ProofBytes.{isPresence, presenceIn, isAbsence, absenceIn, proofIn}
-use Rattle.verify_rules.specs.Verify.{judged}
+use Rattle.verify_rules.specs.Reading.{judged}
 
 module _ (root k x : Bytes) where
   pub as-presence : isPresence x ≡ true → judged root k (proofIn x) ≡ checked leafHash innerHash root k (presence (presenceIn x))

@@ -8,7 +8,7 @@ use lib.Dec.{leb}
 use borrow.Author.Tests.{le-leb, lt-leb}
 use Rattle.terms.specs.Bits.{Bytes}
 use Rattle.terms.specs.Fields.{slice, field}
-use Rattle.verify_rows.specs.Rows.{ownLength, begins}
+use Rattle.verify_rows.specs.Reading.{ownLength, begins}
 use Rattle.verify_cut.specs.Row.{PieceEnd}
 
 pub own-length : (a : ℕ) (p : Bytes) → field a 4 p ≡ ownLength (drop a p)

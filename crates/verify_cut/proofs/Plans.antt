@@ -17,7 +17,7 @@ use Rattle.verify_neighbours.specs.Neighbours.{leads}
 use Rattle.verify_one.specs.Lane.{Lies}
 use Rattle.verify_lanes.specs.Lanes.{LiesAt, AllLie, LeadsAt}
 use Rattle.verify_given.specs.Given.{Leading}
-use Rattle.verify_rows.specs.Rows.{ownLength, begins, cutsInto, startOf, pieceAt}
+use Rattle.verify_rows.specs.Reading.{ownLength, begins, cutsInto, startOf, pieceAt}
 use Rattle.verify_rows.proofs.Rows.{begins-room, cut-on, cut-off, cut-end}
 use Rattle.verify_plan.proofs.Prefix.{lies-there, leads-there}
 use Rattle.verify_plan.specs.declared.Paths.{Paths}

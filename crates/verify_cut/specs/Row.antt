@@ -8,7 +8,7 @@ use Rattle.terms.specs.Bits.{Bytes}
 use Rattle.sha256_eight.specs.Each.{Each}
 use Rattle.verify_lanes.specs.Lanes.{AllLie, LeadsAt}
 use Rattle.verify_given.specs.Given.{Leading}
-use Rattle.verify_rows.specs.Rows.{ownLength, begins, cutsInto, startOf, pieceAt}
+use Rattle.verify_rows.specs.Reading.{ownLength, begins, cutsInto, startOf, pieceAt}
 use Rattle.verify_cut.specs.declared.Gathered.{Gathered}
 
 -- Where the record at a ends; 0 where none begins.

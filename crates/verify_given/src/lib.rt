@@ -3,7 +3,7 @@
 ghost use mathlib.Core.Path.{_≡_};
 ghost use Rattle.hash.specs.Hash.{hashBytes};
 ghost use Rattle.proofrecords.specs.ProofBytes.{proofIn};
-ghost use Rattle.verify_rules.specs.Verify.{judged};
+ghost use Rattle.verify_rules.specs.Reading.{judged};
 ghost use Rattle.verify.specs.Says.{says};
 ghost use Rattle.verify_given.specs.Given.{Leading};
 use hash::Hash;

@@ -18,7 +18,7 @@ use Rattle.hash.specs.declared.Hash.{Hash}
 use Rattle.hash.specs.Hash.{hashBytes}
 use Rattle.nodehash.specs.Node.{leafHash, innerHash}
 use Rattle.proofrecords.specs.ProofBytes.{proofIn}
-use Rattle.verify_rules.specs.Verify.{judged, verified}
+use Rattle.verify_rules.specs.Reading.{judged, verified}
 use Rattle.verify_cut.proofs.Answers.{hash-long}
 
 pub zeros-written : (xs : Bytes) → length xs ≡ 34 → zeroBytes (length xs) ≡ 0 ∷ (0 ∷ zeros)

@@ -8,14 +8,16 @@ use lib.ListN.{length, getD, take, drop, length-append, length-drop}
 use lib.Seq.{take-all}
 use lib.Dec.{eqb, leb}
 use borrow.Author.Tests.{eq-eqb, ne-eqb, eqb-true, leb-true, le-leb, lt-leb}
-use Rattle.terms.specs.Bits.{Bytes}
+use Rattle.terms.specs.Bits.{Bytes, Byte, All}
 use Rattle.terms.proofs.Tests.{and-left, and-right}
 use Rattle.meaning.specs.Calls.{Answer, refused, accepted}
 use Rattle.meaning.specs.Answers.{numberOf, toldOf}
 use Rattle.palette_rules.specs.Palette.{wholeKeys, keysFrom, keysIn}
 use Rattle.sha256_eight.specs.Each.{Each}
 use Rattle.verify_lanes.specs.Lanes.{LeadsAt}
-use Rattle.verify_rows.specs.Rows.{cutsInto, pieces, answersOf, manyVerified, overFront, VerifiesMany}
+use Rattle.verify_rows.specs.Rows.{overFront, VerifiesMany}
+use Rattle.verify_rows.specs.Reading.{cutsInto, pieces, answersOf, manyVerified}
+use Rattle.verify_rows.proofs.Told.{told-of-row-exactly}
 use Rattle.verify_cut.specs.Row.{Plan, Planned, Known, KnownAt}
 
 -- a list of whole keys
@@ -36,8 +38,12 @@ module _ (root keys proofs old : Bytes) where
   abbrev said : Answer Bytes
   said = manyVerified root keys proofs (length old)
 
-  pub refuses : (k : ℕ) → said ≡ refused k → VerifiesMany root keys proofs old k old
-  refuses k e = record { answer = sym (ap numberOf e); told = sym (ap (λ (v : Answer Bytes). toldOf (λ (b : Bytes). overFront b old) v old) e) }
+  meets : All Byte proofs → {r : ℕ} {new : Bytes} (a : Answer Bytes) → said ≡ a → r ≡ numberOf a → new ≡ toldOf (λ (b : Bytes). overFront b old) a old →
+      VerifiesMany root keys proofs old r new
+  meets bytes a e n w = record { answers = a; told = told-of-row-exactly root keys proofs (length old) bytes a .1 (sym e); answer = n; buffer = w }
+
+  pub refuses : All Byte proofs → (k : ℕ) → said ≡ refused k → VerifiesMany root keys proofs old k old
+  refuses bytes k e = meets bytes (refused k) e refl refl
 
   pub root-off : (length root ≡ 32 → ⊥) → said ≡ refused 12
   unfolding manyVerified
@@ -62,19 +68,16 @@ module _ (root keys proofs old : Bytes) where
         unfolding manyVerified keysIn
         answers-all f = rw (eq-eqb (length root) 32 r, w, c, le-leb (34 * (length keys / 32)) (length old) f)
 
-        pub accepts : (top new : Bytes) → 34 * (length keys / 32) ≤ length old → top ≡ root → length new ≡ length old →
+        pub accepts : All Byte proofs → (top new : Bytes) → 34 * (length keys / 32) ≤ length old → top ≡ root → length new ≡ length old →
             new ≡ answersOf top (keysFrom (length keys / 32) keys) (pieces (length keys / 32) proofs) ++ drop (34 * (length keys / 32)) old →
             VerifiesMany root keys proofs old 0 new
-        accepts top new f t l e =
+        accepts bytes top new f t l e =
             let b : Bytes = answersOf root (keysFrom (length keys / 32) keys) (pieces (length keys / 32) proofs) in
             let d : new ≡ b ++ drop (34 * (length keys / 32)) old =
             e ∙ ap (λ (x : Bytes). answersOf x (keysFrom (length keys / 32) keys) (pieces (length keys / 32) proofs) ++ drop (34 * (length keys / 32)) old) t in
             let m : length b ≡ 34 * (length keys / 32) =
             omega (arith, ap length d, length-append b (drop (34 * (length keys / 32)) old), length-drop (34 * (length keys / 32)) old) in
-            let s = answers-all f in record {
-              answer = sym (ap numberOf s);
-              told = d ∙ ap (λ (k : ℕ). b ++ drop k old) (sym m) ∙ sym (ap (λ (v : Answer Bytes). toldOf (λ (x : Bytes). overFront x old) v old) s);
-            }
+            meets bytes (accepted b) (answers-all f) refl (d ∙ ap (λ (k : ℕ). b ++ drop k old) (sym m))
 
 pub root-whole : (root h : Bytes) → length root ≡ 32 → h ≡ take 32 (drop 0 root) → h ≡ root
 root-whole root h l e = e ∙ take-all 32 root (omega arith)

@@ -10,8 +10,9 @@ use lib.ListN.{length, take, drop, length-take, length-drop, length-append, take
 use lib.Seq.{take-at, drop-at, drop-drop}
 use Rattle.terms.specs.Bits.{Bytes}
 use Rattle.palette_rules.specs.Palette.{keysFrom}
-use Rattle.verify_rules.specs.Verify.{verified}
-use Rattle.verify_rows.specs.Rows.{ownLength, begins, cutsInto, pieces, startOf, pieceAt, answerBytes, answersOf}
+use Rattle.verify_rules.specs.Reading.{verified}
+use Rattle.verify_rows.specs.Rows.{answerBytes}
+use Rattle.verify_rows.specs.Reading.{ownLength, begins, cutsInto, pieces, startOf, pieceAt, answersOf}
 use Rattle.verify_rows.proofs.Rows.{begins-room, cut-begins, cut-rest, answers-on, answers-end}
 
 -- The first i answers are written, and the rest is as it was.

@@ -1,4 +1,4 @@
 pub mod Samples
 pub mod Rows
 pub mod Cutting
-pub mod Answered
+pub mod Told

@@ -12,8 +12,9 @@ use Rattle.terms.specs.Bits.{Bytes}
 use Rattle.terms.proofs.Tests.{and-left, and-right}
 use Rattle.proofrecords.proofs.Lying.{one-less, none-left}
 use Rattle.palette_rules.specs.Palette.{keysFrom}
-use Rattle.verify_rules.specs.Verify.{verified}
-use Rattle.verify_rows.specs.Rows.{ownLength, begins, cutsInto, pieces, pieceAt, answerBytes, answersOf}
+use Rattle.verify_rules.specs.Reading.{verified}
+use Rattle.verify_rows.specs.Rows.{answerBytes}
+use Rattle.verify_rows.specs.Reading.{ownLength, begins, cutsInto, pieces, pieceAt, answersOf}
 
 -- what the bytes begin with
 pub begins-room : (x : Bytes) → begins x ≡ true → (4 ≤ length x) × (4 ≤ ownLength x) × (ownLength x ≤ length x)

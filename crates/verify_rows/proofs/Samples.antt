@@ -9,8 +9,9 @@ use Rattle.terms.specs.Fields.{field, slice, zeroBytes, allOf}
 use Rattle.meaning.specs.Answers.{numberOf}
 use Rattle.palette_rules.specs.Palette.{wholeKeys, keysIn}
 use Rattle.proofrecords.specs.ProofBytes.{proofIn, isPresence, isAbsence, presenceIn, stepCount}
-use Rattle.verify_rules.specs.Verify.{verified}
-use Rattle.verify_rows.specs.Rows.{ownLength, begins, cutsInto, pieces, answerBytes, answersOf, manyVerified}
+use Rattle.verify_rules.specs.Reading.{verified}
+use Rattle.verify_rows.specs.Rows.{answerBytes}
+use Rattle.verify_rows.specs.Reading.{ownLength, begins, cutsInto, pieces, answersOf, manyVerified}
 
 -- a piece of 4 bytes, which is no proof; and three bytes that say 3, with a piece of 256 behind them
 abbrev four : Bytes

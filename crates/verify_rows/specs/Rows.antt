@@ -1,37 +1,28 @@
 -- Many proofs checked in one call, beyond document 02: a row of pieces, one for each key of a list, and the answers of
 -- single checks in their order. Order: 12, 10, 9. Whether a piece is a proof in form is its own number. Assumes
 -- nothing.
-use Prim.Native.Nat.{ℕ, zero, suc, _+_, _*_, _/_}
+use Prim.Native.Nat.{ℕ, _*_, _≤_, _<_}
 use mathlib.Core.Path.{_≡_}
-use mathlib.Core.Bool.{Bool, cond, _&&_}
+use mathlib.Core.Bool.{true}
 use mathlib.Core.List.{List, [], _∷_, _++_}
-use lib.ListN.{length, take, drop}
-use lib.Dec.{eqb, leb}
-use Rattle.terms.specs.Bits.{Bytes}
-use Rattle.terms.specs.Fields.{field, zeroBytes}
+use lib.ListN.{length, drop}
+use Rattle.terms.specs.Bits.{Bytes, All}
+use Rattle.terms.specs.Fields.{field, flat, zeroBytes}
 use Rattle.meaning.specs.Calls.{Answer, refused, accepted}
 use Rattle.meaning.specs.Reading.{Verdict}
 use Rattle.meaning.specs.Answers.{numberOf, foundAfter, toldOf}
-use Rattle.palette_rules.specs.Palette.{keySize, wholeKeys, keysIn}
-use Rattle.verify_rules.specs.Verify.{verified}
+use Rattle.palette_rules.specs.Palette.{wholeKeys, keysIn}
+use Rattle.verify_rules.specs.Verify.{Judged, Told}
 
--- A piece is as long as its first four bytes say.
-unfoldable pub ownLength : Bytes → ℕ
-ownLength x = field 0 4 x
+-- A piece is as long as its first four bytes say, at least 4.
+abbrev pub Piece : Bytes → Type 0
+Piece x = (4 ≤ length x) × (field 0 4 x ≡ length x)
 
--- The bytes begin with a piece: there is a length, at least 4, and there are that many bytes.
-unfoldable pub begins : Bytes → Bool
-begins x = leb 4 (length x) && (leb 4 (ownLength x) && leb (ownLength x) (length x))
-
--- The bytes are exactly n pieces, by their own lengths, none over.
-abbrev pub cutsInto : ℕ → Bytes → Bool
-cutsInto zero x = eqb (length x) 0
-cutsInto (suc n) x = begins x && cutsInto n (drop (ownLength x) x)
-
--- These pieces.
-abbrev pub pieces : ℕ → Bytes → List Bytes
-pieces zero x = []
-pieces (suc n) x = take (ownLength x) x ∷ pieces n (drop (ownLength x) x)
+-- The bytes are these n pieces one after the other, none over.
+pub record Pieces (n : ℕ) (row : Bytes) (xs : List Bytes) : Type 0 where
+  pub each : All Piece xs
+  pub many : length xs ≡ n
+  pub bytes : row ≡ flat xs
 
 abbrev pub answerSize : ℕ
 answerSize = 34
@@ -41,34 +32,34 @@ unfoldable pub answerBytes : Answer Verdict → Bytes
 answerBytes a = numberOf a ∷ foundAfter a (zeroBytes 33)
 
 -- The answers of single checks for keys and pieces, in their order.
-abbrev pub answersOf : Bytes → List Bytes → List Bytes → Bytes
-answersOf root [] xs = []
-answersOf root (k ∷ ks) [] = []
-answersOf root (k ∷ ks) (x ∷ xs) = answerBytes (verified root k x) ++ answersOf root ks xs
+pub data Answers (root : Bytes) : List Bytes → List Bytes → Bytes → Type 0 where
+  nothing-left : Answers root [] [] []
+  next : {k x b : Bytes} {a : Answer Verdict} {keys xs : List Bytes} → Told Judged root k x a →
+      Answers root keys xs b → Answers root (k ∷ keys) (x ∷ xs) (answerBytes a ++ b)
 
--- 12 if the root isn't 32 bytes or the list isn't 0 to 256 whole keys; 10 if the bytes aren't exactly as many pieces as
--- keys; 9 if there are fewer than 34 bytes a key for the answers; else the answers.
-unfoldable pub manyVerified : Bytes → Bytes → Bytes → ℕ → Answer Bytes
-manyVerified root keys proofs room =
-    cond (eqb (length root) 32 && wholeKeys keys)
-    (cond (cutsInto (length keys / keySize) proofs)
-    (cond (leb (answerSize * (length keys / keySize)) room)
-    (accepted (answersOf root (keysIn keys) (pieces (length keys / keySize) proofs)))
-    (refused 9)) (refused 10)) (refused 12)
+-- The root has 32 bytes, and the list is 0 to 256 whole keys.
+abbrev pub RootAndKeys : Bytes → Bytes → Type 0
+RootAndKeys root list = (length root ≡ 32) × (wholeKeys list ≡ true)
+
+-- What is said of a row: 12 if the root isn't 32 bytes or the list isn't 0 to 256 whole keys; 10 if the bytes aren't
+-- exactly as many pieces as keys; 9 if there are fewer than 34 bytes a key for the answers; else the answers.
+pub data ToldOfRow (root list row : Bytes) (room : ℕ) : Answer Bytes → Type 0 where
+  not-whole : (RootAndKeys root list → ⊥) → ToldOfRow root list row room (refused 12)
+  not-pieces : RootAndKeys root list → ((xs : List Bytes) → Pieces (length (keysIn list)) row xs → ⊥) →
+      ToldOfRow root list row room (refused 10)
+  no-room : {xs : List Bytes} → RootAndKeys root list → Pieces (length (keysIn list)) row xs →
+      room < answerSize * length (keysIn list) → ToldOfRow root list row room (refused 9)
+  answered : {xs : List Bytes} {b : Bytes} → RootAndKeys root list → Pieces (length (keysIn list)) row xs →
+      answerSize * length (keysIn list) ≤ room → Answers root (keysIn list) xs b →
+      ToldOfRow root list row room (accepted b)
 
 -- The answers at the front of the buffer; what is behind them stays.
 abbrev pub overFront : Bytes → Bytes → Bytes
 overFront b old = b ++ drop (length b) old
 
 -- Checking many proofs answers r; the buffer is left as new. A refused call writes nothing.
-pub record VerifiesMany (root keys proofs old : Bytes) (r : ℕ) (new : Bytes) : Type 0 where
-  pub answer : r ≡ numberOf (manyVerified root keys proofs (length old))
-  pub told : new ≡ toldOf (λ (b : Bytes). overFront b old) (manyVerified root keys proofs (length old)) old
-
--- Where piece i begins, and its bytes.
-abbrev pub startOf : Bytes → ℕ → ℕ
-startOf p zero = 0
-startOf p (suc i) = startOf p i + ownLength (drop (startOf p i) p)
-
-abbrev pub pieceAt : Bytes → ℕ → Bytes
-pieceAt p a = take (ownLength (drop a p)) (drop a p)
+pub record VerifiesMany (root list row old : Bytes) (r : ℕ) (new : Bytes) : Type 0 where
+  pub answers : Answer Bytes
+  pub told : ToldOfRow root list row (length old) answers
+  pub answer : r ≡ numberOf answers
+  pub buffer : new ≡ toldOf (λ (b : Bytes). overFront b old) answers old

@@ -1,2 +1,2 @@
-pub mod Acceptance
+pub mod Told
 pub mod Pocket

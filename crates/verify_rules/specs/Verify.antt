@@ -2,29 +2,39 @@
 -- Assumes nothing.
 use Prim.Native.Nat.{ℕ}
 use mathlib.Core.Path.{_≡_}
-use mathlib.Core.Bool.{cond, _&&_}
-use mathlib.Core.Option.{Option, none, some}
 use lib.ListN.{length}
-use lib.Dec.{eqb}
 use Rattle.terms.specs.Bits.{Bytes}
 use Rattle.terms.specs.Records.{Proof}
-use Rattle.meaning.specs.Calls.{Answer, refused}
+use Rattle.meaning.specs.Calls.{Answer, refused, accepted}
 use Rattle.meaning.specs.Reading.{Verdict}
-use Rattle.meaning.specs.Checking.{checked}
 use Rattle.meaning.specs.Answers.{numberOf, foundAfter}
+use Rattle.checker.specs.Holding.{Holds}
 use Rattle.nodehash.specs.Node.{leafHash, innerHash}
-use Rattle.proofrecords.specs.ProofBytes.{proofIn}
+use Rattle.proofrecords.specs.ProofBytes.{ProofIs}
 
--- 10 if there is no proof in form; else the proof holds, or 11.
-abbrev pub judged : Bytes → Bytes → Option Proof → Answer Verdict
-judged root k none = refused 10
-judged root k (some p) = checked leafHash innerHash root k p
+-- What is said of a proof for the key k against a root: it holds, with this answer, or 11.
+pub data Judged (root k : Bytes) (p : Proof) : Answer Verdict → Type 0 where
+  holding : {v : Verdict} → Holds leafHash innerHash root k p v → Judged root k p (accepted v)
+  not-holding : ((v : Verdict) → Holds leafHash innerHash root k p v → ⊥) → Judged root k p (refused 11)
 
--- 12 if the root or the key isn't 32 bytes; else 10, 11, "present" with the value, or "absent".
-unfoldable pub verified : Bytes → Bytes → Bytes → Answer Verdict
-verified root k x = cond (eqb (length root) 32 && eqb (length k) 32) (judged root k (proofIn x)) (refused 12)
+-- The root and the key have 32 bytes.
+abbrev pub Sizes32 : Bytes → Bytes → Type 0
+Sizes32 root k = (length root ≡ 32) × (length k ≡ 32)
+
+-- What is said of a proof for a key against a root.
+abbrev pub Judgement : Type 1
+Judgement = Bytes → Bytes → Proof → Answer Verdict → Type 0
+
+-- What is said of the bytes x, given what is said of a proof: 12 if the root or the key isn't 32 bytes, 10 if x is no
+-- proof in form, else what is said of the proof that x is.
+pub data Told (judged : Judgement) (root k x : Bytes) : Answer Verdict → Type 0 where
+  not-32-bytes : (Sizes32 root k → ⊥) → Told judged root k x (refused 12)
+  not-in-form : Sizes32 root k → ((p : Proof) → ProofIs x p → ⊥) → Told judged root k x (refused 10)
+  in-form : {p : Proof} {a : Answer Verdict} → Sizes32 root k → ProofIs x p → judged root k p a → Told judged root k x a
 
 -- Checking the bytes x as a proof of the key k against a root answers r; the array f for what is found is left as g.
 pub record Verifies (root k x f : Bytes) (r : ℕ) (g : Bytes) : Type 0 where
-  pub answer : r ≡ numberOf (verified root k x)
-  pub found : g ≡ foundAfter (verified root k x) f
+  pub verdict : Answer Verdict
+  pub told : Told Judged root k x verdict
+  pub answer : r ≡ numberOf verdict
+  pub found : g ≡ foundAfter verdict f

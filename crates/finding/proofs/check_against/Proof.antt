@@ -1,7 +1,7 @@
 -- `finding::check_against` meets its contract: the root read is the hash of the tree. Assumes nothing.
 use mathlib.Core.Path.{ap, _∙_}
 use Rattle.proofrecords.specs.ProofBytes.{proofIn}
-use Rattle.verify_rules.specs.Verify.{judged}
+use Rattle.verify_rules.specs.Reading.{judged}
 use Rattle.forged_truth.proofs.Reading.{sound-size}
 use Rattle.finding.proofs.Rooted.{root-not-refused, root-is}
 use borrow.Author.Needs.{needs}

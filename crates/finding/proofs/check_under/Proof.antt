@@ -3,7 +3,7 @@ use mathlib.Core.Path.{refl, ap, _∙_}
 use lib.ListN.{replicate}
 use Rattle.hash.specs.Hash.{hashBytes}
 use Rattle.hash.proofs.Laws.{put-over, hash-whole}
-use Rattle.verify_rules.specs.Verify.{verified}
+use Rattle.verify_rules.specs.Reading.{verified}
 use Rattle.finding.proofs.Judging.{sizes-right}
 use borrow.Author.Needs.{needs}
 use Rattle.finding.proofs.check_under.Statement.{statement}

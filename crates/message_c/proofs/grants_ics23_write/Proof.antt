@@ -1,6 +1,8 @@
 -- `message_c::grants_ics23_write` meets its contract: the case of the answer decides the number, the room and the four bytes. Assumes nothing.
 use Rattle.message_c.proofs.Exported.{write-refused, write-given}
+use native.Mathlib.Omega.{arith}
 use borrow.Author.Needs.{needs}
+use Rattle.hash.proofs.Digits.{all-bytes}
 use Rattle.message_c.proofs.grants_ics23_write.Statement.{statement}
 use Rattle.message_c.proofs.grants_ics23_write.Tie as tie
 
@@ -23,18 +25,27 @@ same-length c = search needs
 abbrev write-from-wrote2 : tie.After-wrote2 → tie.After-write
 write-from-wrote2 c = c .before .before .before .before
 
+abbrev shared-slice-known-from-write : tie.After-write → tie.After-shared-slice-known
+shared-slice-known-from-write c = c .before .before .before .before .before .before .before .before
+
 returns : tie.Need-returns
 returns c =
     let after-wrote = c .before in
     let after-write = after-wrote .before .before .before .before in
-    let after-shared-slice-known5 = after-write .before .before .before .before in
-    write-refused (after-write .write .ensures) (after-shared-slice-known5 .before .before .before .before .before .args .length .now) (after-wrote .wrote .given .1)
+    let after-shared-slice-known = shared-slice-known-from-write after-write in
+    let a = after-shared-slice-known .before .args in
+    write-refused (all-bytes (a .proof .now) (λ i. omega (arith, after-shared-slice-known .shared-slice-known .given i))) (after-write .write .ensures) (a .length .now) (after-wrote .wrote .given .1)
 
 same-length-2 : tie.Need-same-length-2
 same-length-2 c = search needs
 
 returns-2 : tie.Need-returns-2
-returns-2 c = write-given (write-from-wrote2 (c .before .before .before) .write .ensures) (c .before .before .before .before .before .before .before .before .before .before .before .before .before .before .before .before .args .length .now) (c .before .before .before .wrote2 .given .1) (search needs) (c .put-u32 .ensures)
+returns-2 c =
+    let after-wrote2 = c .before .before .before in
+    let after-write = write-from-wrote2 after-wrote2 in
+    let after-shared-slice-known = shared-slice-known-from-write after-write in
+    let a = after-shared-slice-known .before .args in
+    write-given (all-bytes (a .proof .now) (λ i. omega (arith, after-shared-slice-known .shared-slice-known .given i))) (after-write .write .ensures) (a .length .now) (after-wrote2 .wrote2 .given .1) (search needs) (c .put-u32 .ensures)
 
 pub grants-ics23-write-spec : {M : Type 1} → statement M
 grants-ics23-write-spec =

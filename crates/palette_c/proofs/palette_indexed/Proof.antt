@@ -1,8 +1,10 @@
 -- `palette_c::palette_indexed` meets its contract: what is handed in is tested, a table of another length is refused, else the read is by the table. Assumes nothing.
 use mathlib.Core.Path.{sym, _∙_}
+use mathlib.Core.Option.{some}
 use lib.ListN.{length}
 use borrow.Author.Tests.{not-true, not-false}
-use Rattle.palette.proofs.Answering.{palette-as-many, palette-not-as-many, palette-torn}
+use Rattle.palette.proofs.Answering.{palette-as-many, palette-not-as-many}
+use Rattle.contracts.proofs.Refusing.{list-torn}
 use Rattle.palette_c.proofs.Exported.{palette-as, palette-refusal, palette-told-by}
 use borrow.Author.Needs.{needs}
 use Rattle.palette_c.proofs.palette_indexed.Statement.{statement}
@@ -20,7 +22,7 @@ start-from-whole-keys c = c .before .before .before .before .before
 
 returns : tie.Need-returns
 returns c = let a = start-from-whole-keys (c .before) .args in
-    palette-told-by (palette-refusal 12 (a .room .now) (a .length .now) (palette-torn (a .store .now) (a .index .now) (a .version) (a .keys .now) (length (a .room .now)) (sym (c .before .whole-keys .ensures) ∙ not-true _ (c .if1 .taken))))
+    palette-told-by (palette-refusal 12 (a .room .now) (a .length .now) (list-torn (a .store .now) (some (a .index .now)) (a .version) (a .keys .now) (length (a .room .now)) (sym (c .before .whole-keys .ensures) ∙ not-true _ (c .if1 .taken))))
 
 as-many-requires : tie.Need-as-many-requires
 as-many-requires c κs = search needs

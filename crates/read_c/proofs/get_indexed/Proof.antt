@@ -1,7 +1,8 @@
 -- `read_c::get_indexed` meets its contract: what is handed in is tested, a table of another length is refused, else the read is by the table. Assumes nothing.
 use mathlib.Core.Path.{sym, _∙_}
+use mathlib.Core.Option.{some}
 use borrow.Author.Tests.{not-true, not-false}
-use Rattle.contracts.proofs.Refusing.{key-not-as-many, key-wrong-indexed}
+use Rattle.contracts.proofs.Refusing.{key-not-32, key-not-as-many}
 use Rattle.read.proofs.Answers.{key-as-many}
 use Rattle.read_c.proofs.Exported.{key-as, key-refusal, key-told-by}
 use borrow.Author.Needs.{needs}
@@ -18,7 +19,7 @@ start-from-as-many c = c .before .before .before .before .before
 returns : tie.Need-returns
 returns c =
     let a = c .before .before .before .before .args in
-    key-told-by (key-refusal 12 (a .found .now) (key-wrong-indexed (a .store .now) (a .index .now) (a .version) (a .key .now) (c .if1 .taken)))
+    key-told-by (key-refusal 12 (a .found .now) (key-not-32 (a .store .now) (some (a .index .now)) (a .version) (a .key .now) (c .if1 .taken)))
 
 as-many-requires : tie.Need-as-many-requires
 as-many-requires c κs = search needs

@@ -1,8 +1,11 @@
 -- `shelf_verify::check_both` meets its contract: by what the list says. Assumes nothing.
+use native.Mathlib.Omega.{arith}
 use mathlib.Core.Path.{ap, sym, _∙_}
+use Rattle.terms.specs.Bits.{Byte, All}
+use Rattle.terms.proofs.Lists.{all-of}
 use Rattle.proofrecords.proofs.Forms.{rest-part}
 use Rattle.verify.specs.Says.{says}
-use Rattle.verify_rules.specs.Verify.{verified}
+use Rattle.verify_rules.specs.Reading.{verified}
 use Rattle.shelf_verify.proofs.Laws.{front-part, list-refused, list-present, list-absent}
 use borrow.Author.Needs.{needs}
 use Rattle.shelf_verify.proofs.check_both.Statement.{statement}
@@ -57,6 +60,9 @@ clear-requires c κs = search needs
 abbrev start-from-verify : tie.After-verify → tie.Start
 start-from-verify c = c .before .before .before .before .before .before
 
+given-bytes : (c : tie.After-verify) → All Byte (start-from-verify c .args .proof .now)
+given-bytes c = all-of Byte (start-from-verify c .args .proof .now) 0 (λ i _. omega (arith, c .before .before .shared-slice-known4 .given i))
+
 returns : tie.Need-returns
 returns c =
     let after-list = c .before in
@@ -70,7 +76,7 @@ returns-2 c =
     let after-list2 = after-put-hash .before .before .before in
     let after-verify = after-list2 .before .before in
     let a = start-from-verify after-verify .args in
-    list-present (a .found .now) (ap says (sym (after-list2 .list2 .given .1)) ∙ after-verify .verify .ensures ∙ ap (verified (a .root .now) (a .part .now)) (front-part (a .e) (a .proof .now))) (after-put-hash .put-hash .ensures) (rest-part (a .e) (a .proof .now)) (c .grants-verify .ensures)
+    list-present (a .found .now) (given-bytes after-verify) (ap says (sym (after-list2 .list2 .given .1)) ∙ after-verify .verify .ensures ∙ ap (verified (a .root .now) (a .part .now)) (front-part (a .e) (a .proof .now))) (after-put-hash .put-hash .ensures) (rest-part (a .e) (a .proof .now)) (c .grants-verify .ensures)
 
 returns-3 : tie.Need-returns-3
 returns-3 c =

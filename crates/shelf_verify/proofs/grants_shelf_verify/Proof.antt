@@ -4,6 +4,8 @@ use Rattle.shelf_verify.specs.Both.{isShelf}
 use mathlib.Core.Path.{ap, sym, _∙_, subst}
 use borrow.Author.Tests.{not-true, not-false}
 use borrow.Author.Needs.{needs}
+use Rattle.terms.specs.Bits.{Byte, All}
+use Rattle.hash.proofs.Digits.{all-bytes}
 use Rattle.shelf_verify.proofs.Laws.{part-key, first-within, shelf-root-off, shelf-key-off, bits-off, shelf-off-form, both-checked, shelf-refused, as-both}
 use Rattle.shelf_verify.proofs.grants_shelf_verify.Statement.{statement}
 use Rattle.shelf_verify.proofs.grants_shelf_verify.Tie as tie
@@ -18,20 +20,24 @@ start-from-else2 c = start-from-else1 (c .before)
 abbrev start-from-first-end : tie.After-first-end → tie.Start
 start-from-first-end c = start-from-else2 (c .before .before)
 
+-- a proof that is lent is bytes
+lent-bytes : (c : tie.After-shared-slice-known3) → All Byte (c .before .before .before .args .proof .now)
+lent-bytes c = all-bytes (c .before .before .before .args .proof .now) (λ i. omega (arith, c .shared-slice-known3 .given i))
+
 returns : tie.Need-returns
 returns c =
     let a = c .before .before .before .before .args in
-    shelf-refused (a .found .now) (shelf-root-off (a .root .now) (a .bits) (a .key .now) (a .proof .now) (c .if1 .taken))
+    shelf-refused (lent-bytes (c .before)) (a .found .now) (shelf-root-off (a .root .now) (a .bits) (a .key .now) (a .proof .now) (c .if1 .taken))
 
 returns-2 : tie.Need-returns-2
 returns-2 c = let a = start-from-else1 (c .before) .args in
-    shelf-refused (a .found .now) (shelf-key-off (a .root .now) (a .bits) (a .key .now) (a .proof .now) (c .before .if1 .left) (c .if2 .taken))
+    shelf-refused (lent-bytes (c .before .before)) (a .found .now) (shelf-key-off (a .root .now) (a .bits) (a .key .now) (a .proof .now) (c .before .if1 .left) (c .if2 .taken))
 
 returns-3 : tie.Need-returns-3
 returns-3 c =
     let else2 = c .before in
     let a = start-from-else2 else2 .args in
-    shelf-refused (a .found .now)
+    shelf-refused (lent-bytes (else2 .before .before)) (a .found .now)
     (bits-off (a .root .now) (a .bits) (a .key .now) (a .proof .now) (else2 .before .if1 .left) (else2 .if2 .left) (c .if3 .taken))
 
 first-end-requires : tie.Need-first-end-requires
@@ -47,7 +53,7 @@ returns-4 c =
     let else3 = after-first-end .before in
     let else2 = else3 .before in
     let a = start-from-else2 else2 .args in
-    shelf-refused (a .found .now)
+    shelf-refused (lent-bytes (else2 .before .before)) (a .found .now)
     (shelf-off-form (a .root .now) (a .bits) (a .key .now) (a .proof .now) (else2 .before .if1 .left) (else2 .if2 .left) (else3 .if3 .left)
     (sym (ap (λ n. isShelf n (a .proof .now)) (after-first-end .first-end .ensures)) ∙ sym (after-is-shelf .is-shelf .ensures) ∙ not-true _ (c .if4 .taken)))
 
@@ -74,7 +80,7 @@ returns-5 c =
     let a = start-from-else2 else2 .args in
     let w = c .check-both .ensures in
     let k = part-key (a .bits) (a .key .now) (after-front .front .result) (after-front .front .ensures) in
-    as-both (both-checked (a .root .now) (a .bits) (a .key .now) (a .proof .now) (else2 .before .if1 .left) (else2 .if2 .left) (else3 .if3 .left)
+    as-both (lent-bytes (else2 .before .before)) (both-checked (a .root .now) (a .bits) (a .key .now) (a .proof .now) (else2 .before .if1 .left) (else2 .if2 .left) (else3 .if3 .left)
     (sym (ap (λ n. isShelf n (a .proof .now)) (after-first-end .first-end .ensures)) ∙ sym (after-is-shelf .is-shelf .ensures) ∙ not-false _ (else4 .if4 .left)))
     k (after-first-end .first-end .ensures) w
 

@@ -3,14 +3,23 @@ use native.Mathlib.Omega.{arith}
 use mathlib.Core.Path.{sym, _∙_}
 use borrow.Author.Tests.{not-true, not-false}
 use borrow.Author.Needs.{needs}
+use Rattle.terms.specs.Bits.{Byte, All}
+use Rattle.terms.proofs.Lists.{all-of}
 use Rattle.verify_many.proofs.Call.{whole-sizes, plan-known, refuses, root-off, keys-off, row-off, no-room, accepts, root-whole}
 use Rattle.verify_many.proofs.grants_verify_many.Statement.{statement}
 use Rattle.verify_many.proofs.grants_verify_many.Tie as tie
 
+-- `A-from-B` is the state A as the later state B has it.
+abbrev start-from-slice-known : tie.After-slice-known → tie.Start
+start-from-slice-known c = c .before .before .before .before
+
+given-bytes : (c : tie.After-slice-known) → All Byte (start-from-slice-known c .args .proofs .now)
+given-bytes c = all-of Byte (start-from-slice-known c .args .proofs .now) 0 (λ i _. omega (arith, c .before .shared-slice-known3 .given i))
+
 returns : tie.Need-returns
 returns c =
-    let a = c .before .before .before .before .before .args in
-    refuses (a .root .now) (a .keys .now) (a .proofs .now) (a .answers .now) 12 (root-off (a .root .now) (a .keys .now) (a .proofs .now) (a .answers .now) (c .if1 .taken))
+    let a = start-from-slice-known (c .before) .args in
+    refuses (a .root .now) (a .keys .now) (a .proofs .now) (a .answers .now) (given-bytes (c .before)) 12 (root-off (a .root .now) (a .keys .now) (a .proofs .now) (a .answers .now) (c .if1 .taken))
 
 whole-keys-requires : tie.Need-whole-keys-requires
 whole-keys-requires c κs = search needs
@@ -19,8 +28,8 @@ returns-2 : tie.Need-returns-2
 returns-2 c =
     let after-whole-keys = c .before in
     let else1 = after-whole-keys .before in
-    let a = else1 .before .before .before .before .before .args in
-    refuses (a .root .now) (a .keys .now) (a .proofs .now) (a .answers .now) 12
+    let a = start-from-slice-known (else1 .before) .args in
+    refuses (a .root .now) (a .keys .now) (a .proofs .now) (a .answers .now) (given-bytes (else1 .before)) 12
     (keys-off (a .root .now) (a .keys .now) (a .proofs .now) (a .answers .now) (else1 .if1 .left) (sym (after-whole-keys .whole-keys .ensures) ∙ not-true _ (c .if2 .taken)))
 
 gather-requires : tie.Need-gather-requires
@@ -35,8 +44,8 @@ returns-3 c =
     let else2 = after-gather .before .before .before in
     let after-whole-keys = else2 .before in
     let else1 = after-whole-keys .before in
-    let a = else1 .before .before .before .before .before .args in
-    refuses (a .root .now) (a .keys .now) (a .proofs .now) (a .answers .now) 10
+    let a = start-from-slice-known (else1 .before) .args in
+    refuses (a .root .now) (a .keys .now) (a .proofs .now) (a .answers .now) (given-bytes (else1 .before)) 10
     (row-off (a .root .now) (a .keys .now) (a .proofs .now) (a .answers .now) (else1 .if1 .left) (sym (after-whole-keys .whole-keys .ensures) ∙ not-false _ (else2 .if2 .left)) (sym (after-gather .gather .ensures .whole-is) ∙ not-true _ (c .if3 .taken)))
 
 mul-if4 : tie.Need-mul-if4
@@ -52,8 +61,8 @@ returns-4 c =
     let else2 = after-gather .before .before .before in
     let after-whole-keys = else2 .before in
     let else1 = after-whole-keys .before in
-    let a = else1 .before .before .before .before .before .args in
-    refuses (a .root .now) (a .keys .now) (a .proofs .now) (a .answers .now) 9
+    let a = start-from-slice-known (else1 .before) .args in
+    refuses (a .root .now) (a .keys .now) (a .proofs .now) (a .answers .now) (given-bytes (else1 .before)) 9
     (no-room (a .root .now) (a .keys .now) (a .proofs .now) (a .answers .now) (else1 .if1 .left) (sym (after-whole-keys .whole-keys .ensures) ∙ not-false _ (else2 .if2 .left)) (sym (after-gather .gather .ensures .whole-is) ∙ not-false _ (else3 .if3 .left)) (omega arith))
 
 hash-at-requires : tie.Need-hash-at-requires
@@ -98,10 +107,10 @@ returns-5 c =
     let else2 = after-gather .before .before .before in
     let after-whole-keys = else2 .before in
     let else1 = after-whole-keys .before in
-    let a = else1 .before .before .before .before .before .args in
+    let a = start-from-slice-known (else1 .before) .args in
     let r = else1 .if1 .left in
     accepts (a .root .now) (a .keys .now) (a .proofs .now) (a .answers .now) r (sym (after-whole-keys .whole-keys .ensures) ∙ not-false _ (else2 .if2 .left))
-    (sym (after-gather .gather .ensures .whole-is) ∙ not-false _ (else3 .if3 .left)) _ _ (omega (arith, else4 .if4 .left))
+    (sym (after-gather .gather .ensures .whole-is) ∙ not-false _ (else3 .if3 .left)) (given-bytes (else1 .before)) _ _ (omega (arith, else4 .if4 .left))
     (root-whole (a .root .now) _ r (after-hash-at .hash-at .ensures .1))
     (search needs)
     (after-put-answers .put-answers .ensures)

@@ -5,7 +5,7 @@ use mathlib.Core.Path.{refl, _≡_, ap₂, _∙_}
 use lib.ListN.{length, length-take, length-drop}
 use borrow.Author.Needs.{needs}
 use Rattle.verify_rows.specs.Rows.{answerBytes}
-use Rattle.verify_rules.specs.Verify.{verified}
+use Rattle.verify_rules.specs.Reading.{verified}
 use Rattle.hash.specs.Hash.{hashBytes}
 use Rattle.terms.specs.Bits.{Bytes}
 use Rattle.verify_cut.proofs.Ends.{end-is}
