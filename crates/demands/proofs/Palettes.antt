@@ -41,7 +41,7 @@ use Rattle.promises.specs.Calls.{SoundBytes}
 use Rattle.promises.proofs.Calls.{sound-form}
 use Rattle.promises.specs.Headed.{byHeader}
 use Rattle.contracts.specs.Proves.{proveAnswer}
-use Rattle.contracts.specs.Palettes.{paletteAnswer, proofsBytes, roomAfter, palettedInto, lengthBytes}
+use Rattle.contracts.specs.Palettes.{paletteAnswer, proofsBytes, palettedInto, lengthBytes}
 use Rattle.verify_rules.specs.Verify.{Judged, Told}
 use Rattle.contracts.specs.Contracts.{ReadsRoot, Proves, Palettes, Verifies}
 use Rattle.demands.specs.Claims.{treeOfVersion, grantsOfVersion}

@@ -4,6 +4,7 @@ use order_look::Look;
 use order_look::compared;
 use place::Place;
 use store::version_at;
+use store::wide;
 use terms::Form;
 ghost use mathlib.Core.Path.{_≡_};
 ghost use mathlib.Core.Bool.{true};
@@ -17,12 +18,6 @@ ghost use Rattle.lookup.specs.Lookup.{FoundIn};
 ghost use Rattle.check_pass.specs.Passes.{Passed};
 ghost use Rattle.ordered.specs.Ordered.{nodeKey, keyNo, Ordered};
 ghost use Rattle.order_find.specs.Finds.{NoLower, First};
-
-fn wide(x: u16) -> usize
-    ensures { λ r. ⌜ r ≡ x ⌝ }
-{
-    x as usize
-}
 
 // The first entry that isn't before a version and place, by halves.
 fn by_halves(store: &[u8], table: &[u16; 16384], many: usize, version: u32, place: Place) -> usize

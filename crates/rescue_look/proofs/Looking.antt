@@ -2,44 +2,41 @@
 use Prim.Native.Nat.{ℕ, zero, suc, _+_, _<_, _≤_}
 use native.Mathlib.Omega.{arith}
 use mathlib.Core.Path.{_≡_, refl, ap, ap₂, sym, _∙_, subst}
-use mathlib.Core.Bool.{Bool, true, false, cond, not, _&&_, true≢false}
+use mathlib.Core.Bool.{Bool, true, false, not, _&&_, true≢false}
 use mathlib.Core.List.{List, [], _∷_}
 use mathlib.Core.Option.{Option, none, some}
 use lib.ListN.{length, getD, take, drop}
 use lib.Seq.{take-all}
 use lib.Dec.{eqb}
 use Rattle.terms.specs.declared.Form.the-variants.{Counted as counted}
-use Rattle.terms.specs.Bits.{Bytes, Byte, All, Side, right, Place, sameBytes}
-use Rattle.terms.specs.Records.{Child, Body, leafBody, innerBody, countOn, Record, Slot, free, used, spoiled}
+use Rattle.terms.specs.Bits.{Bytes, Byte, All, Side, Place, sameBytes}
+use Rattle.terms.specs.Records.{Child, Body, leafBody, innerBody, countOn, Record, Slot, free, used}
 use Rattle.terms.specs.Form.{RecordForm}
-use Rattle.terms.proofs.Tests.{is-false}
 use Rattle.meaning.specs.Store.{find, isNode}
 use Rattle.meaning.specs.Reading.{bodyHash}
 use Rattle.meaning.specs.Counting.{weight}
 use Rattle.meaning.specs.Local.{childVersion, weighed}
 use Rattle.meaning.proofs.Finding.{free-used, found-in, hit, Hit, hits}
-use Rattle.local.specs.Test.{byRecord, loneLeaf}
+use Rattle.local.specs.Test.{loneLeaf}
 use Rattle.nodehash.specs.Node.{leafHash, innerHash}
-use Rattle.place.specs.declared.Place as place
-use Rattle.place.specs.Place.{placeOf, Proper}
 use Rattle.layout.specs.Sizes.{roomOf}
 use Rattle.layout.specs.Headers.{sizeRight}
-use Rattle.layout.specs.Slots.{countIn, bitsIn, versionIn, isLeaf, keyIn, valueIn, leafIn, countsIn, leftIn, rightIn, kidOn, innerIn, recordIn, slotOf, SlotForm}
+use Rattle.layout.specs.Slots.{isLeaf, keyIn, valueIn, leafIn, countsIn, leftIn, rightIn, kidOn, innerIn, recordIn, slotOf, SlotForm}
 use Rattle.layout.specs.Stores.{slotIn, storeOf, slotNo, Has}
 use Rattle.layout.proofs.Slots.{record-is}
 use Rattle.store.proofs.Slots.{slots-many, slot-is, slot-formed}
-use Rattle.store.proofs.Scans.{Scan, Each, scan-many, scan-slot, scan-inside, each-from, each-passed, each-next}
+use Rattle.store.proofs.Scans.{Scan, Each, scan-many, scan-inside, each-from, each-passed, each-next}
 use Rattle.lookup.specs.declared.Found as found
 use Rattle.lookup.specs.declared.Found.the-variants.{At, Nothing}
-use Rattle.lookup.specs.Lookup.{isUsed, FoundIn}
+use Rattle.lookup.specs.Lookup.{FoundIn}
 use Rattle.order_find.specs.Finds.{NoLower}
 use Rattle.lookup.proofs.Searching.{past}
-use Rattle.check_kin.specs.Kin.{countNode}
-use Rattle.check_kin.proofs.Holding.{other-version, other-count, other-bits, no-record, held}
+use Rattle.agree.specs.Holding.{nodeHere}
+use Rattle.agree.proofs.Agreeing.{its-record}
 use Rattle.read_step.specs.Walk.{bodyIn}
 use Rattle.read_step.proofs.Seeing.{kid-is, body-is}
 use Rattle.rescue_rules.specs.Joining.{kidOf}
-use Rattle.rescue_look.specs.Look.{StandsSay, LowestIn, Inside, KidSays, linkedAt, WeighsSay, weighsAt, tiedAt}
+use Rattle.rescue_look.specs.Look.{LowestIn, Inside, KidSays, linkedAt, WeighsSay, weighsAt, tiedAt}
 
 -- the first slot that holds the node is found
 find-lowest : (s : List Slot) (v : ℕ) (p : Place) (i : ℕ) (r : Record) → getD s i free ≡ used r → isNode v p r ≡ true →
@@ -58,24 +55,6 @@ find-none s v p f = go _ (hits s v p)
     go none h = refl
     go (some r) (hit i r′ l e t) = absurd (true≢false (sym t ∙ f i _ l e))
 
--- what the count of one slot says
-no-holder : (v : ℕ) (p : Place) (y : Slot) → byRecord 0 (countNode v p) y ≡ 0 → (q : Record) → y ≡ used q → isNode v p q ≡ false
-unfolding countNode
-no-holder v p y e q u = is-false (isNode v p q) (λ t. let z : _≡_ {A = ℕ} 1 0 = sym (one t) ∙ ap (byRecord 0 (countNode v p)) (sym u) ∙ e in absurd (omega arith))
-  where
-    one : isNode v p q ≡ true → _≡_ {A = ℕ} (cond (isNode v p q) 1 0) 1
-    one t = rw t
-
-holder-is : (v : ℕ) (p : Place) (y : Slot) → (byRecord 0 (countNode v p) y ≡ 0 → ⊥) → (q : Record) × (y ≡ used q) × (isNode v p q ≡ true)
-unfolding countNode
-holder-is v p free f = absurd (f refl)
-holder-is v p (used q) f = go (isNode v p q) refl
-  where
-    go : (t : Bool) → isNode v p q ≡ t → (x : Record) × (used q ≡ used x) × (isNode v p x ≡ true)
-    go true e = (q, refl, e)
-    go false e = absurd (f (rw e))
-holder-is v p (spoiled y) f = absurd (f refl)
-
 -- a search for the node: none of the slots passed holds it
 abbrev NoHolder : ℕ → Place → Slot → Type 0
 NoHolder v p y = (q : Record) → y ≡ used q → isNode v p q ≡ false
@@ -89,41 +68,18 @@ passed-start s v p e m = each-from s (NoHolder v p) e m (omega arith) (λ j l. a
 pub passed-end : (s : Bytes) (v : ℕ) (p : Place) {n i : ℕ} → Passed s v p n i → n ≤ i → LowestIn (storeOf s .slots) v p Nothing
 passed-end s v p w h = find-none (storeOf s .slots) v p (λ j q l u. each-passed (NoHolder v p) w j (omega (arith, scan-many w)) q u)
 
--- at a place by value
-module _ {s : Bytes} (v : ℕ) (p : place.Place) {n i : ℕ} (w : Passed s v (placeOf p) n i) where
-  passed-by : i < n → byRecord 0 (countNode v (placeOf p)) (slotNo counted i s) ≡ 0 → Passed s v (placeOf p) n (i + 1)
-  passed-by h z = each-next (NoHolder v (placeOf p)) w h (no-holder v (placeOf p) (slotNo counted i s) z)
+-- by whether slot i holds the node
+module _ {s : Bytes} (v : ℕ) (p : Place) {n i : ℕ} (w : Passed s v p n i) (h : i < n) {t : Bool} (e : t ≡ nodeHere v p (slotNo counted i s)) where
+  pub passed-next : t ≡ false → Passed s v p n (i + 1)
+  passed-next f = each-next (NoHolder v p) w h (λ q u. ap (nodeHere v p) (sym u) ∙ sym e ∙ f)
 
-  pub passed-version : (bytes : All Byte s) → Proper p → (h : i < n) → {c : ℕ} → c ≡ versionIn (slotIn counted i s) → (c ≡ v → ⊥) → Passed s v (placeOf p) n (i + 1)
-  passed-version bytes proper h e f = passed-by h (sym (other-version (scan-slot w h) bytes v p proper (λ k. f (e ∙ k))))
-
-  module _ (h : i < n) {c : ℕ} (e : c ≡ versionIn (slotIn counted i s)) (k : c ≡ v) {t : Bool} (say : StandsSay s i p t) where
-    pub passed-next : t ≡ false → Passed s v (placeOf p) n (i + 1)
-    passed-next f = passed-by h (sym (say v (sym e ∙ k)) ∙ (let z : _≡_ {A = ℕ} (cond t 1 0) 0 = rw f in z))
-
-    pub passed-found : t ≡ true → LowestIn (storeOf s .slots) v (placeOf p) (At i)
-    passed-found f =
-        let one : _≡_ {A = ℕ} (cond t 1 0) 1 = rw f in
-        let x = holder-is v (placeOf p) (slotNo counted i s) (λ z. absurd (omega (arith, one, say v (sym e ∙ k), z))) in
-        let none-yet : (j : ℕ) (q : Record) → j < i → slotNo counted j s ≡ used q → isNode v (placeOf p) q ≡ false = λ j q l u. each-passed (NoHolder v (placeOf p)) w j l q u in (
-          scan-inside w h,
-          (x .0, record { at = x .1; found = find-lowest (storeOf s .slots) v (placeOf p) i (x .0) (x .1) (x .2) none-yet; lowest = none-yet }),
-        )
-
--- one slot, where its version is right
-module _ {s : Bytes} {i : ℕ} (h : Has counted s i) (bytes : All Byte s) (p : place.Place) (proper : Proper p) where
-  pub stands-count : (countIn (slotIn counted i s) ≡ p .count → ⊥) → StandsSay s i p false
-  stands-count f v e = other-count h bytes v p proper f
-
-  pub stands-bits : {x y : Bytes} → x ≡ slotIn counted i s → y ≡ bitsIn x → sameBytes y (p .bits) ≡ false → StandsSay s i p false
-  stands-bits a b f v e = other-bits h bytes v p proper a b f
-
-  pub stands-not : {x : Bytes} → x ≡ slotIn counted i s → isUsed (slotOf x) ≡ false → StandsSay s i p false
-  stands-not a f v e = no-record h bytes v p proper a f
-
-  pub stands : {x y : Bytes} → x ≡ slotIn counted i s → y ≡ bitsIn x → countIn (slotIn counted i s) ≡ p .count → sameBytes y (p .bits) ≡ true → isUsed (slotOf x) ≡ true →
-      StandsSay s i p true
-  stands a b c d u v e = held h bytes v p proper a b e c d u
+  pub passed-found : t ≡ true → LowestIn (storeOf s .slots) v p (At i)
+  passed-found f =
+      let x = its-record v p (slotNo counted i s) (sym e ∙ f) in
+      let none-yet : (j : ℕ) (q : Record) → j < i → slotNo counted j s ≡ used q → isNode v p q ≡ false = λ j q l u. each-passed (NoHolder v p) w j l q u in (
+        scan-inside w h,
+        (x .0, record { at = x .1; found = find-lowest (storeOf s .slots) v p i (x .0) (x .1) (x .2) none-yet; lowest = none-yet }),
+      )
 
 -- the record in a slot
 module _ (s : Bytes) (bytes : All Byte s) (i : ℕ) (has : Has counted s i) (r : Record) (e : slotNo counted i s ≡ used r) where

@@ -2,8 +2,8 @@
 -- this file. Assumes nothing.
 use Prim.Native.Nat.{ℕ, _<_}
 use mathlib.Core.Path.{_≡_}
-use mathlib.Core.Bool.{Bool, not, cond, _&&_}
-use mathlib.Core.Option.{Option, none}
+use mathlib.Core.Bool.{Bool, not, _&&_}
+use mathlib.Core.Option.{none}
 use mathlib.Core.List.{List}
 use lib.ListN.{length}
 use lib.Dec.{eqb}
@@ -12,22 +12,13 @@ use Rattle.terms.specs.Bits.{Bytes, Side, Place}
 use Rattle.terms.specs.Records.{Record, Slot, countOn}
 use Rattle.meaning.specs.Store.{find}
 use Rattle.meaning.specs.Local.{weighed}
-use Rattle.local.specs.Test.{byRecord}
 use Rattle.nodehash.specs.Node.{leafHash, innerHash}
-use Rattle.place.specs.declared.Place as place
-use Rattle.place.specs.Place.{placeOf}
-use Rattle.layout.specs.Slots.{versionIn, countsIn, kidOn}
-use Rattle.layout.specs.Stores.{slotIn, storeOf, slotNo, Has}
+use Rattle.layout.specs.Slots.{countsIn, kidOn}
+use Rattle.layout.specs.Stores.{slotIn, storeOf, Has}
 use Rattle.lookup.specs.declared.Found as found
 use Rattle.lookup.specs.declared.Found.the-variants.{At, Nothing}
-use Rattle.check_kin.specs.Kin.{countNode}
 use Rattle.rescue_rules.specs.Joining.{kidOf, linked}
 use Rattle.rescue_rules.specs.Entering.{LowestAt}
-
--- Where slot i has the version v, it holds the node at a place or it doesn't.
-abbrev pub StandsSay : Bytes → ℕ → place.Place → Bool → Type 0
-StandsSay s i p r = (v : ℕ) → versionIn (slotIn counted i s) ≡ v → cond r 1 0 ≡ byRecord 0 (countNode v (placeOf p))
-    (slotNo counted i s)
 
 -- What a search for a node found: its lowest slot, or nothing.
 abbrev pub LowestIn : List Slot → ℕ → Place → found.Found → Type 0

@@ -1,23 +1,19 @@
 // The records of a source of any contents, document 02, request 2026-08: the lowest slot of a node, the children that its record names, and
 // whether one of them is linked.
+use agree::holds_node;
 use check_counts::weight_at;
 use hash::hash_at;
 use hash::same_hash;
 use lookup::Found;
-use lookup::holds_record;
 use order_find::find_by;
 use place::Place;
-use place::same;
 use read_hash::record_hash;
-use slots::bits_of;
 use slots::child_hash;
 use slots::is_leaf;
 use store::child_count_at;
 use store::child_version_at;
-use store::count_at;
 use store::slot_count;
 use store::slot_of;
-use store::version_at;
 use terms::Form;
 ghost use mathlib.Core.Path.{_≡_};
 ghost use mathlib.Core.Bool.{true};
@@ -26,26 +22,7 @@ ghost use Rattle.place.specs.Place.{placeOf, Proper};
 ghost use Rattle.layout.specs.Headers.{sizeRight};
 ghost use Rattle.layout.specs.Stores.{storeOf, Has};
 ghost use Rattle.ordered.specs.Ordered.{Guide};
-ghost use Rattle.rescue_look.specs.Look.{StandsSay, LowestIn, Inside, KidSays, WeighsSay, tiedAt};
-
-// Whether slot i, where its version is right, holds the node at a place.
-fn stands_at(source: &[u8], i: usize, place: Place) -> bool
-    requires { ⌜ Has Form.Counted (now source) i × Proper place ⌝ }
-    ensures { λ r. ⌜ StandsSay (now (source .entry)) i place r ⌝ }
-{
-    if count_at(Form::Counted, source, i) as usize != place.count {
-        return false;
-    }
-    let bits = place.bits;
-    let s = slot_of(Form::Counted, source, i);
-    if !same(bits_of(s), &bits) {
-        return false;
-    }
-    if !holds_record(s) {
-        return false;
-    }
-    true
-}
+ghost use Rattle.rescue_look.specs.Look.{LowestIn, Inside, KidSays, WeighsSay, tiedAt};
 
 // The lowest slot that holds the node (version, place), by a scan; version 0 is no node.
 fn scanned(source: &[u8], version: u32, place: Place) -> Found
@@ -61,11 +38,7 @@ fn scanned(source: &[u8], version: u32, place: Place) -> Found
         if n <= i {
             break 'slots Found::Nothing;
         }
-        if version_at(Form::Counted, source, i) != version {
-            i += 1;
-            continue 'slots;
-        }
-        if stands_at(source, i, place) {
+        if holds_node(Form::Counted, source, i, version, place) {
             break 'slots Found::At(i);
         }
         i += 1;

@@ -10,6 +10,7 @@ use store::retired_at;
 use store::slot_count;
 use store::slot_of;
 use store::version_at;
+use store::wide;
 use terms::Form;
 ghost use mathlib.Core.Path.{_≡_};
 ghost use Prim.Native.Nat.{_≤_};
@@ -67,12 +68,6 @@ fn newest_root(source: &[u8], version: u32) -> Found
         best = Found::At(i);
         i += 1;
     }
-}
-
-fn wide(x: u16) -> usize
-    ensures { λ r. ⌜ r ≡ x ⌝ }
-{
-    x as usize
 }
 
 // The same by a table, where no root record is of the version itself: that of the entry before entry k, the lowest of its version. Where no entry is before, the scan.

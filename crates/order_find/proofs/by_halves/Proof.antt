@@ -83,7 +83,7 @@ compared-requires c κs =
     let start = start-from-bits2 c in
     let w = at-loop-from-bits2 c .loop .inv in
     let h : (at-loop-from-bits2 c .loop .lo + at-loop-from-bits2 c .loop .hi) / 2 < start .args .many = omega (arith, w .0 .within, in-loop-from-bits2 c .loop-test .taken) in
-    (subst (Has counted (start .args .store .now)) (sym (c .before .wide .ensures)) (entry-has (start .args .store .now) (start .pre .0) (start .pre .2) _ h), search needs)
+    (subst (Has counted (start .args .store .now)) (sym (c .before .wide .ensures .0)) (entry-has (start .args .store .now) (start .pre .0) (start .pre .2) _ h), search needs)
 
 enum-told : tie.Need-enum-told Inv-loop μ-loop
 enum-told c = search needs
@@ -106,7 +106,7 @@ loop-again c =
       subst (λ k. Between (storeOf (a .store .now) .slots) (a .table .now) (a .many) (headKey (a .place .count) (a .place .bits) (a .version)) k (at-loop-from-enum-told c .loop .hi)) (omega arith)
           (between-above (start .pre .2) (headKey (a .place .count) (a .place .bits) (a .version)) (w .0) (omega (arith, l)) (omega (arith, l))
           (looked-before (a .store .now) (start .pre .0) (start .pre .2) (all-of Byte (a .store .now) 0 (λ i _. omega (arith, shared-slice-known-from-wide (c .before .before .before .before) .shared-slice-known .given i))) (a .version) (a .place) (start .pre .3) _ h
-          (wide-from-compared (c .before .before) .wide .ensures) _ (c .before .before .compared .ensures) (c .enum-told .given .1))),
+          (wide-from-compared (c .before .before) .wide .ensures .0) _ (c .before .before .compared .ensures) (c .enum-told .given .1))),
       w .1,
     )
 
@@ -127,7 +127,7 @@ loop-again-2 c =
     let h : (at-loop .loop .lo + at-loop .loop .hi) / 2 < a .many = omega (arith, w .0 .within, l) in (
       between-below (start .pre .2) (headKey (a .place .count) (a .place .bits) (a .version)) (w .0) (omega (arith, l)) (omega (arith, l))
           (looked-after (a .store .now) (start .pre .0) (start .pre .2) (all-of Byte (a .store .now) 0 (λ i _. omega (arith, shared-slice-known-from-at-loop at-loop .shared-slice-known .given i))) (a .version) (a .place) (start .pre .3) _ h
-          (wide-from-compared after-compared .wide .ensures) _ (after-compared .compared .ensures) (c .enum-told2 .given .1)),
+          (wide-from-compared after-compared .wide .ensures .0) _ (after-compared .compared .ensures) (c .enum-told2 .given .1)),
       w .1,
     )
 
@@ -148,7 +148,7 @@ loop-again-3 c =
     let h : (at-loop .loop .lo + at-loop .loop .hi) / 2 < a .many = omega (arith, w .0 .within, l) in (
       between-below (start .pre .2) (headKey (a .place .count) (a .place .bits) (a .version)) (w .0) (omega (arith, l)) (omega (arith, l))
           (looked-same (a .store .now) (start .pre .0) (start .pre .2) (all-of Byte (a .store .now) 0 (λ i _. omega (arith, shared-slice-known-from-at-loop at-loop .shared-slice-known .given i))) (a .version) (a .place) (start .pre .3) _ h
-          (wide-from-compared after-compared .wide .ensures) _ (after-compared .compared .ensures) (c .enum-told3 .given .1)),
+          (wide-from-compared after-compared .wide .ensures .0) _ (after-compared .compared .ensures) (c .enum-told3 .given .1)),
       w .1,
     )
 

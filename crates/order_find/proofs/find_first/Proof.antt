@@ -43,7 +43,7 @@ compared-requires : tie.Need-compared-requires
 compared-requires c κs =
     let after-wide = c .before .before in
     let start = start-from-wide after-wide in (
-      subst (Has counted (start .args .store .now)) (sym (after-wide .wide .ensures))
+      subst (Has counted (start .args .store .now)) (sym (after-wide .wide .ensures .0))
           (entry-has (start .args .store .now) (start .pre .0) (start .pre .2) (start .args .k) (omega (arith, else1-from-wide after-wide .if1 .left))),
       search needs,
     )
@@ -64,7 +64,7 @@ returns-2 c =
     let start = start-from-wide after-wide in
     let a = start .args in
     none-before (a .store .now) (start .pre .0) (start .pre .2) (all-of Byte (a .store .now) 0 (λ i _. omega (arith, shared-slice-known-from-wide after-wide .shared-slice-known .given i))) (a .version) (a .place) (start .pre .3)
-    (a .k) (omega (arith, else1-from-wide after-wide .if1 .left)) (after-wide .wide .ensures) _ (after-compared .compared .ensures) (start .pre .4) (c .enum-told .given .1)
+    (a .k) (omega (arith, else1-from-wide after-wide .if1 .left)) (after-wide .wide .ensures .0) _ (after-compared .compared .ensures) (start .pre .4) (c .enum-told .given .1)
 
 returns-3 : tie.Need-returns-3
 returns-3 c =
@@ -73,7 +73,7 @@ returns-3 c =
     let start = start-from-wide after-wide in
     let a = start .args in
     none-after (a .store .now) (start .pre .0) (start .pre .2) (all-of Byte (a .store .now) 0 (λ i _. omega (arith, shared-slice-known-from-wide after-wide .shared-slice-known .given i))) (a .version) (a .place) (start .pre .3)
-    (a .k) (omega (arith, else1-from-wide after-wide .if1 .left)) (after-wide .wide .ensures) _ (after-compared .compared .ensures) (start .pre .4) (c .enum-told2 .given .1)
+    (a .k) (omega (arith, else1-from-wide after-wide .if1 .left)) (after-wide .wide .ensures .0) _ (after-compared .compared .ensures) (start .pre .4) (c .enum-told2 .given .1)
 
 returns-4 : tie.Need-returns-4
 returns-4 c =
@@ -82,7 +82,7 @@ returns-4 c =
     let start = start-from-wide after-wide in
     let a = start .args in
     found-here (a .store .now) (start .pre .0) (start .pre .2) (all-of Byte (a .store .now) 0 (λ i _. omega (arith, shared-slice-known-from-wide after-wide .shared-slice-known .given i))) (a .version) (a .place) (start .pre .3)
-    (a .k) (omega (arith, else1-from-wide after-wide .if1 .left)) (after-wide .wide .ensures) _ (after-compared .compared .ensures) (start .pre .4) (c .enum-told3 .given .1)
+    (a .k) (omega (arith, else1-from-wide after-wide .if1 .left)) (after-wide .wide .ensures .0) _ (after-compared .compared .ensures) (start .pre .4) (c .enum-told3 .given .1)
 
 pub find-first-spec : {M : Type 1} → statement M
 find-first-spec =

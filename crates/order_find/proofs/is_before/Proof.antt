@@ -26,7 +26,7 @@ compared-requires : tie.Need-compared-requires
 compared-requires c κs =
     let after-wide = c .before in
     let start = after-wide .before .before .before .before in
-    (subst (Has counted (start .args .store .now)) (sym (after-wide .wide .ensures)) (entry-has (start .args .store .now) (start .pre .0) (start .pre .2) (start .args .k) (start .pre .4)), search needs)
+    (subst (Has counted (start .args .store .now)) (sym (after-wide .wide .ensures .0)) (entry-has (start .args .store .now) (start .pre .0) (start .pre .2) (start .args .k) (start .pre .4)), search needs)
 
 enum-told : tie.Need-enum-told
 enum-told c = search needs
@@ -45,7 +45,7 @@ returns c =
     let start = after-shared-slice-known .before in
     let a = start .args in
     stands-before (a .store .now) (start .pre .0) (start .pre .2) (all-of Byte (a .store .now) 0 (λ i _. omega (arith, after-shared-slice-known .shared-slice-known .given i))) (a .version) (a .place) (start .pre .3)
-    (a .k) (start .pre .4) (after-wide .wide .ensures) _ (after-compared .compared .ensures) (c .enum-told .given .1)
+    (a .k) (start .pre .4) (after-wide .wide .ensures .0) _ (after-compared .compared .ensures) (c .enum-told .given .1)
 
 returns-2 : tie.Need-returns-2
 returns-2 c =
@@ -55,7 +55,7 @@ returns-2 c =
     let start = after-shared-slice-known .before in
     let a = start .args in
     stands-after (a .store .now) (start .pre .0) (start .pre .2) (all-of Byte (a .store .now) 0 (λ i _. omega (arith, after-shared-slice-known .shared-slice-known .given i))) (a .version) (a .place) (start .pre .3)
-    (a .k) (start .pre .4) (after-wide .wide .ensures) _ (after-compared .compared .ensures) (c .enum-told2 .given .1)
+    (a .k) (start .pre .4) (after-wide .wide .ensures .0) _ (after-compared .compared .ensures) (c .enum-told2 .given .1)
 
 returns-3 : tie.Need-returns-3
 returns-3 c =
@@ -65,7 +65,7 @@ returns-3 c =
     let start = after-shared-slice-known .before in
     let a = start .args in
     stands-same (a .store .now) (start .pre .0) (start .pre .2) (all-of Byte (a .store .now) 0 (λ i _. omega (arith, after-shared-slice-known .shared-slice-known .given i))) (a .version) (a .place) (start .pre .3)
-    (a .k) (start .pre .4) (after-wide .wide .ensures) _ (after-compared .compared .ensures) (c .enum-told3 .given .1)
+    (a .k) (start .pre .4) (after-wide .wide .ensures .0) _ (after-compared .compared .ensures) (c .enum-told3 .given .1)
 
 pub is-before-spec : {M : Type 1} → statement M
 is-before-spec =

@@ -25,7 +25,7 @@ version-at-requires : tie.Need-version-at-requires
 version-at-requires c κs =
     let else2 = c .before .before in
     let start = else2 .before .before .before .before in
-    slot-within (subst (Has counted (start .args .store .now)) (sym (c .wide .ensures)) (entry-has (start .args .store .now) (start .pre .0) (start .pre .2) 0 (omega (arith, else2 .if2 .left))))
+    slot-within (subst (Has counted (start .args .store .now)) (sym (c .wide .ensures .0)) (entry-has (start .args .store .now) (start .pre .0) (start .pre .2) 0 (omega (arith, else2 .if2 .left))))
 
 returns-3 : tie.Need-returns-3
 returns-3 c = search needs

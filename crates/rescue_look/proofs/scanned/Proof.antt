@@ -4,9 +4,8 @@ use native.Mathlib.Omega.{arith}
 use Rattle.terms.specs.Bits.{Byte}
 use Rattle.terms.proofs.Lists.{all-of}
 use Rattle.place.specs.Place.{placeOf}
-use Rattle.store.proofs.Slots.{slot-within}
 use Rattle.store.proofs.Scans.{scan-slot}
-use Rattle.rescue_look.proofs.Looking.{Passed, passed-start, passed-version, passed-next, passed-found, passed-end, no-version}
+use Rattle.rescue_look.proofs.Looking.{Passed, passed-start, passed-next, passed-found, passed-end, no-version}
 use Rattle.rescue_look.proofs.scanned.Statement.{statement}
 use Rattle.rescue_look.proofs.scanned.Tie as tie
 
@@ -40,47 +39,23 @@ slots-holds c =
     let start = start-from-else1 (c .before) in
     passed-start (start .args .source .now) (start .args .version) (placeOf (start .args .place)) (start .pre .0) (c .slot-count .ensures)
 
-version-at-requires : tie.Need-version-at-requires Inv-slots μ-slots
-version-at-requires c κs = slot-within (scan-slot (c .before .slots .inv) (c .if2 .left))
+holds-node-requires : tie.Need-holds-node-requires Inv-slots μ-slots
+holds-node-requires c κs = (scan-slot (c .before .slots .inv) (c .if2 .left), start-from-else2 c .pre .1)
 
 add-i : tie.Need-add-i Inv-slots μ-slots
 add-i c =
-    let d = c .before .before in
-    omega (arith, d .before .slots .inv .small, d .if2 .left)
+    let else2 = c .before .before in
+    omega (arith, else2 .before .slots .inv .small, else2 .if2 .left)
 
 slots-less : tie.Need-slots-less Inv-slots μ-slots
 slots-less c = omega (arith, c .before .before .if2 .left)
 
 slots-again : tie.Need-slots-again Inv-slots μ-slots
 slots-again c =
-    let after-version-at = c .before in
-    let else2 = after-version-at .before in
-    let at-slots = else2 .before in
-    let start = start-from-at-slots at-slots in
-    passed-version (start .args .version) (start .args .place) (at-slots .slots .inv) (all-of Byte (start .args .source .now) 0 (λ i _. omega (arith, at-slots .before .before .before .shared-slice-known .given i))) (start .pre .1) (else2 .if2 .left)
-    (after-version-at .version-at .ensures) (c .if3 .taken)
-
-stands-at-requires : tie.Need-stands-at-requires Inv-slots μ-slots
-stands-at-requires c κs =
-    let else2 = c .before .before in
-    (scan-slot (else2 .before .slots .inv) (else2 .if2 .left), start-from-else2 else2 .pre .1)
-
-add-i-2 : tie.Need-add-i-2 Inv-slots μ-slots
-add-i-2 c =
-    let d = c .before .before .before .before in
-    omega (arith, d .before .slots .inv .small, d .if2 .left)
-
-slots-less-2 : tie.Need-slots-less-2 Inv-slots μ-slots
-slots-less-2 c = omega (arith, c .before .before .before .before .if2 .left)
-
-slots-again-2 : tie.Need-slots-again-2 Inv-slots μ-slots
-slots-again-2 c =
-    let after-stands-at = c .before in
-    let else3 = after-stands-at .before in
-    let after-version-at = else3 .before in
-    let else2 = after-version-at .before in
+    let after-holds-node = c .before in
+    let else2 = after-holds-node .before in
     let a = start-from-else2 else2 .args in
-    passed-next (a .version) (a .place) (else2 .before .slots .inv) (else2 .if2 .left) (after-version-at .version-at .ensures) (else3 .if3 .left) (after-stands-at .stands-at .ensures) (c .if4 .left)
+    passed-next (a .version) (placeOf (a .place)) (else2 .before .slots .inv) (else2 .if2 .left) (after-holds-node .holds-node .ensures) (c .if3 .left)
 
 returns-2 : tie.Need-returns-2 Inv-slots μ-slots
 returns-2 c = let a = start-from-at-slots (c .before) .args in
@@ -88,15 +63,11 @@ returns-2 c = let a = start-from-at-slots (c .before) .args in
 
 returns-3 : tie.Need-returns-3 Inv-slots μ-slots
 returns-3 c =
-    let after-stands-at = c .before in
-    let else3 = after-stands-at .before in
-    let after-version-at = else3 .before in
-    let else2 = after-version-at .before in
+    let after-holds-node = c .before in
+    let else2 = after-holds-node .before in
     let a = start-from-else2 else2 .args in
-    passed-found (a .version) (a .place) (else2 .before .slots .inv) (else2 .if2 .left) (after-version-at .version-at .ensures) (else3 .if3 .left) (after-stands-at .stands-at .ensures) (c .if4 .taken)
+    passed-found (a .version) (placeOf (a .place)) (else2 .before .slots .inv) (else2 .if2 .left) (after-holds-node .holds-node .ensures) (c .if3 .taken)
 
 pub scanned-spec : {M : Type 1} → statement M
 scanned-spec =
-    tie.close
-    (tie.spec Inv-slots μ-slots returns slot-count-requires slots-holds version-at-requires add-i slots-less slots-again stands-at-requires add-i-2 slots-less-2
-    slots-again-2 returns-2 returns-3)
+    tie.close (tie.spec Inv-slots μ-slots returns slot-count-requires slots-holds holds-node-requires add-i slots-less slots-again returns-2 returns-3)

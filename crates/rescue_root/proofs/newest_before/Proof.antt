@@ -34,7 +34,7 @@ version-at-requires : tie.Need-version-at-requires
 version-at-requires c κs =
     let else1 = c .before .before in
     let start = else1 .before .before in
-    slot-within (before-has (start .args .source .now) (start .pre .0) (start .pre .2) (start .pre .3 .within) (omega (arith, else1 .if1 .left)) (c .wide .ensures))
+    slot-within (before-has (start .args .source .now) (start .pre .0) (start .pre .2) (start .pre .3 .within) (omega (arith, else1 .if1 .left)) (c .wide .ensures .0))
 
 top-requires : tie.Need-top-requires
 top-requires c κs = search needs
@@ -58,7 +58,7 @@ returns-2 c =
     let else1 = after-wide .before .before in
     let start = else1 .before .before in
     let s = start .args .source .now in
-    located-before s (start .pre .0) (start .pre .2) (start .pre .3 .within) (omega (arith, else1 .if1 .left)) (after-wide .wide .ensures)
+    located-before s (start .pre .0) (start .pre .2) (start .pre .3 .within) (omega (arith, else1 .if1 .left)) (after-wide .wide .ensures .0)
     (all-of Byte s 0 (λ i _. omega (arith, else1 .before .shared-slice-known .given i))) (start .args .version) (c .find-first .result) (after-top .top .ensures .place) (start .pre .3) (start .pre .4)
     (after-version-at .version-at .ensures) (c .find-first .ensures .0)
 
