@@ -97,7 +97,7 @@ Unsound stops = stops strayLeaf ⊎ ((i : ℕ) × stops (spoiltRecord i))
 abbrev pub BatchOffForm : Bytes → Type 0
 BatchOffForm batch = Asks batch none
 
--- 5: keys not strictly ascending.
+-- 5: keys not strictly ascending, of a batch in form: 4 is tested before it.
 abbrev pub NotAscending : Bytes → Type 0
 NotAscending batch = (as′ : List Ask) × AskedBy batch as′ × (ascending as′ ≡ false)
 
