@@ -3,7 +3,7 @@
 use changes_guess::find_near;
 use changes_guess::guess_of;
 use lookup::Found;
-use lookup::find_root;
+use lookup_root::find_root;
 use place::Place;
 use place::key_bit;
 use slots::is_leaf;

@@ -5,7 +5,7 @@ use forged_message::collides;
 use forged_message::hash_word;
 use forged_message::hashes_to_zero;
 use hash::hash_at;
-use lookup::covers;
+use lifetime::covers;
 use lookup::holds_record;
 use slots::child_hash;
 use slots::is_leaf;

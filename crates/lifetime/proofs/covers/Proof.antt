@@ -1,7 +1,7 @@
--- `lookup::covers` meets its contract, by its two tests. Assumes nothing.
-use Rattle.lookup.proofs.Rooting.{before-it, never-ends, until-it-ends}
-use Rattle.lookup.proofs.covers.Statement.{statement}
-use Rattle.lookup.proofs.covers.Tie as tie
+-- `lifetime::covers` meets its contract, by its two tests. Assumes nothing.
+use Rattle.lifetime.proofs.Lifetimes.{before-it, never-ends, until-it-ends}
+use Rattle.lifetime.proofs.covers.Statement.{statement}
+use Rattle.lifetime.proofs.covers.Tie as tie
 
 returns : tie.Need-returns
 returns c = before-it _ _ _ (c .if1 .taken)

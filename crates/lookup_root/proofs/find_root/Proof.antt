@@ -1,11 +1,11 @@
--- `lookup::find_root` meets its contract: no slot passed holds a root that lives at the version. Assumes nothing.
+-- `lookup_root::find_root` meets its contract: no slot passed holds a root that lives at the version. Assumes nothing.
 use Prim.Native.Nat.{_-_}
 use native.Mathlib.Omega.{arith}
 use mathlib.Core.Path.{sym, _∙_}
 use Rattle.store.proofs.Scans.{Scan, scan-slot}
-use Rattle.lookup.proofs.Rooting.{Ahead, root-start, root-next, root-found, root-nowhere}
-use Rattle.lookup.proofs.find_root.Statement.{statement}
-use Rattle.lookup.proofs.find_root.Tie as tie
+use Rattle.lookup_root.proofs.Rooting.{Ahead, root-start, root-next, root-found, root-nowhere}
+use Rattle.lookup_root.proofs.find_root.Statement.{statement}
+use Rattle.lookup_root.proofs.find_root.Tie as tie
 
 abbrev Inv-loop : tie.InvT-loop
 Inv-loop form store version n j₀ j = Scan form store (Ahead form store version) n j

@@ -1,4 +1,4 @@
--- `lookup::root_here` meets its contract: a record below the root and one that lives elsewhen are none, and else its form decides. Assumes
+-- `lookup_root::root_here` meets its contract: a record below the root and one that lives elsewhen are none, and else its form decides. Assumes
 -- nothing.
 use native.Mathlib.Omega.{arith}
 use mathlib.Core.Path.{ap, ap₂, sym, _∙_}
@@ -8,10 +8,11 @@ use Rattle.terms.specs.Bits.{Byte}
 use Rattle.terms.proofs.Lists.{all-of}
 use Rattle.layout.specs.Slots.{slotOf}
 use Rattle.store.proofs.Slots.{slot-within}
-use Rattle.lookup.specs.Lookup.{isUsed, covers}
-use Rattle.lookup.proofs.Rooting.{deep, elsewhen, at-top}
-use Rattle.lookup.proofs.root_here.Statement.{statement}
-use Rattle.lookup.proofs.root_here.Tie as tie
+use Rattle.lifetime.specs.Lifetime.{covers}
+use Rattle.lookup.specs.Lookup.{isUsed}
+use Rattle.lookup_root.proofs.Rooting.{deep, elsewhen, at-top}
+use Rattle.lookup_root.proofs.root_here.Statement.{statement}
+use Rattle.lookup_root.proofs.root_here.Tie as tie
 
 -- `A-from-B` is the state A as the later state B has it.
 abbrev start-from-count-at : tie.After-count-at → tie.Start

@@ -1,15 +1,12 @@
 -- Whether a slot holds a root record that lives at a version, from its bytes, and the search for the lowest. Assumes nothing.
 use Prim.Native.Nat.{ℕ, _+_, _<_, _≤_}
-use native.Mathlib.Omega.{arith}
 use mathlib.Core.Path.{_≡_, refl, ap, ap₂, sym, _∙_}
-use mathlib.Core.Bool.{Bool, true, false, _&&_, not, false≢true}
+use mathlib.Core.Bool.{Bool, true, false, _&&_, false≢true}
 use mathlib.Core.List.{List, [], _∷_}
 use mathlib.Core.Option.{some}
 use lib.ListN.{length, drop}
-use lib.Dec.{leb, ltb}
-use borrow.Author.Tests.{leb-true, leb-false, le-leb, lt-leb, lt-ltb, le-ltb}
 use Rattle.terms.specs.declared.Form.{Form}
-use Rattle.terms.specs.Bits.{Bytes, Byte, All, Place, samePlace}
+use Rattle.terms.specs.Bits.{Bytes, Byte, All, samePlace}
 use Rattle.terms.specs.Records.{Record, Slot, free, used, spoiled}
 use Rattle.terms.proofs.Tests.{is-false, and-true}
 use Rattle.meaning.specs.Store.{retiredBy, isRoot, rootOf, lowest}
@@ -20,39 +17,16 @@ use Rattle.layout.specs.Slots.{slotOf, countIn, versionIn, sinceIn}
 use Rattle.layout.specs.Stores.{slotIn, slotNo, storeIn, Has}
 use Rattle.store.proofs.Slots.{slot-long, slot-bytes, slot-within, slot-is}
 use Rattle.store.proofs.Scans.{Scan, scan-start, scan-inside, scan-here, scan-next, scan-end}
-use Rattle.lookup.specs.Lookup.{isUsed, covers, rootHere, RootIn}
+use Rattle.lifetime.specs.Lifetime.{covers}
 use Rattle.lookup.specs.declared.Found.the-variants.{At, Nothing}
-use Rattle.lookup.proofs.Matching.{version-is, retired-is, count-is}
-
--- a lifetime, by its ends
-pub before-it : (a s v : ℕ) → v < a → false ≡ covers a s v
-unfolding covers
-before-it a s v h = rw (lt-leb a v h)
-
-pub never-ends : (a s v : ℕ) → a ≤ v → s ≡ 0 → true ≡ covers a s v
-unfolding covers
-never-ends a s v h z = rw (le-leb a v h, z)
-
-pub until-it-ends : (a s v : ℕ) → a ≤ v → (s ≡ 0 → ⊥) → ltb v s ≡ covers a s v
-unfolding covers
-until-it-ends a s v h z = rw (le-leb a v h, le-leb 1 s (omega arith)) (go (leb s v) refl)
-  where
-    go : (c : Bool) → leb s v ≡ c → ltb v s ≡ not c
-    go true e = le-ltb v s (leb-true s v e)
-    go false e = lt-ltb v s (leb-false s v e)
+use Rattle.lookup.specs.Lookup.{isUsed}
+use Rattle.lookup.proofs.Matching.{version-is, retired-is, count-is, no-bits, and-false}
+use Rattle.lookup_root.specs.Roots.{rootHere, RootIn}
 
 -- a root record by the parts of its test
 root-parts : (v : ℕ) (r : Record) → isRoot v r ≡ (samePlace (r .place) [] && covers (r .version) (r .retired) v)
 unfolding isRoot retiredBy covers
 root-parts v r = refl
-
-pub and-false : (c : Bool) → (c && false) ≡ false
-and-false true = refl
-and-false false = refl
-
-pub no-bits : (p : Place) → length p ≡ 0 → p ≡ []
-no-bits [] e = refl
-no-bits (b ∷ p) e = absurd (omega arith)
 
 -- a slot of which the test of a root record is known wherever it holds a record
 by-slot : (v : ℕ) (c : Bool) (y : Slot) → ((r : Record) → y ≡ used r → isRoot v r ≡ c) → (isUsed y && c) ≡ rootHere v y
