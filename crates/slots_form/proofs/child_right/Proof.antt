@@ -1,4 +1,4 @@
--- `slots::child_right` meets its contract: a child that is present passes, and else its hash decides. Assumes nothing.
+-- `slots_form::child_right` meets its contract: a child that is present passes, and else its hash decides. Assumes nothing.
 use Prim.Native.Nat.{_+_}
 use mathlib.Core.Path.{ap, _∙_}
 use native.Mathlib.Omega.{arith}
@@ -8,8 +8,8 @@ use borrow.Author.Tests.{le-leb, lt-leb}
 use Rattle.terms.specs.Fields.{field, slice, allZero}
 use Rattle.layout.specs.Slots.{childIn, childRight}
 use borrow.Author.Needs.{needs}
-use Rattle.slots.proofs.child_right.Statement.{statement}
-use Rattle.slots.proofs.child_right.Tie as tie
+use Rattle.slots_form.proofs.child_right.Statement.{statement}
+use Rattle.slots_form.proofs.child_right.Tie as tie
 
 get-u32-requires : tie.Need-get-u32-requires
 get-u32-requires c κs = search needs

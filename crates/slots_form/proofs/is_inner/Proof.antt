@@ -1,4 +1,4 @@
--- `slots::is_inner` meets its contract: after each test that passed, the tests that are left decide. Assumes nothing.
+-- `slots_form::is_inner` meets its contract: after each test that passed, the tests that are left decide. Assumes nothing.
 use mathlib.Core.Path.{_≡_, ap, sym, _∙_}
 use mathlib.Core.Bool.{_||_}
 use native.Mathlib.Omega.{arith}
@@ -10,8 +10,8 @@ use Rattle.terms.specs.Fields.{field, allOf}
 use Rattle.terms.proofs.Fields.{test-passed, test-failed, test-last}
 use Rattle.layout.specs.Slots.{childIn, innerIn, headTests, headRight, someChild, innerTests, isInner}
 use borrow.Author.Needs.{needs}
-use Rattle.slots.proofs.is_inner.Statement.{statement}
-use Rattle.slots.proofs.is_inner.Tie as tie
+use Rattle.slots_form.proofs.is_inner.Statement.{statement}
+use Rattle.slots_form.proofs.is_inner.Tie as tie
 
 inner-kind-requires : tie.Need-inner-kind-requires
 inner-kind-requires c κs = search needs

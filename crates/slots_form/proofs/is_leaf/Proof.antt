@@ -1,12 +1,12 @@
--- `slots::is_leaf` meets its contract: the tests of a leaf in their order. Assumes nothing.
+-- `slots_form::is_leaf` meets its contract: the tests of a leaf in their order. Assumes nothing.
 use mathlib.Core.Path.{sym, _∙_}
 use borrow.Author.Tests.{not-true, not-false}
 use Rattle.terms.specs.Fields.{slice}
 use Rattle.terms.proofs.Fields.{test-passed, test-failed, test-last}
 use Rattle.layout.specs.Slots.{leafIn, headRight, isLeaf}
 use borrow.Author.Needs.{needs}
-use Rattle.slots.proofs.is_leaf.Statement.{statement}
-use Rattle.slots.proofs.is_leaf.Tie as tie
+use Rattle.slots_form.proofs.is_leaf.Statement.{statement}
+use Rattle.slots_form.proofs.is_leaf.Tie as tie
 
 head-right-requires : tie.Need-head-right-requires
 head-right-requires c κs = search needs

@@ -1,8 +1,8 @@
--- `slots::inner_kind` meets its contract: by the size. Assumes nothing.
+-- `slots_form::inner_kind` meets its contract: by the size. Assumes nothing.
 use borrow.Author.Tests.{eq-eqb, ne-eqb}
 use borrow.Author.Needs.{needs}
-use Rattle.slots.proofs.inner_kind.Statement.{statement}
-use Rattle.slots.proofs.inner_kind.Tie as tie
+use Rattle.slots_form.proofs.inner_kind.Statement.{statement}
+use Rattle.slots_form.proofs.inner_kind.Tie as tie
 
 returns : tie.Need-returns
 returns c = rw (eq-eqb _ _ (c .if1 .taken))

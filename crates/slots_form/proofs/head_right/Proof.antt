@@ -1,4 +1,4 @@
--- `slots::head_right` meets its contract: after each test that passed, the tests that are left decide. Assumes nothing.
+-- `slots_form::head_right` meets its contract: after each test that passed, the tests that are left decide. Assumes nothing.
 use mathlib.Core.Path.{_≡_, ap, sym, _∙_}
 use mathlib.Core.Bool.{Bool}
 use mathlib.Core.List.{List}
@@ -11,8 +11,8 @@ use Rattle.terms.specs.Fields.{field, slice, allOf}
 use Rattle.terms.proofs.Fields.{test-passed, test-failed, test-last}
 use Rattle.layout.specs.Slots.{countIn, headTests}
 use borrow.Author.Needs.{needs}
-use Rattle.slots.proofs.head_right.Statement.{statement}
-use Rattle.slots.proofs.head_right.Tie as tie
+use Rattle.slots_form.proofs.head_right.Statement.{statement}
+use Rattle.slots_form.proofs.head_right.Tie as tie
 
 get-u32-requires : tie.Need-get-u32-requires
 get-u32-requires c κs = search needs
