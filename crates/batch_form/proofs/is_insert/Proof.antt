@@ -1,12 +1,12 @@
--- `batch::is_insert` meets its contract: the head of a record in form tells.
+-- `batch_form::is_insert` meets its contract: the head of a record in form tells.
 -- Assumes nothing.
 use mathlib.Core.Path.{sym, ap, _∙_}
 use Rattle.batch.specs.Batch.{isInsert}
 use Rattle.batch.specs.Records.{recordAt, askAt}
 use Rattle.batch.proofs.Asks.{insert-is}
 use borrow.Author.Needs.{needs}
-use Rattle.batch.proofs.is_insert.Statement.{statement}
-use Rattle.batch.proofs.is_insert.Tie as tie
+use Rattle.batch_form.proofs.is_insert.Statement.{statement}
+use Rattle.batch_form.proofs.is_insert.Tie as tie
 
 record-at-requires : tie.Need-record-at-requires
 record-at-requires c κs = search needs

@@ -1,4 +1,4 @@
--- `batch::batch_order` meets its contract: the keys up to record i are in order, so the keys from i on decide. The measure is the number of
+-- `batch_runs::batch_order` meets its contract: the keys up to record i are in order, so the keys from i on decide. The measure is the number of
 -- records left. Assumes nothing.
 use Prim.Native.Nat.{_-_, _≤_}
 use native.Mathlib.Omega.{arith}
@@ -7,10 +7,10 @@ use lib.ListN.{drop}
 use borrow.Author.Tests.{not-true, not-false}
 use Rattle.terms.specs.Bits.{before}
 use Rattle.meaning.specs.Calls.{ascending}
 use Rattle.batch.specs.Batch.{asks}
 use Rattle.batch.proofs.Batches.{order-next, order-off, order-end}
-use Rattle.batch.proofs.batch_order.Statement.{statement}
-use Rattle.batch.proofs.batch_order.Tie as tie
+use Rattle.batch_runs.proofs.batch_order.Statement.{statement}
+use Rattle.batch_runs.proofs.batch_order.Tie as tie
 
 abbrev Inv-loop : tie.InvT-loop
 Inv-loop b n i₀ i = (i ≤ n) × (ascending (asks b) ≡ ascending (drop i (asks b)))

@@ -1,14 +1,14 @@
--- `batch::cut` meets its contract: the records before `low` go left and those from `high` on go right. The measure is what lies between.
+-- `batch_runs::cut` meets its contract: the records before `low` go left and those from `high` on go right. The measure is what lies between.
 -- Assumes nothing.
 use Prim.Native.Nat.{_+_, _-_, _/_, _≤_}
 use native.Mathlib.Omega.{arith}
 use mathlib.Core.Path.{sym, ap, _∙_}
 use Rattle.terms.specs.Bits.{bit}
 use Rattle.batch.specs.Batch.{count}
 use Rattle.batch.specs.Runs.{lefts}
 use Rattle.batch.proofs.Runs.{lefts-within, cut-right, cut-left}
-use Rattle.batch.proofs.cut.Statement.{statement}
-use Rattle.batch.proofs.cut.Tie as tie
+use Rattle.batch_runs.proofs.cut.Statement.{statement}
+use Rattle.batch_runs.proofs.cut.Tie as tie
 
 abbrev Inv-loop : tie.InvT-loop
 Inv-loop run i low₀ high₀ low high = (low ≤ lefts i run) × (lefts i run ≤ high) × (high ≤ count run)

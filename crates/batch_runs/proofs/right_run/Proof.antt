@@ -1,14 +1,14 @@
--- `batch::right_run` meets its contract: the records that go right are the rest of the run.
+-- `batch_runs::right_run` meets its contract: the records that go right are the rest of the run.
 -- Assumes nothing.
 use Prim.Native.Nat.{ℕ, _*_, _-_}
 use native.Mathlib.Omega.{arith}
 use mathlib.Core.Path.{ap, _∙_}
 use lib.ListN.{length, drop, length-drop}
 use lib.Seq.{take-all}
 use Rattle.batch.specs.Runs.{runOf}
 use borrow.Author.Needs.{needs}
-use Rattle.batch.proofs.right_run.Statement.{statement}
-use Rattle.batch.proofs.right_run.Tie as tie
+use Rattle.batch_runs.proofs.right_run.Statement.{statement}
+use Rattle.batch_runs.proofs.right_run.Tie as tie
 
 cut-requires : tie.Need-cut-requires
 cut-requires c κs = search needs

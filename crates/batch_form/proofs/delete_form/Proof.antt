@@ -1,12 +1,12 @@
--- `batch::delete_form` meets its contract: the head of a delete, and a zero value.
+-- `batch_form::delete_form` meets its contract: the head of a delete, and a zero value.
 -- Assumes nothing.
 use mathlib.Core.Path.{sym, _∙_}
 use borrow.Author.Tests.{not-true, not-false}
 use Rattle.terms.specs.Fields.{slice}
 use Rattle.batch.specs.Batch.{isDelete}
 use borrow.Author.Needs.{needs}
-use Rattle.batch.proofs.delete_form.Statement.{statement}
-use Rattle.batch.proofs.delete_form.Tie as tie
+use Rattle.batch_form.proofs.delete_form.Statement.{statement}
+use Rattle.batch_form.proofs.delete_form.Tie as tie
 
 head-is-requires : tie.Need-head-is-requires
 head-is-requires c κs = search needs

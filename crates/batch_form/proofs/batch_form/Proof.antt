@@ -1,14 +1,14 @@
--- `batch::batch_form` meets its contract: the first i records are in form, so those from i on decide. The measure is the number of records left.
+-- `batch_form::batch_form` meets its contract: the first i records are in form, so those from i on decide. The measure is the number of records left.
 -- Assumes nothing.
 use Prim.Native.Nat.{_-_, _≤_}
 use native.Mathlib.Omega.{arith}
 use mathlib.Core.Path.{_≡_, sym, ap, _∙_}
 use lib.ListN.{drop}
 use borrow.Author.Tests.{not-true, not-false}
 use Rattle.batch.specs.Batch.{askForm, recordsOf, every, batchForm}
 use Rattle.batch.proofs.Batches.{form-torn, form-many, form-records, form-next, form-off, form-end}
-use Rattle.batch.proofs.batch_form.Statement.{statement}
-use Rattle.batch.proofs.batch_form.Tie as tie
+use Rattle.batch_form.proofs.batch_form.Statement.{statement}
+use Rattle.batch_form.proofs.batch_form.Tie as tie
 
 abbrev Inv-loop : tie.InvT-loop
 Inv-loop b n i₀ i = (i ≤ n) × (batchForm b ≡ every askForm (drop i (recordsOf b)))

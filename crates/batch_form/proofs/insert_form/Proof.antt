@@ -1,9 +1,9 @@
--- `batch::insert_form` meets its contract: the head of an insert.
+-- `batch_form::insert_form` meets its contract: the head of an insert.
 -- Assumes nothing.
 use Rattle.batch.specs.Batch.{isInsert}
 use borrow.Author.Needs.{needs}
-use Rattle.batch.proofs.insert_form.Statement.{statement}
-use Rattle.batch.proofs.insert_form.Tie as tie
+use Rattle.batch_form.proofs.insert_form.Statement.{statement}
+use Rattle.batch_form.proofs.insert_form.Tie as tie
 
 head-is-requires : tie.Need-head-is-requires
 head-is-requires c κs = search needs

@@ -1,12 +1,12 @@
--- `batch::head_is` meets its contract: its three tests are those of the head.
+-- `batch_form::head_is` meets its contract: its three tests are those of the head.
 -- Assumes nothing.
 use Prim.Native.Nat.{ℕ}
 use mathlib.Core.Path.{sym, ap, _∙_}
 use lib.Dec.{eqb}
 use Rattle.batch.proofs.Asks.{head-length-off, head-kind-off, head-zero}
 use borrow.Author.Needs.{needs}
-use Rattle.batch.proofs.head_is.Statement.{statement}
-use Rattle.batch.proofs.head_is.Tie as tie
+use Rattle.batch_form.proofs.head_is.Statement.{statement}
+use Rattle.batch_form.proofs.head_is.Tie as tie
 
 get-u32-requires : tie.Need-get-u32-requires
 get-u32-requires c κs = search needs

@@ -1,10 +1,10 @@
--- `batch::record_form` meets its contract: an insert or a delete in form.
+-- `batch_form::record_form` meets its contract: an insert or a delete in form.
 -- Assumes nothing.
 use mathlib.Core.Path.{sym, _∙_}
 use Rattle.batch.specs.Batch.{askForm}
 use borrow.Author.Needs.{needs}
-use Rattle.batch.proofs.record_form.Statement.{statement}
-use Rattle.batch.proofs.record_form.Tie as tie
+use Rattle.batch_form.proofs.record_form.Statement.{statement}
+use Rattle.batch_form.proofs.record_form.Tie as tie
 
 insert-form-requires : tie.Need-insert-form-requires
 insert-form-requires c κs = search needs

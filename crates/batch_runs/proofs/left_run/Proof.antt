@@ -1,11 +1,11 @@
--- `batch::left_run` meets its contract: the records that go left are the front of the run.
+-- `batch_runs::left_run` meets its contract: the records that go left are the front of the run.
 -- Assumes nothing.
 use Prim.Native.Nat.{_*_}
 use native.Mathlib.Nat.{sub-zero}
 use Rattle.batch.specs.Runs.{runOf}
 use borrow.Author.Needs.{needs}
-use Rattle.batch.proofs.left_run.Statement.{statement}
-use Rattle.batch.proofs.left_run.Tie as tie
+use Rattle.batch_runs.proofs.left_run.Statement.{statement}
+use Rattle.batch_runs.proofs.left_run.Tie as tie
 
 cut-requires : tie.Need-cut-requires
 cut-requires c κs = search needs
