@@ -1,4 +1,4 @@
--- `layout::read_header` meets its contract: size and fields are tested in the order of the refusals. Assumes nothing.
+-- `header::read_header` meets its contract: size and fields are tested in the order of the refusals. Assumes nothing.
 use Prim.Native.Nat.{_≤_}
 use mathlib.Core.Path.{_≡_, sym, _∙_}
 use mathlib.Core.Bool.{true}
@@ -7,12 +7,12 @@ use lib.ListN.{length}
 use borrow.Author.Tests.{not-true, not-false}
 use Rattle.terms.specs.Bits.{Bytes}
 use Rattle.terms.specs.declared.Form.{Form}
 use Rattle.layout.specs.Headers.{sizeRight, headerOf}
-use Rattle.layout.specs.Answer.{headerSays}
+use Rattle.header.specs.Answer.{headerSays}
 use Rattle.layout.proofs.Headers.{size-least}
 use borrow.Author.Needs.{needs}
-use Rattle.layout.proofs.read_header.Statement.{statement}
-use Rattle.layout.proofs.read_header.Tie as tie
+use Rattle.header.proofs.read_header.Statement.{statement}
+use Rattle.header.proofs.read_header.Tie as tie
 
 size-right-requires : tie.Need-size-right-requires
 size-right-requires c κs = search needs

@@ -1,8 +1,8 @@
--- `layout::put_header` meets its contract: its fields, written one after the other, are the header's bytes. Assumes nothing.
+-- `header::put_header` meets its contract: its fields, written one after the other, are the header's bytes. Assumes nothing.
 use Rattle.layout.proofs.Headers.{header-put}
 use borrow.Author.Needs.{needs}
-use Rattle.layout.proofs.put_header.Statement.{statement}
-use Rattle.layout.proofs.put_header.Tie as tie
+use Rattle.header.proofs.put_header.Statement.{statement}
+use Rattle.header.proofs.put_header.Tie as tie
 
 header-kind-requires : tie.Need-header-kind-requires
 header-kind-requires c κs = search needs

@@ -1,4 +1,4 @@
--- `layout::header_right` meets its contract: after each test that passed, the tests that are left decide. Assumes nothing.
+-- `header_form::header_right` meets its contract: after each test that passed, the tests that are left decide. Assumes nothing.
 use mathlib.Core.Path.{_≡_, sym, _∙_}
 use native.Mathlib.Omega.{arith}
 use Prim.Native.Nat.{_-_, _/_}
@@ -8,12 +8,12 @@ use Rattle.terms.specs.Bits.{Bytes}
 use Rattle.terms.specs.Fields.{field, slice, allOf}
 use Rattle.terms.proofs.Fields.{test-passed, test-failed, test-last}
 use Rattle.terms.specs.declared.Form.{Form}
 use Rattle.layout.specs.Sizes.{headerKind, roomOf}
 use Rattle.layout.specs.Headers.{headerTests, headerRight}
 use Rattle.layout.proofs.Headers.{room-by}
 use borrow.Author.Needs.{needs}
-use Rattle.layout.proofs.header_right.Statement.{statement}
-use Rattle.layout.proofs.header_right.Tie as tie
+use Rattle.header_form.proofs.header_right.Statement.{statement}
+use Rattle.header_form.proofs.header_right.Tie as tie
 
 header-kind-requires : tie.Need-header-kind-requires
 header-kind-requires c κs = search needs

@@ -1,10 +1,10 @@
--- `layout::size_right` meets its contract: between the least and the greatest size only the rest by a slot's size is left to test. Assumes
+-- `header_form::size_right` meets its contract: between the least and the greatest size only the rest by a slot's size is left to test. Assumes
 -- nothing.
 use native.Mathlib.Omega.{arith}
 use Rattle.layout.proofs.Headers.{size-low, size-high, size-whole}
 use borrow.Author.Needs.{needs}
-use Rattle.layout.proofs.size_right.Statement.{statement}
-use Rattle.layout.proofs.size_right.Tie as tie
+use Rattle.header_form.proofs.size_right.Statement.{statement}
+use Rattle.header_form.proofs.size_right.Tie as tie
 
 slot-size-requires : tie.Need-slot-size-requires
 slot-size-requires c κs = search needs
