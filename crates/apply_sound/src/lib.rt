@@ -1,8 +1,8 @@
 // Applying a batch to a sound store in lent memory, documents 01 and 02 (2026-13): the form of the batch and its order are tested first.
 use apply_publish::Applied;
 use apply_publish::publish;
-use batch::batch_form;
-use batch::batch_order;
+use batch_form::batch_form;
+use batch_runs::batch_order;
 use refusal_numbers::BAD_BATCH;
 use refusal_numbers::BAD_ORDER;
 ghost use Rattle.promises.specs.Calls.{SoundBytes};

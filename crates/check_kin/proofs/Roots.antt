@@ -16,8 +16,7 @@ use Rattle.layout.specs.Slots.{countIn, versionIn, sinceIn, slotOf}
 use Rattle.layout.specs.Stores.{slotIn, storeIn, slotNo, Has}
 use Rattle.store.proofs.Slots.{slot-long, slot-bytes, slot-within, slot-is}
 use Rattle.lookup.specs.Lookup.{isUsed}
-use Rattle.lookup.proofs.Matching.{count-is, version-is, retired-is}
-use Rattle.lookup.proofs.Rooting.{no-bits}
+use Rattle.lookup.proofs.Matching.{count-is, version-is, retired-is, no-bits}
 use Rattle.lookup.proofs.Searching.{used-or, unused}
 use Rattle.check_kin.specs.declared.Kept as declared-kept
 use Rattle.check_kin.specs.Kin.{Keeps, endsAt, livesApart, clearOf}

@@ -25,9 +25,11 @@ use Rattle.layout.specs.Slots.{slotOf, leafIn, innerIn, recordIn}
 use Rattle.layout.specs.Stores.{slotIn, storeOf, Has}
 use Rattle.layout.proofs.Slots.{SlotCases, are-free, are-leaf, are-inner, are-spoiled, slot-cases}
 use Rattle.store.proofs.Slots.{slot-long, slot-bytes, slot-within, slot-is, slots-many}
-use Rattle.lookup.specs.Lookup.{isUsed, covers, rootHere}
+use Rattle.lookup.specs.Lookup.{isUsed}
+use Rattle.lookup_root.specs.Roots.{rootHere}
+use Rattle.lifetime.specs.Lifetime.{covers}
 use Rattle.lookup.proofs.Matching.{is-node}
-use Rattle.lookup.proofs.Rooting.{at-top}
+use Rattle.lookup_root.proofs.Rooting.{at-top}
 use Rattle.demands.specs.Words.{Used, LowestUsed}
 
 -- bytes that are all zero

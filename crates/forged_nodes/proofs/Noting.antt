@@ -16,7 +16,8 @@ use Rattle.sha256.specs.Sha256.{sha256}
 use Rattle.layout.specs.Sizes.{slotSize}
 use Rattle.layout.specs.Slots.{keyIn, valueIn, kidOn, isLeaf, leafIn, innerIn, recordIn, slotOf, versionIn, sinceIn}
 use Rattle.layout.proofs.Slots.{record-is}
-use Rattle.lookup.specs.Lookup.{isUsed, covers}
+use Rattle.lookup.specs.Lookup.{isUsed}
+use Rattle.lifetime.specs.Lifetime.{covers}
 use Rattle.read_step.specs.Walk.{bodyIn}
 use Rattle.read_step.proofs.Seeing.{leaf-body, inner-body}
 use Rattle.forgery.specs.Messages.{leafMessage, innerMessage, messageOf, standsIn, slotMessages}

@@ -28,9 +28,9 @@ use Rattle.layout.specs.Headers.{sizeRight}
 use Rattle.layout.specs.Slots.{slotOf, countIn, versionIn, sinceIn, bitsIn}
 use Rattle.layout.specs.Stores.{slotIn, slotNo, storeOf, Has}
 use Rattle.store.proofs.Slots.{slot-long, slot-bytes, slot-within, slot-is}
-use Rattle.lookup.specs.Lookup.{isUsed, covers}
-use Rattle.lookup.proofs.Matching.{says, version-is, retired-is, count-is, bits-are, same-packed}
-use Rattle.lookup.proofs.Rooting.{no-bits}
+use Rattle.lookup.specs.Lookup.{isUsed}
+use Rattle.lifetime.specs.Lifetime.{covers}
+use Rattle.lookup.proofs.Matching.{says, version-is, retired-is, count-is, bits-are, same-packed, no-bits}
 use Rattle.index_search.specs.Looks.{lookSays, lookFor}
 use Rattle.index_search.specs.declared.Look.the-variants.{Small, Great, Meets}
 use Rattle.index_search.specs.declared.Look as declared

@@ -1,6 +1,6 @@
 // The search through a table of slot numbers, document 02, request 2026-05: it halves, and an entry that names no slot in form counts as too great.
+use lifetime::covers;
 use lookup::Found;
-use lookup::covers;
 use lookup::holds_record;
 use place::Place;
 use place::before;

@@ -4,7 +4,8 @@ use borrow.Author.Needs.{needs}
 use borrow.Author.Tests.{not-true, not-false}
 use Rattle.layout.specs.Slots.{slotOf}
 use Rattle.store.proofs.Slots.{slot-within}
-use Rattle.lookup.specs.Lookup.{isUsed, covers}
+use Rattle.lookup.specs.Lookup.{isUsed}
+use Rattle.lifetime.specs.Lifetime.{covers}
 use Rattle.forged_nodes.proofs.Noting.{not-alive, alive}
 use Rattle.forged_nodes.proofs.stands_in.Statement.{statement}
 use Rattle.forged_nodes.proofs.stands_in.Tie as tie

@@ -11,7 +11,8 @@ use Rattle.terms.proofs.Lists.{all-of}
 use Rattle.layout.specs.Slots.{slotOf, countIn, versionIn, sinceIn}
 use Rattle.layout.specs.Stores.{slotIn}
 use Rattle.store.proofs.Slots.{slot-within}
-use Rattle.lookup.specs.Lookup.{isUsed, covers}
+use Rattle.lookup.specs.Lookup.{isUsed}
+use Rattle.lifetime.specs.Lifetime.{covers}
 use Rattle.index_search.proofs.Looked.{root-unformed, root-deep, root-later, root-ended, root-covered}
 use Rattle.index_search.proofs.look_root.Statement.{statement}
 use Rattle.index_search.proofs.look_root.Tie as tie

@@ -7,7 +7,7 @@ use Rattle.read_position.proofs.leaf_here.Statement.{statement}
 use Rattle.read_position.proofs.leaf_here.Tie as tie
 use Rattle.read_position.proofs.leaf_here.Reads as reads
 use Rattle.read_position.proofs.leaf_here.Lts as lts
-use Rattle.slots.proofs.is_leaf.Reads as is-leaf-reads
+use Rattle.slots_form.proofs.is_leaf.Reads as is-leaf-reads
 use Rattle.store.proofs.slot_of.Reads as slot-of-reads
 
 -- src/lib.rt:69:13
