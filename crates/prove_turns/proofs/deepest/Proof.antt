@@ -1,9 +1,9 @@
--- `prove_trails::deepest` meets its contract, by the turn and whether a child is there. Assumes nothing.
+-- `prove_turns::deepest` meets its contract, by the turn and whether a child is there. Assumes nothing.
 use mathlib.Core.Path.{sym, _∙_}
-use Rattle.prove_trails.proofs.Walking.{fork-same, fork-none, fork-new}
+use Rattle.prove_turns.proofs.Forks.{fork-same, fork-none, fork-new}
 use borrow.Author.Needs.{needs}
-use Rattle.prove_trails.proofs.deepest.Statement.{statement}
-use Rattle.prove_trails.proofs.deepest.Tie as tie
+use Rattle.prove_turns.proofs.deepest.Statement.{statement}
+use Rattle.prove_turns.proofs.deepest.Tie as tie
 
 -- `A-from-B` is the state A as the later state B has it.
 abbrev start-from-child-version : tie.After-child-version → tie.Start

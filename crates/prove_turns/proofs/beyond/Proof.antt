@@ -1,9 +1,9 @@
--- `prove_trails::beyond` meets its contract: the order of keys, by the side. Assumes nothing.
+-- `prove_turns::beyond` meets its contract: the order of keys, by the side. Assumes nothing.
 use mathlib.Core.Path.{ap, sym, _∙_}
 use Rattle.meaning.specs.Proving.{beyond}
 use borrow.Author.Needs.{needs}
-use Rattle.prove_trails.proofs.beyond.Statement.{statement}
-use Rattle.prove_trails.proofs.beyond.Tie as tie
+use Rattle.prove_turns.proofs.beyond.Statement.{statement}
+use Rattle.prove_turns.proofs.beyond.Tie as tie
 
 before-requires : tie.Need-before-requires
 before-requires c κs = search needs

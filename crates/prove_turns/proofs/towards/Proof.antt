@@ -1,9 +1,9 @@
--- `prove_trails::towards` meets its contract, by whether the child is there. Assumes nothing.
+-- `prove_turns::towards` meets its contract, by whether the child is there. Assumes nothing.
 use mathlib.Core.Path.{sym, _∙_}
 use borrow.Author.Tests.{eq-eqb, ne-eqb}
 use borrow.Author.Needs.{needs}
-use Rattle.prove_trails.proofs.towards.Statement.{statement}
-use Rattle.prove_trails.proofs.towards.Tie as tie
+use Rattle.prove_turns.proofs.towards.Statement.{statement}
+use Rattle.prove_turns.proofs.towards.Tie as tie
 
 child-version-requires : tie.Need-child-version-requires
 child-version-requires c κs = search needs
