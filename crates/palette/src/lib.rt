@@ -2,7 +2,7 @@
 use order_kids::children;
 use palette_near::follow_all;
 use prove::Proved;
-use prove_plan::Shape;
+use prove_shape::Shape;
 use prove_plan::plan_of;
 use prove_write::write;
 use read_open::Opened;

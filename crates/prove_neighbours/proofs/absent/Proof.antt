@@ -1,11 +1,11 @@
--- `prove_plan::absent` meets its contract: both searches, the shape that they give, and the length. Assumes nothing.
+-- `prove_neighbours::absent` meets its contract: both searches, the shape that they give, and the length. Assumes nothing.
 use native.Mathlib.Omega.{arith}
 use mathlib.Core.Path.{refl}
 use Rattle.prove_paths.proofs.Records.{neighbour-count, room-most}
-use Rattle.prove_plan.proofs.Planning.{absence-planned}
+use Rattle.prove_neighbours.proofs.Planning.{absence-planned}
 use borrow.Author.Needs.{needs}
-use Rattle.prove_plan.proofs.absent.Statement.{statement}
-use Rattle.prove_plan.proofs.absent.Tie as tie
+use Rattle.prove_neighbours.proofs.absent.Statement.{statement}
+use Rattle.prove_neighbours.proofs.absent.Tie as tie
 
 neighbour-requires : tie.Need-neighbour-requires
 neighbour-requires c κs = search needs

@@ -1,10 +1,10 @@
--- `prove_plan::absence_shape` meets its contract: the left search decides, then the right one. Assumes nothing.
+-- `prove_shape::absence_shape` meets its contract: the left search decides, then the right one. Assumes nothing.
 use mathlib.Core.Path.{ap, sym, _∙_}
-use Rattle.prove_plan.specs.declared.Shape.the-variants.{Refused}
-use Rattle.prove_plan.specs.Parts.{absenceShape}
+use Rattle.prove_shape.specs.declared.Shape.the-variants.{Refused}
+use Rattle.prove_shape.specs.Shapes.{absenceShape}
 use borrow.Author.Needs.{needs}
-use Rattle.prove_plan.proofs.absence_shape.Statement.{statement}
-use Rattle.prove_plan.proofs.absence_shape.Tie as tie
+use Rattle.prove_shape.proofs.absence_shape.Statement.{statement}
+use Rattle.prove_shape.proofs.absence_shape.Tie as tie
 
 enum-known-left : tie.Need-enum-known-left
 enum-known-left c = search needs

@@ -1,10 +1,10 @@
--- `prove_plan::right_shape` meets its contract, by how the search ended. Assumes nothing.
+-- `prove_shape::right_shape` meets its contract, by how the search ended. Assumes nothing.
 use mathlib.Core.Path.{ap, sym, _∙_}
-use Rattle.prove_plan.specs.Parts.{rightShape}
-use Rattle.prove_plan.specs.declared.Shape.the-variants.{Refused}
+use Rattle.prove_shape.specs.Shapes.{rightShape}
+use Rattle.prove_shape.specs.declared.Shape.the-variants.{Refused}
 use borrow.Author.Needs.{needs}
-use Rattle.prove_plan.proofs.right_shape.Statement.{statement}
-use Rattle.prove_plan.proofs.right_shape.Tie as tie
+use Rattle.prove_shape.proofs.right_shape.Statement.{statement}
+use Rattle.prove_shape.proofs.right_shape.Tie as tie
 
 enum-known-right : tie.Need-enum-known-right
 enum-known-right c = search needs

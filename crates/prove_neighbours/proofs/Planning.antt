@@ -2,16 +2,16 @@
 use mathlib.Core.Path.{_≡_, refl, ap, ap₂, sym, _∙_, subst}
 use Rattle.terms.specs.Bits.{Bytes}
 use Rattle.meaning.specs.Proving.{Sought, absenceFrom}
-use Rattle.prove_paths.specs.Neighbours.{wayAt, soughtAt, neighbourAt, NeighbourIn, roomFor}
+use Rattle.prove_paths.specs.Neighbours.{wayAt, neighbourAt, NeighbourIn, roomFor}
 use Rattle.prove_paths.specs.declared.Path as declared-path
 use Rattle.prove_paths.specs.declared.Way as declared-way
 use Rattle.prove_paths.specs.declared.Way.the-variants.{Stopped, Nobody, Somebody}
 use Rattle.prove_paths.specs.declared.Sought as declared-sought
 use Prim.Native.Nat.{ℕ, _+_}
 use Rattle.prove_trails.specs.Searches.{Finds}
-use Rattle.prove_plan.specs.Plans.{shapeSays, planSays, ShapeIn, Plans}
-use Rattle.prove_plan.specs.Parts.{absenceShape}
-use Rattle.prove_plan.specs.declared.Plan as declared
+use Rattle.prove_shape.specs.Plans.{shapeSays, planSays, ShapeIn, Plans}
+use Rattle.prove_shape.specs.Shapes.{absenceShape}
+use Rattle.prove_shape.specs.declared.Plan as declared
 
 -- a sought leaf by its way and its path
 abbrev sought : declared-way.Way → declared-path.Path → declared-sought.Sought

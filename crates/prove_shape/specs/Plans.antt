@@ -10,9 +10,9 @@ use Rattle.proofrecords.specs.ProofBytes.{presenceHead, stepSize, absenceHead}
 use Rattle.prove_paths.specs.Paths.{presenceAt, PathIn}
 use Rattle.prove_paths.specs.Neighbours.{neighbourAt, NeighbourIn, roomFor}
 use Rattle.prove_paths.specs.declared.Sought as declared-sought
-use Rattle.prove_plan.specs.declared.Shape as declared-shape
-use Rattle.prove_plan.specs.declared.Shape.the-variants.{Refused, Presence, Absence}
-use Rattle.prove_plan.specs.declared.Plan as declared
+use Rattle.prove_shape.specs.declared.Shape as declared-shape
+use Rattle.prove_shape.specs.declared.Shape.the-variants.{Refused, Presence, Absence}
+use Rattle.prove_shape.specs.declared.Plan as declared
 
 -- The refusal, the presence proof of the leaf shown, or the absence proof of key k with the neighbours shown.
 abbrev pub shapeSays : Bytes → Bytes → declared-shape.Shape → declared-sought.Sought → declared-sought.Sought →
