@@ -15,8 +15,8 @@ use Rattle.proofrecords.specs.ProofBytes.{proofBytes}
 use Rattle.prove_paths.proofs.Records.{given, part-room, given-long}
 use Rattle.palette_rules.specs.Palette.{wholeKeys, keysIn, followed, inTurn, lengthTogether}
 use Rattle.contracts.specs.Palettes.{proofsBytes}
-use Rattle.palette.specs.Parts.{togetherLength, togetherBytes}
-use Rattle.palette.proofs.Passing.{keyAt, answersFrom, Left, left-start, turn, none-left}
+use Rattle.palette_give.specs.Together.{togetherLength, togetherBytes}
+use Rattle.palette_give.proofs.Passing.{keyAt, answersFrom, Left, left-start, turn, none-left}
 
 -- the proofs before a byte of the list fill the part up to start, and those after it the rest
 pub record Filling (f : Bytes → Answer Proof) (ks : Bytes) (size : ℕ) (part : Bytes) (start at : ℕ) : Type 0 where

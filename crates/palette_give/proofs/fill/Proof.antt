@@ -1,4 +1,4 @@
--- `palette::fill` meets its contract: a proof a turn, each after the one before. Assumes nothing.
+-- `palette_give::fill` meets its contract: a proof a turn, each after the one before. Assumes nothing.
 use Prim.Native.Nat.{_-_}
 use native.Mathlib.Omega.{arith}
 use mathlib.Core.Path.{refl, ap, sym, _∙_}
@@ -6,10 +6,10 @@ use lib.ListN.{length}
 use Rattle.prove_paths.proofs.Records.{part-room}
 use Rattle.prove_write.specs.Written.{plannedLength, plannedBytes}
 use Rattle.prove_write.proofs.Lengths.{planned}
-use Rattle.palette.specs.Parts.{plannedFor, plannedIn}
-use Rattle.palette.proofs.Filling.{Filling, its-length, filling-starts, next, filling-next, filling-done}
-use Rattle.palette.proofs.fill.Statement.{statement}
-use Rattle.palette.proofs.fill.Tie as tie
+use Rattle.palette_give.specs.Together.{plannedFor, plannedIn}
+use Rattle.palette_give.proofs.Filling.{Filling, its-length, filling-starts, next, filling-next, filling-done}
+use Rattle.palette_give.proofs.fill.Statement.{statement}
+use Rattle.palette_give.proofs.fill.Tie as tie
 
 abbrev Inv-loop : tie.InvT-loop
 Inv-loop part₀ store index kids version keys start₀ at₀ part start at = Filling (plannedFor store index version) keys (length part₀) part start at

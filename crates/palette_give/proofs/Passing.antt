@@ -13,7 +13,7 @@ use Rattle.meaning.specs.Calls.{Answer, refused, accepted}
 use Rattle.meaning.specs.Proving.{proofLength}
 use Rattle.palette_rules.specs.Palette.{wholeKeys, keysFrom, keysIn, followed, inTurn}
 use Rattle.palette_rules.proofs.Keys.{whole-list}
-use Rattle.palette.specs.Parts.{togetherLength}
+use Rattle.palette_give.specs.Together.{togetherLength}
 
 -- the key at a byte of the list, as a part of it, and the answers from that key on
 abbrev pub keyAt : Bytes → ℕ → Bytes

@@ -1,32 +1,21 @@
--- What the helpers of a palette promise each other. No public promise reaches this file. Assumes nothing.
+-- What the helpers of a palette promise each other: what is planned for its keys together, how long that is, what is given. No public promise reaches
+-- this file. Assumes nothing.
 use Prim.Native.Nat.{ℕ}
 use mathlib.Core.Path.{_≡_}
-use mathlib.Core.Bool.{cond}
 use mathlib.Core.List.{List, []}
-use Rattle.terms.specs.declared.Form.the-variants.{Counted as counted}
 use Rattle.terms.specs.Bits.{Bytes}
 use Rattle.terms.specs.Records.{Proof}
 use Rattle.meaning.specs.Calls.{Answer, refused, accepted}
 use Rattle.meaning.specs.Sized.{sized}
 use Rattle.meaning.specs.Reading.{seen}
-use Rattle.meaning.specs.Proving.{proveSeen, proofBy}
+use Rattle.meaning.specs.Proving.{proveSeen}
+use Rattle.meaning.specs.Answers.{roomAfter}
 use Rattle.indexed.specs.Index.{byTable}
-use Rattle.layout.specs.Headers.{headerOf}
 use Rattle.layout.specs.Stores.{storeOf}
-use Rattle.promises.specs.Headed.{byHeader}
-use Rattle.palette_rules.specs.Palette.{wholeKeys, keysIn, inTurn, lengthTogether, paletteOf}
+use Rattle.palette_rules.specs.Palette.{keysIn, inTurn, lengthTogether}
 use Rattle.prove.specs.Parts.{provedSays}
 use Rattle.prove.specs.declared.Proved as declared
-use Rattle.meaning.specs.Answers.{roomAfter}
 use Rattle.contracts.specs.Palettes.{proofsBytes}
-
--- What the call answers by a table of any length; one without entries is the scan.
-unfoldable pub paletteAnswerBy : Bytes → List ℕ → ℕ → Bytes → ℕ → Answer (List Proof)
-paletteAnswerBy s table v list room =
-    cond (wholeKeys list)
-    (byHeader (headerOf counted s) (paletteOf (proofBy (byTable table (storeOf s)) (storeOf s) v) (storeOf s) v
-    (keysIn list) room))
-    (refused 12)
 
 -- What is planned for a key in a kept version, and for each key of a list.
 abbrev pub plannedFor : Bytes → List ℕ → ℕ → Bytes → Answer Proof

@@ -1,4 +1,4 @@
--- `palette::measure` meets its contract: a key a turn, until one is refused or all are measured. Assumes nothing.
+-- `palette_give::measure` meets its contract: a key a turn, until one is refused or all are measured. Assumes nothing.
 use Prim.Native.Nat.{_-_}
 use native.Mathlib.Omega.{arith}
 use mathlib.Core.Path.{sym, _∙_}
@@ -6,10 +6,10 @@ use lib.ListN.{length}
 use borrow.Author.Needs.{needs}
 use Rattle.prove.specs.Parts.{provedSays}
 use Rattle.prove_write.proofs.Lengths.{not-refused, refusal-planned}
-use Rattle.palette.specs.Parts.{plannedFor, plannedIn}
-use Rattle.palette.proofs.Passing.{keyAt, Measuring, measuring-starts, its-turn, measuring-refused, measuring-next, measuring-done}
-use Rattle.palette.proofs.measure.Statement.{statement}
-use Rattle.palette.proofs.measure.Tie as tie
+use Rattle.palette_give.specs.Together.{plannedFor, plannedIn}
+use Rattle.palette_give.proofs.Passing.{keyAt, Measuring, measuring-starts, its-turn, measuring-refused, measuring-next, measuring-done}
+use Rattle.palette_give.proofs.measure.Statement.{statement}
+use Rattle.palette_give.proofs.measure.Tie as tie
 
 abbrev Inv-loop : tie.InvT-loop
 Inv-loop store index kids version keys total₀ at₀ total at = Measuring (plannedFor store index version) keys total at

@@ -1,7 +1,7 @@
--- `palette::whole_keys` meets its contract. Assumes nothing.
+-- `key_list::whole_keys` meets its contract. Assumes nothing.
 use Rattle.palette_rules.proofs.Keys.{torn, counted}
-use Rattle.palette.proofs.whole_keys.Statement.{statement}
-use Rattle.palette.proofs.whole_keys.Tie as tie
+use Rattle.key_list.proofs.whole_keys.Statement.{statement}
+use Rattle.key_list.proofs.whole_keys.Tie as tie
 
 returns : tie.Need-returns
 returns c = torn _ (c .if1 .taken)

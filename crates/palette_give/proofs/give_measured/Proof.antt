@@ -1,9 +1,9 @@
--- `palette::give_measured` meets its contract: the first refusal, or the proofs. Assumes nothing.
-use Rattle.palette.specs.Parts.{plannedIn}
-use Rattle.palette.proofs.Answering.{single-refused, measured-length}
+-- `palette_give::give_measured` meets its contract: the first refusal, or the proofs. Assumes nothing.
+use Rattle.palette_give.specs.Together.{plannedIn}
+use Rattle.palette_give.proofs.Giving.{single-refused, measured-length}
 use borrow.Author.Needs.{needs}
-use Rattle.palette.proofs.give_measured.Statement.{statement}
-use Rattle.palette.proofs.give_measured.Tie as tie
+use Rattle.palette_give.proofs.give_measured.Statement.{statement}
+use Rattle.palette_give.proofs.give_measured.Tie as tie
 
 measure-requires : tie.Need-measure-requires
 measure-requires c κs = search needs

@@ -1,9 +1,9 @@
--- `palette::give` meets its contract: the room is known before a byte is written. Assumes nothing.
+-- `palette_give::give` meets its contract: the room is known before a byte is written. Assumes nothing.
 use borrow.Author.Needs.{needs}
-use Rattle.palette.specs.Parts.{plannedIn}
-use Rattle.palette.proofs.Answering.{no-room, front-long, with-room}
-use Rattle.palette.proofs.give.Statement.{statement}
-use Rattle.palette.proofs.give.Tie as tie
+use Rattle.palette_give.specs.Together.{plannedIn}
+use Rattle.palette_give.proofs.Giving.{no-room, front-long, with-room}
+use Rattle.palette_give.proofs.give.Statement.{statement}
+use Rattle.palette_give.proofs.give.Tie as tie
 
 -- `A-from-B` is the state A as the later state B has it.
 abbrev start-from-slice-known : tie.After-slice-known → tie.Start
