@@ -4,21 +4,28 @@ use mathlib.Core.Path.{_≡_}
 use mathlib.Core.Bool.{cond}
 use mathlib.Core.List.{List}
 use lib.ListN.{length}
-use lib.Dec.{eqb, ltb}
+use lib.Dec.{eqb}
 use Rattle.terms.specs.declared.Form.the-variants.{Counted as counted}
-use Rattle.terms.specs.Bits.{Bytes, Side, left, right, Place, longer, begins}
+use Rattle.terms.specs.Bits.{Bytes, Side, Place, longer, begins}
 use Rattle.terms.specs.Records.{Grant, grant, Child}
 use Rattle.meaning.specs.Calls.{Answer, refused, accepted}
 use Rattle.meaning.specs.Counting.{atBody, descend}
 use Rattle.indexed.specs.Index.{byTable}
+use Rattle.hash.specs.Hash.{hashBytes}
 use Rattle.place.specs.declared.Place as declared-place
 use Rattle.place.specs.Place.{placeOf}
 use Rattle.layout.specs.Slots.{keyIn, valueIn, countsIn}
 use Rattle.layout.specs.Stores.{slotIn, storeOf}
 use Rattle.read_step.specs.Walk.{bodyIn, SlotHolds}
-use Rattle.read_position.specs.declared.Step as declared-step
-use Rattle.read_position.specs.declared.Step.the-variants as step
-use Rattle.read_position.specs.declared.Turn as declared-turn
+use Rattle.read_descent.specs.declared.PositionRead as declared
+use Rattle.read_descent.specs.declared.PositionRead.the-variants as position
+use Rattle.read_descent.specs.declared.Step as declared-step
+use Rattle.read_descent.specs.declared.Step.the-variants as step
+
+-- What each case of the answer says.
+unfoldable pub positionSays : declared.PositionRead → Answer Grant
+positionSays (position.Refused n) = refused n
+positionSays (position.Grant k x) = accepted (grant (hashBytes k) (hashBytes x))
 
 -- What a leaf's bytes say of a position at a place.
 abbrev pub leafAnswer : Place → Bytes → ℕ → Answer Grant
@@ -36,11 +43,6 @@ bodyAt s table p i n = atBody p (bodyIn (slotIn counted i s)) (countsIn (slotIn 
 -- What is found from a child on, which stands at a place.
 unfoldable pub childAnswer : Bytes → List ℕ → Place → Child → ℕ → Answer Grant
 childAnswer s table p c n = descend (256 - length p) (byTable table (storeOf s)) p c n
-
--- The side that a position is on by the left count, and the position there.
-abbrev pub Turned : ℕ → ℕ → declared-turn.Turn → Type 0
-Turned lefts n r = (below : Side → ℕ → Answer Grant) → below (r .right) (r .rest) ≡ cond (ltb n lefts) (below left n)
-    (below right (n - lefts))
 
 -- A child is refused, or is the record in this slot.
 abbrev pub Steps : Bytes → List ℕ → declared-place.Place → Child → declared-step.Step → Type 0

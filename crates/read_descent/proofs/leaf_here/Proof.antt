@@ -1,24 +1,17 @@
--- `read_position::leaf_here` meets its contract. Assumes nothing.
+-- `read_descent::leaf_here` meets its contract. Assumes nothing.
 use mathlib.Core.Path.{ap, _∙_}
 use Rattle.layout.specs.Slots.{isLeaf}
 use Rattle.store.proofs.Slots.{slot-within}
 use borrow.Author.Needs.{needs}
-use Rattle.read_position.proofs.leaf_here.Statement.{statement}
-use Rattle.read_position.proofs.leaf_here.Tie as tie
-use Rattle.read_position.proofs.leaf_here.Reads as reads
-use Rattle.read_position.proofs.leaf_here.Lts as lts
-use Rattle.slots.proofs.is_leaf.Reads as is-leaf-reads
-use Rattle.store.proofs.slot_of.Reads as slot-of-reads
+use Rattle.read_descent.proofs.leaf_here.Statement.{statement}
+use Rattle.read_descent.proofs.leaf_here.Tie as tie
 
--- src/lib.rt:69:13
 slot-of-requires : tie.Need-slot-of-requires
 slot-of-requires c κs = slot-within (c .before .pre)
 
--- src/lib.rt:69:5
 is-leaf-requires : tie.Need-is-leaf-requires
 is-leaf-requires c κs = search needs
 
--- src/lib.rt:65:1
 returns : tie.Need-returns
 returns c = c .is-leaf .ensures ∙ ap isLeaf (c .before .slot-of .ensures .0)
 

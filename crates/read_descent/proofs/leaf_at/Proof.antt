@@ -1,5 +1,4 @@
--- `read_position::leaf_at` meets its contract: key and value are read where they lie in the slot. Assumes nothing.
-use native.Mathlib.Omega.{arith}
+-- `read_descent::leaf_at` meets its contract: key and value are read where they lie in the slot. Assumes nothing.
 use mathlib.Core.Path.{ap, _∙_}
 use borrow.Author.Tests.{not-true, not-false}
 use Rattle.terms.specs.declared.Form.the-variants.{Counted as counted}
@@ -8,37 +7,26 @@ use Rattle.place.specs.Place.{placeOf}
 use Rattle.layout.specs.Slots.{keyIn, valueIn}
 use Rattle.layout.specs.Stores.{slotIn}
 use Rattle.store.proofs.Slots.{slot-fits}
-use Rattle.read_position.proofs.Descending.{leaf-stray, leaf-over, leaf-there, key-whole, value-whole}
+use Rattle.read_descent.proofs.Descending.{leaf-stray, leaf-over, leaf-there, key-whole, value-whole}
 use borrow.Author.Needs.{needs}
-use Rattle.read_position.proofs.leaf_at.Statement.{statement}
-use Rattle.read_position.proofs.leaf_at.Tie as tie
-use Rattle.read_position.proofs.leaf_at.Reads as reads
-use Rattle.read_position.proofs.leaf_at.Lts as lts
-use Rattle.hash.proofs.hash_at.Reads as hash-at-reads
-use Rattle.place.proofs.begins.Reads as begins-reads
-use Rattle.slots.proofs.key_of.Reads as key-of-reads
-use Rattle.slots.proofs.value_of.Reads as value-of-reads
-use Rattle.store.proofs.slot_of.Reads as slot-of-reads
+use Rattle.read_descent.proofs.leaf_at.Statement.{statement}
+use Rattle.read_descent.proofs.leaf_at.Tie as tie
 
 -- `A-from-B` is the state A as the later state B has it.
 abbrev start-from-slot-of : tie.After-slot-of → tie.Start
 start-from-slot-of c = c .before .before
 
--- src/lib.rt:77:9
 slot-of-requires : tie.Need-slot-of-requires
 slot-of-requires c κs =
     let d = c .before in
     slot-fits counted (d .args .store .now) (d .pre .size) (d .args .i) (d .pre .inside)
 
--- src/lib.rt:78:16
 key-of-requires : tie.Need-key-of-requires
 key-of-requires c κs = search needs
 
--- src/lib.rt:78:9
 begins-requires : tie.Need-begins-requires
 begins-requires c κs = search needs
 
--- src/lib.rt:79:9
 returns : tie.Need-returns
 returns c =
     let after-begins = c .before in
@@ -47,7 +35,6 @@ returns c =
     let a = start-from-slot-of after-slot-of .args in
     leaf-stray (placeOf (a .place)) (slotIn counted (a .i) (a .store .now)) (a .n) (after-begins .begins .ensures ∙ ap (begins (placeOf (a .place))) (after-key-of .key-of .ensures .0 ∙ ap keyIn (after-slot-of .slot-of .ensures .0))) (not-true _ (c .if1 .taken))
 
--- src/lib.rt:82:9
 returns-2 : tie.Need-returns-2
 returns-2 c =
     let else1 = c .before in
@@ -57,23 +44,18 @@ returns-2 c =
     let a = start-from-slot-of after-slot-of .args in
     leaf-over (placeOf (a .place)) (slotIn counted (a .i) (a .store .now)) (a .n) (after-begins .begins .ensures ∙ ap (begins (placeOf (a .place))) (after-key-of .key-of .ensures .0 ∙ ap keyIn (after-slot-of .slot-of .ensures .0))) (not-false _ (else1 .if1 .left)) (c .if2 .taken)
 
--- src/lib.rt:84:23
 key-of-requires-2 : tie.Need-key-of-requires-2
 key-of-requires-2 c κs = search needs
 
--- src/lib.rt:84:9
 hash-at-requires : tie.Need-hash-at-requires
 hash-at-requires c κs = search needs
 
--- src/lib.rt:85:25
 value-of-requires : tie.Need-value-of-requires
 value-of-requires c κs = search needs
 
--- src/lib.rt:85:9
 hash-at-requires-2 : tie.Need-hash-at-requires-2
 hash-at-requires-2 c κs = search needs
 
--- src/lib.rt:73:1
 returns-3 : tie.Need-returns-3
 returns-3 c =
     let after-value-of = c .before in

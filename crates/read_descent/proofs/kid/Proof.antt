@@ -1,4 +1,4 @@
--- `read_position::kid` meets its contract: version 0 is no child, else the child is sought at its version and place. Assumes nothing.
+-- `read_descent::kid` meets its contract: version 0 is no child, else the child is sought at its version and place. Assumes nothing.
 use native.Mathlib.Omega.{arith}
 use mathlib.Core.Path.{ap, sym, _∙_}
 use Rattle.terms.specs.Bits.{Byte}
@@ -8,12 +8,11 @@ use Rattle.place.specs.Place.{placeOf}
 use Rattle.layout.specs.Stores.{storeOf}
 use Rattle.read_step.specs.Walk.{kidIn}
 use Rattle.read_step.proofs.Seeing.{none-sighted, spoilt-sighted, spoilt-small}
-use Rattle.read_position.proofs.Descending.{step-missing, step-lost, step-spoilt, step-at}
+use Rattle.read_descent.proofs.Descending.{step-missing, step-lost, step-spoilt, step-at}
 use borrow.Author.Needs.{needs}
-use Rattle.read_position.proofs.kid.Statement.{statement}
-use Rattle.read_position.proofs.kid.Tie as tie
+use Rattle.read_descent.proofs.kid.Statement.{statement}
+use Rattle.read_descent.proofs.kid.Tie as tie
 
--- src/lib.rt:112:9
 child-version-requires : tie.Need-child-version-requires
 child-version-requires c κs = search needs
 
@@ -24,7 +23,6 @@ child-version-from-look-by c = c .before .before
 abbrev start-from-child-version : tie.After-child-version → tie.Start
 start-from-child-version c = c .before .before .before
 
--- src/lib.rt:114:9
 returns : tie.Need-returns
 returns c =
     let start = start-from-child-version (c .before) in
@@ -33,27 +31,21 @@ returns c =
     let k = kidIn (start .args .i) s (start .args .right) in
     step-missing s (start .args .index .now) p k (sym (c .before .child-version .ensures) ∙ c .if1 .taken)
 
--- src/lib.rt:116:9
 look-by-requires : tie.Need-look-by-requires
 look-by-requires c κs = search needs
 
--- src/lib.rt:118:24
 enum-known-sight : tie.Need-enum-known-sight
 enum-known-sight c = search needs
 
--- src/lib.rt:120:32
 enum-told : tie.Need-enum-told
 enum-told c = search needs
 
--- src/lib.rt:120:17
 refusal-requires : tie.Need-refusal-requires
 refusal-requires c κs = search needs
 
--- src/lib.rt:123:23
 enum-known-sight-2 : tie.Need-enum-known-sight-2
 enum-known-sight-2 c = search needs
 
--- src/lib.rt:124:24
 cast-slot : tie.Need-cast-slot
 cast-slot c =
     let after-sight2 = c .before in
@@ -64,11 +56,9 @@ cast-slot c =
     let k = kidIn (start .args .i) s (start .args .right) in
     omega (arith, spoilt-small s (nodeBy (start .args .index .now) (storeOf s) (child-version-from-look-by after-look-by .child-version .result) (placeOf p)) (after-look-by .look-by .ensures) (after-sight2 .sight2 .given .1) (start .pre .size))
 
--- src/lib.rt:125:17
 refusal-requires-2 : tie.Need-refusal-requires-2
 refusal-requires-2 c κs = search needs
 
--- src/lib.rt:108:1
 returns-2 : tie.Need-returns-2
 returns-2 c =
     let after-sight = c .before in
@@ -81,7 +71,6 @@ returns-2 c =
     let b = all-of Byte s 0 (λ i _. omega (arith, after-child-version .before .before .shared-slice-known .given i)) in
     step-at s (start .args .index .now) p k (λ z. after-look-by .before .if1 .left (after-child-version .child-version .ensures ∙ z)) (start .pre .size) b (start .pre .proper) (after-child-version .child-version .ensures) (after-look-by .look-by .ensures) _ (after-sight .sight .given .1)
 
--- src/lib.rt:108:1
 returns-3 : tie.Need-returns-3
 returns-3 c =
     let after-enum-told = c .before in
@@ -94,7 +83,6 @@ returns-3 c =
     step-lost s (start .args .index .now) p k (λ z. after-look-by .before .if1 .left (after-child-version .child-version .ensures ∙ z))
     (ap (λ v. nodeBy (start .args .index .now) (storeOf s) v (placeOf p)) (sym (after-child-version .child-version .ensures)) ∙ none-sighted s (nodeBy (start .args .index .now) (storeOf s) (after-child-version .child-version .result) (placeOf p)) (after-look-by .look-by .ensures) (after-enum-told .enum-told .given .1)) (c .refusal .ensures)
 
--- src/lib.rt:108:1
 returns-4 : tie.Need-returns-4
 returns-4 c =
     let after-sight2 = c .before .before in

@@ -1,15 +1,14 @@
 -- The descent by counts over bytes, a step at a time. Assumes nothing.
-use Prim.Native.Nat.{ℕ, suc, _-_, _<_, _≤_}
+use Prim.Native.Nat.{ℕ, suc, _-_, _<_}
 use native.Mathlib.Omega.{arith}
 use mathlib.Core.Path.{_≡_, refl, ap, ap₂, sym, _∙_, subst}
-use mathlib.Core.Bool.{Bool, true, false, cond}
+use mathlib.Core.Bool.{Bool, true, false}
 use mathlib.Core.List.{List, []}
 use lib.ListN.{length, take, drop}
 use lib.Seq.{take-take}
-use lib.Dec.{ltb}
-use borrow.Author.Tests.{eq-eqb, ne-eqb, lt-ltb, le-ltb}
+use borrow.Author.Tests.{eq-eqb, ne-eqb}
 use Rattle.terms.specs.declared.Form.the-variants.{Counted as counted}
-use Rattle.terms.specs.Bits.{Bytes, Byte, All, Side, left, right, Place, longer, begins}
+use Rattle.terms.specs.Bits.{Bytes, Byte, All, Side, left, right, Place, begins}
 use Rattle.terms.specs.Fields.{slice}
 use Rattle.terms.specs.Records.{Grant, grant, Child, Body, countOn, Record, used}
 use Rattle.terms.proofs.Places.{length-longer}
@@ -24,24 +23,22 @@ use Rattle.hash.specs.Hash.{hashBytes}
 use Rattle.place.specs.declared.Place as declared-place
 use Rattle.place.specs.Place.{placeOf, Proper, Stands, Grown}
 use Rattle.place.proofs.Places.{proper-count}
-use Rattle.layout.specs.Sizes.{roomOf}
 use Rattle.layout.specs.Headers.{sizeRight}
-use Rattle.layout.specs.Slots.{keyIn, valueIn, leftIn, rightIn, isLeaf, leafIn, innerIn, recordIn, countsIn, slotOf}
+use Rattle.layout.specs.Slots.{keyIn, valueIn, isLeaf, recordIn, countsIn, slotOf}
 use Rattle.layout.specs.Stores.{slotIn, storeOf, Has}
 use Rattle.layout.proofs.Slots.{record-is}
 use Rattle.layout.proofs.Stores.{slot-at}
-use Rattle.store.proofs.Slots.{slots-many}
 use Rattle.sights.specs.Sights.{Sighted}
 use Rattle.sights.specs.declared.Sight as declared-sight
 use Rattle.sights.specs.declared.Sight.the-variants as sight
-use Rattle.read_step.specs.Walk.{bodyIn, kidIn, Slotted, SlotHolds}
+use Rattle.read_step.specs.Walk.{bodyIn, kidIn, SlotHolds}
 use Rattle.read_step.proofs.Seeing.{body-is, leaf-body, inner-body, node-placed, holds-found, inside}
-use Rattle.read_position.specs.Positions.{positionSays}
-use Rattle.read_position.specs.Parts.{leafAnswer, kidsFrom, bodyAt, childAnswer, Turned, Steps}
-use Rattle.read_position.specs.declared.PositionRead.the-variants as answer
-use Rattle.read_position.specs.declared.Step as declared-step
-use Rattle.read_position.specs.declared.Step.the-variants as step
-use Rattle.read_position.specs.declared.Turn as declared-turn
+use Rattle.read_turn.specs.Turns.{Turned}
+use Rattle.read_turn.specs.declared.Turn as declared-turn
+use Rattle.read_descent.specs.Parts.{positionSays, leafAnswer, kidsFrom, bodyAt, childAnswer, Steps}
+use Rattle.read_descent.specs.declared.PositionRead.the-variants as answer
+use Rattle.read_descent.specs.declared.Step as declared-step
+use Rattle.read_descent.specs.declared.Step.the-variants as step
 
 pub counts-are : (x : Bytes) (r : Record) → slotOf x ≡ used r → r .counts ≡ countsIn x
 unfolding recordIn
@@ -84,21 +81,6 @@ module _ (s : Bytes) (table : List ℕ) (p : Place) (i n : ℕ) (e : isLeaf (slo
   inner-is =
       turned (λ b m. kidsFrom s table p b (kidIn i s b) m)
       ∙ ap (λ b. atBody p b (countsIn (slotIn counted i s)) n (kidsFrom s table p)) (sym (inner-body (slotIn counted i s) e))
-
-module _ (n : ℕ) {lefts l : ℕ} (e : l ≡ lefts) (below : Side → ℕ → Answer Grant) where
-  turned-low : n < l → below left n ≡ cond (ltb n lefts) (below left n) (below right (n - lefts))
-  turned-low h = sym (ap (λ b. cond b (below left n) (below right (n - lefts))) (lt-ltb n lefts (omega (arith, e))))
-
-  turned-high : l ≤ n → below right (n - l) ≡ cond (ltb n lefts) (below left n) (below right (n - lefts))
-  turned-high h = ap (λ m. below right (n - m)) e ∙ sym (ap (λ b. cond b (below left n) (below right (n - lefts))) (le-ltb n lefts (omega (arith, e))))
-
-pub turned-left : (n : ℕ) {lefts l : ℕ} → l ≡ lefts → n < l → (below : Side → ℕ → Answer Grant) →
-    below left n ≡ cond (ltb n lefts) (below left n) (below right (n - lefts))
-turned-left n e h below = turned-low n e below h
-
-pub turned-right : (n : ℕ) {lefts l : ℕ} → l ≡ lefts → l ≤ n → (below : Side → ℕ → Answer Grant) →
-    below right (n - l) ≡ cond (ltb n lefts) (below left n) (below right (n - lefts))
-turned-right n e h below = turned-high n e below h
 
 pub kid-answer : {b : Side} {p q : declared-place.Place} (s : Bytes) (table : List ℕ) (c : Child) (n : ℕ) → Grown b p q →
     childAnswer s table (placeOf q) c n ≡ kidsFrom s table (placeOf p) b c n

@@ -1,19 +1,11 @@
--- `read_position::descend` meets its contract: each turn goes to the side that the position is on by the left count. Assumes nothing.
+-- `read_descent::descend` meets its contract: each turn goes to the side that the position is on by the left count. Assumes nothing.
 use native.Mathlib.Omega.{arith}
 use Prim.Native.Nat.{_-_}
 use mathlib.Core.Path.{_∙_}
-use Rattle.read_position.proofs.Descending.{Going, set-out, at-slot, ends-at-leaf, inner-short, ends-refused, goes-on}
+use Rattle.read_descent.proofs.Descending.{Going, set-out, at-slot, ends-at-leaf, inner-short, ends-refused, goes-on}
 use borrow.Author.Needs.{needs}
-use Rattle.read_position.proofs.descend.Statement.{statement}
-use Rattle.read_position.proofs.descend.Tie as tie
-use Rattle.read_position.proofs.descend.Reads as reads
-use Rattle.read_position.proofs.descend.Lts as lts
-use Rattle.place.proofs.Place.top.Reads as top-reads
-use Rattle.place.proofs.child_place.Reads as child-place-reads
-use Rattle.read_position.proofs.kid.Reads as kid-reads
-use Rattle.read_position.proofs.leaf_at.Reads as leaf-at-reads
-use Rattle.read_position.proofs.leaf_here.Reads as leaf-here-reads
-use Rattle.read_position.proofs.turn_at.Reads as turn-at-reads
+use Rattle.read_descent.proofs.descend.Statement.{statement}
+use Rattle.read_descent.proofs.descend.Tie as tie
 
 abbrev Inv-loop : tie.InvT-loop
 Inv-loop store index first position place₀ at₀ n₀ place at n = Going store index first position place at n
@@ -21,7 +13,6 @@ Inv-loop store index first position place₀ at₀ n₀ place at n = Going store
 abbrev μ-loop : tie.MeasureT-loop
 μ-loop store index first position place₀ at₀ n₀ place at n = 256 - place .count
 
--- src/lib.rt:136:9
 top-requires : tie.Need-top-requires Inv-loop μ-loop
 top-requires c κs = search needs
 
@@ -35,45 +26,36 @@ turn-at-from-kid c = c .before .before
 abbrev at-loop-from-else1 : tie.Else1 Inv-loop μ-loop → tie.At-loop Inv-loop μ-loop
 at-loop-from-else1 c = c .before .before
 
--- src/lib.rt:139:5
 loop-holds : tie.Need-loop-holds Inv-loop μ-loop
 loop-holds c = set-out (c .before .before .before .pre) (c .top .ensures)
 
--- src/lib.rt:140:12
 leaf-here-requires : tie.Need-leaf-here-requires Inv-loop μ-loop
 leaf-here-requires c κs = at-slot (c .loop .inv)
 
--- src/lib.rt:141:13
 leaf-at-requires : tie.Need-leaf-at-requires Inv-loop μ-loop
 leaf-at-requires c κs = c .before .before .loop .inv .holds .slotted
 
--- src/lib.rt:141:13
 returns : tie.Need-returns Inv-loop μ-loop
 returns c =
     let here = c .before .before in
     c .leaf-at .ensures ∙ ends-at-leaf (here .before .loop .inv) (here .leaf-here .ensures) (c .before .if1 .taken)
 
--- src/lib.rt:143:13
 turn-at-requires : tie.Need-turn-at-requires Inv-loop μ-loop
 turn-at-requires c κs = at-slot (at-loop-from-else1 c .loop .inv)
 
--- src/lib.rt:144:9
 child-place-requires : tie.Need-child-place-requires Inv-loop μ-loop
 child-place-requires c κs =
     let else1 = c .before in
     let w = at-loop-from-else1 else1 .loop .inv in
     (w .holds .slotted .proper, inner-short w (else1 .before .leaf-here .ensures) (else1 .if1 .left))
 
--- src/lib.rt:145:13
 kid-requires : tie.Need-kid-requires Inv-loop μ-loop
 kid-requires c κs = let w = at-loop-from-child-place c .loop .inv in
     record { size = w .holds .slotted .size; inside = w .holds .slotted .inside; proper = c .child-place .ensures .proper }
 
--- src/lib.rt:147:27
 enum-known-next : tie.Need-enum-known-next Inv-loop μ-loop
 enum-known-next c = search needs
 
--- src/lib.rt:147:33
 returns-2 : tie.Need-returns-2 Inv-loop μ-loop
 returns-2 c =
     let after-next = c .before in
@@ -82,18 +64,15 @@ returns-2 c =
     let else1 = after-turn-at .before in
     ends-refused (at-loop-from-else1 else1 .loop .inv) (else1 .before .leaf-here .ensures) (else1 .if1 .left) (after-turn-at .turn-at .result) (after-turn-at .turn-at .ensures) (after-kid .before .child-place .ensures) _ (after-kid .kid .ensures) (after-next .next .given .1)
 
--- src/lib.rt:148:22
 enum-known-next-2 : tie.Need-enum-known-next-2 Inv-loop μ-loop
 enum-known-next-2 c = search needs
 
--- src/lib.rt:139:5
 loop-less : tie.Need-loop-less Inv-loop μ-loop
 loop-less c =
     let after-child-place = c .before .before .before .before in
     let else1 = after-child-place .before .before in
     omega (arith, inner-short (at-loop-from-else1 else1 .loop .inv) (else1 .before .leaf-here .ensures) (else1 .if1 .left), after-child-place .child-place .ensures .count)
 
--- src/lib.rt:139:5
 loop-again : tie.Need-loop-again Inv-loop μ-loop
 loop-again c =
     let after-next2 = c .before in
