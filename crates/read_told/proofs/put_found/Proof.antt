@@ -1,13 +1,13 @@
--- `read_c::put_found` meets its contract: the first byte, and the hash over the other 32. Assumes nothing.
+-- `read_told::put_found` meets its contract: the first byte, and the hash over the other 32. Assumes nothing.
 use Prim.Native.Nat.{suc}
 use native.Mathlib.Omega.{arith}
 use mathlib.Core.Path.{ap, sym, _∙_}
 use lib.ListN.{length, length-set}
 use Rattle.hash.proofs.Laws.{hash-whole}
-use Rattle.read_c.proofs.Exported.{found-put}
+use Rattle.read_told.proofs.Exported.{found-put}
 use borrow.Author.Needs.{needs}
-use Rattle.read_c.proofs.put_found.Statement.{statement}
-use Rattle.read_c.proofs.put_found.Tie as tie
+use Rattle.read_told.proofs.put_found.Statement.{statement}
+use Rattle.read_told.proofs.put_found.Tie as tie
 
 slice-write-found : tie.Need-slice-write-found
 slice-write-found c = search needs

@@ -1,8 +1,8 @@
--- `read_c::get_by` meets its contract: the case of the read decides the number and the bytes. Assumes nothing.
-use Rattle.read_c.proofs.Exported.{key-refused, key-present, key-absent}
+-- `read_told::get_by` meets its contract: the case of the read decides the number and the bytes. Assumes nothing.
+use Rattle.read_told.proofs.Exported.{key-refused, key-present, key-absent}
 use borrow.Author.Needs.{needs}
-use Rattle.read_c.proofs.get_by.Statement.{statement}
-use Rattle.read_c.proofs.get_by.Tie as tie
+use Rattle.read_told.proofs.get_by.Statement.{statement}
+use Rattle.read_told.proofs.get_by.Tie as tie
 
 get-requires : tie.Need-get-requires
 get-requires c κs = search needs

@@ -20,7 +20,7 @@ use Rattle.read_root.specs.declared.RootRead as declared-root
 use Rattle.read_root.specs.declared.RootRead.the-variants as root
 use Rattle.read_key.specs.declared.KeyRead as declared-read
 use Rattle.read_key.specs.declared.KeyRead.the-variants as read
-use Rattle.read_c.specs.Export.{RootTold, KeyTold}
+use Rattle.read_told.specs.Export.{RootTold, KeyTold}
 
 module _ {a : Answer Bytes} {r : declared-root.RootRead} (says : rootSays r ≡ a) (old : Bytes) where
   pub root-refused : {n : ℕ} → r ≡ root.Refused n → RootTold a old n old

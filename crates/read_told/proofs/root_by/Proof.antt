@@ -1,8 +1,8 @@
--- `read_c::root_by` meets its contract: the case of the read decides the number and the bytes. Assumes nothing.
-use Rattle.read_c.proofs.Exported.{root-refused, root-written}
+-- `read_told::root_by` meets its contract: the case of the read decides the number and the bytes. Assumes nothing.
+use Rattle.read_told.proofs.Exported.{root-refused, root-written}
 use borrow.Author.Needs.{needs}
-use Rattle.read_c.proofs.root_by.Statement.{statement}
-use Rattle.read_c.proofs.root_by.Tie as tie
+use Rattle.read_told.proofs.root_by.Statement.{statement}
+use Rattle.read_told.proofs.root_by.Tie as tie
 
 root-requires : tie.Need-root-requires
 root-requires c κs = search needs
