@@ -1,5 +1,5 @@
--- What the helpers of a palette promise each other: what is planned for its keys together, how long that is, what is given. No public promise reaches
--- this file. Assumes nothing.
+-- What the helpers of a palette promise each other: what is planned for its keys together, how long that is, what is
+-- given. No public promise reaches this file. Assumes nothing.
 use Prim.Native.Nat.{ℕ}
 use mathlib.Core.Path.{_≡_}
 use mathlib.Core.List.{List, []}

@@ -1,7 +1,7 @@
 // Proving over lent bytes, document 01, 'Reading and proving', and 2026-03: the proof for a key in a version, for every store, sound or damaged.
+use prove_plan::plan_of;
 use prove_shape::Plan;
 use prove_shape::Shape;
-use prove_plan::plan_of;
 use prove_write::write;
 use read_open::Opened;
 use read_open::open;

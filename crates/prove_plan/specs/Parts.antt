@@ -25,9 +25,10 @@ ended w shape i len = record {
   length = len;
 }
 
--- What is proved where a walk has ended at the leaf in slot i: the leaf, by its path; and that or absence, by the leaf's key.
+-- Where a walk has ended at the leaf in slot i: the presence of that leaf, by its path.
 abbrev pub presentAt : Bytes → declared-walked.Walked → ℕ → Answer Proof
 presentAt s w i = accepted (presence (presenceAt s (pathOf (w .trail) i)))
 
+-- What is proved there: its presence if the key is its own, else absence.
 abbrev pub provedAt : Bytes → List ℕ → Bytes → declared-walked.Walked → ℕ → Answer Proof
 provedAt s table k w i = cond (sameBytes k (keyIn (slotIn counted i s))) (presentAt s w i) (absentFrom s table k w)

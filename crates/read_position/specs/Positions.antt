@@ -1,4 +1,5 @@
--- The grant at a position of a version as the code answers it, by a table of any length. Within the code; the contract is in `contracts`. Assumes nothing.
+-- The grant at a position of a version as the code answers it. Within the code; the contract is in `contracts`. Assumes
+-- nothing.
 use Prim.Native.Nat.{ℕ}
 use mathlib.Core.List.{List}
 use Rattle.terms.specs.declared.Form.the-variants.{Counted as counted}
