@@ -17,7 +17,7 @@ use Rattle.prove.specs.Parts.{provedSays}
 use Rattle.prove.specs.declared.Proved as declared
 use Rattle.prove.specs.declared.Proved.the-variants.{Refused, Length}
 use Rattle.contracts.specs.Palettes.{paletteAnswer, palettedInto, lengthBytes, Palettes, PalettesBy, proofsBytes}
-use Rattle.palette.specs.Parts.{Gives}
+use Rattle.palette_give.specs.Together.{Gives}
 use Rattle.palette_c.specs.Export.{PaletteTold}
 
 module _ {a : Answer (List Proof)} {room after : Bytes} {r : declared.Proved} (gives : Gives a room after r) (old : Bytes) where

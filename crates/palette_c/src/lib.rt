@@ -1,7 +1,7 @@
 // Several proofs at the boundary: the call answers 0 where it is accepted, else the number of refusal, and then it writes nothing. `grants` exports it.
 use fields::put_u32;
+use key_list::whole_keys;
 use palette::palette;
-use palette::whole_keys;
 use prove::Proved;
 use read_open::as_many;
 use refusal_numbers::NOT_32_BYTES;

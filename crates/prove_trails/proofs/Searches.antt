@@ -29,10 +29,10 @@ use Rattle.store.proofs.Slots.{slot-fits}
 use Rattle.prove_paths.specs.Paths.{stepAt, pathSteps, presenceAt, PathIn}
 use Rattle.prove_paths.specs.declared.Way.the-variants as way
 use Rattle.prove_paths.specs.declared.Sought as declared-sought
+use Rattle.prove_turns.specs.declared.Fork as declared-fork
 use Rattle.prove_trails.specs.Trails.{shownAt, SeenIn, shownBy, stepsBy, TrailIn, AtInner, Further, sideways, forkSays, ForkIn, forkOn}
 use Rattle.prove_trails.specs.Searches.{pathOf, soughtOf, Finds, descentSays, WalkedIn, endSays, neighbourSays}
 use Rattle.prove_trails.specs.declared.Trail as declared
-use Rattle.prove_trails.specs.declared.Fork as declared-fork
 use Rattle.prove_trails.specs.declared.Walked as declared-walked
 use Rattle.prove_trails.proofs.Trails.{kidsAt, gap-test, steps-further, shown-further, at-inner}
 

@@ -20,9 +20,9 @@ use Rattle.read_number.specs.Numbers.{numberSays}
 use Rattle.contracts.specs.Numbers.{numberAnswer, positionAnswer, grantBytes, Counts, CountsBy, ReadsAt, ReadsAtBy}
 use Rattle.read_number.specs.declared.NumberRead as declared-number
 use Rattle.read_number.specs.declared.NumberRead.the-variants as number
-use Rattle.read_position.specs.Positions.{positionSays}
-use Rattle.read_position.specs.declared.PositionRead as declared-position
-use Rattle.read_position.specs.declared.PositionRead.the-variants as position
+use Rattle.read_descent.specs.Parts.{positionSays}
+use Rattle.read_descent.specs.declared.PositionRead as declared-position
+use Rattle.read_descent.specs.declared.PositionRead.the-variants as position
 use Rattle.read_counts_c.specs.Export.{NumberTold, GrantTold}
 
 mod-alike : (a b k : ℕ) → a ≡ b + 256 * k → b % 256 ≡ a % 256

@@ -2,9 +2,9 @@
 use fields::put_u32;
 use hash::Hash;
 use hash::put_hash;
+use read_descent::PositionRead;
 use read_number::NumberRead;
 use read_open::as_many;
-use read_position::PositionRead;
 use refusal_numbers::WRONG_SIZE;
 ghost use mathlib.Core.Path.{_≡_};
 ghost use mathlib.Core.List.{_++_};

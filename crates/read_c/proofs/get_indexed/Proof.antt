@@ -4,7 +4,7 @@ use mathlib.Core.Option.{some}
 use borrow.Author.Tests.{not-true, not-false}
 use Rattle.contracts.proofs.Refusing.{key-not-32, key-not-as-many}
 use Rattle.read.proofs.Answers.{key-as-many}
-use Rattle.read_c.proofs.Exported.{key-as, key-refusal, key-told-by}
+use Rattle.read_told.proofs.Exported.{key-as, key-refusal, key-told-by}
 use borrow.Author.Needs.{needs}
 use Rattle.read_c.proofs.get_indexed.Statement.{statement}
 use Rattle.read_c.proofs.get_indexed.Tie as tie

@@ -1,6 +1,6 @@
 -- `read_c::grants_get` meets its contract: a table without entries is the scan. Assumes nothing.
 use Rattle.read.proofs.Answers.{key-plain}
-use Rattle.read_c.proofs.Exported.{key-as, key-told}
+use Rattle.read_told.proofs.Exported.{key-as, key-told}
 use borrow.Author.Needs.{needs}
 use Rattle.read_c.proofs.grants_get.Statement.{statement}
 use Rattle.read_c.proofs.grants_get.Tie as tie

@@ -1,6 +1,6 @@
 -- `read_c::grants_root` meets its contract: a table without entries is the scan. Assumes nothing.
 use Rattle.read.proofs.Answers.{root-plain}
-use Rattle.read_c.proofs.Exported.{root-as, root-told}
+use Rattle.read_told.proofs.Exported.{root-as, root-told}
 use borrow.Author.Needs.{needs}
 use Rattle.read_c.proofs.grants_root.Statement.{statement}
 use Rattle.read_c.proofs.grants_root.Tie as tie

@@ -3,7 +3,7 @@ use mathlib.Core.Path.{sym, _∙_}
 use borrow.Author.Tests.{not-true, not-false}
 use Rattle.contracts.proofs.Refusing.{root-not-as-many}
 use Rattle.read.proofs.Answers.{root-as-many}
-use Rattle.read_c.proofs.Exported.{root-as, root-refusal, root-told-by}
+use Rattle.read_told.proofs.Exported.{root-as, root-refusal, root-told-by}
 use borrow.Author.Needs.{needs}
 use Rattle.read_c.proofs.root_indexed.Statement.{statement}
 use Rattle.read_c.proofs.root_indexed.Tie as tie
