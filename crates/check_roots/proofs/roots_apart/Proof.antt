@@ -1,4 +1,4 @@
--- `check_kin::roots_apart` meets its contract: the slots before j pass. Assumes nothing.
+-- `check_roots::roots_apart` meets its contract: the slots before j pass. Assumes nothing.
 use Prim.Native.Nat.{_-_}
 use native.Mathlib.Omega.{arith}
 use mathlib.Core.Bool.{true}
@@ -6,10 +6,10 @@ use borrow.Author.Tests.{not-true, not-false}
 use Rattle.local.specs.Test.{byRecord}
 use Rattle.layout.specs.Stores.{storeIn}
 use Rattle.store.proofs.Scans.{scan-slot}
 use Rattle.check_kin.specs.Kin.{clearOf}
-use Rattle.check_kin.proofs.Scanning.{Passed, pass-start, pass-next, pass-off, pass-end}
-use Rattle.check_kin.proofs.roots_apart.Statement.{statement}
-use Rattle.check_kin.proofs.roots_apart.Tie as tie
+use Rattle.check_roots.proofs.Scanning.{Passed, pass-start, pass-next, pass-off, pass-end}
+use Rattle.check_roots.proofs.roots_apart.Statement.{statement}
+use Rattle.check_roots.proofs.roots_apart.Tie as tie
 
 abbrev Inv-loop : tie.InvT-loop
 Inv-loop form store kept version ends n j₀ j = Passed form store (byRecord true (clearOf (storeIn form store) version ends)) n j

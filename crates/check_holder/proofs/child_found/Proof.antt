@@ -1,11 +1,11 @@
--- `check_kin::child_found` meets its contract, by what the search found. Assumes nothing.
+-- `check_holder::child_found` meets its contract, by what the search found. Assumes nothing.
 use borrow.Author.Tests.{eq-eqb, ne-eqb}
 use borrow.Author.Needs.{needs}
 use Rattle.place.specs.Place.{placeOf}
 use Rattle.layout.specs.Stores.{storeIn}
-use Rattle.check_kin.proofs.Holding.{is-found, not-found}
-use Rattle.check_kin.proofs.child_found.Statement.{statement}
-use Rattle.check_kin.proofs.child_found.Tie as tie
+use Rattle.check_holder.proofs.Holding.{is-found, not-found}
+use Rattle.check_holder.proofs.child_found.Statement.{statement}
+use Rattle.check_holder.proofs.child_found.Tie as tie
 
 returns : tie.Need-returns
 returns c = rw (eq-eqb (c .before .before .args .version) 0 (c .if1 .taken))

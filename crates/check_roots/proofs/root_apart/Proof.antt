@@ -1,13 +1,13 @@
--- `check_kin::root_apart` meets its contract: one early return for each field that tells. Assumes nothing.
+-- `check_roots::root_apart` meets its contract: one early return for each field that tells. Assumes nothing.
 use native.Mathlib.Omega.{arith}
 use mathlib.Core.Path.{sym, _∙_}
 use Rattle.terms.specs.Bits.{Byte}
 use Rattle.terms.proofs.Lists.{all-of}
 use Rattle.store.proofs.Slots.{slot-within}
-use Rattle.check_kin.proofs.Roots.{no-root, clear-life, met}
+use Rattle.check_roots.proofs.Roots.{no-root, clear-life, met}
 use borrow.Author.Needs.{needs}
-use Rattle.check_kin.proofs.root_apart.Statement.{statement}
-use Rattle.check_kin.proofs.root_apart.Tie as tie
+use Rattle.check_roots.proofs.root_apart.Statement.{statement}
+use Rattle.check_roots.proofs.root_apart.Tie as tie
 
 -- `A-from-B` is the state A as the later state B has it.
 abbrev start-from-count-at : tie.After-count-at → tie.Start

@@ -1,3 +1,2 @@
 pub mod Scanning
-pub mod Holding
 pub mod Roots

@@ -1,8 +1,8 @@
--- `check_kin::lives_apart` meets its contract: one early return for each test. Assumes nothing.
+-- `check_roots::lives_apart` meets its contract: one early return for each test. Assumes nothing.
 use borrow.Author.Needs.{needs}
-use Rattle.check_kin.proofs.Roots.{one-version, ended, not-ended}
-use Rattle.check_kin.proofs.lives_apart.Statement.{statement}
-use Rattle.check_kin.proofs.lives_apart.Tie as tie
+use Rattle.check_roots.proofs.Roots.{one-version, ended, not-ended}
+use Rattle.check_roots.proofs.lives_apart.Statement.{statement}
+use Rattle.check_roots.proofs.lives_apart.Tie as tie
 
 returns : tie.Need-returns
 returns c =

@@ -1,11 +1,11 @@
--- `check_kin::holders` meets its contract: the slots before j are counted. Assumes nothing.
+-- `check_holder::holders` meets its contract: the slots before j are counted. Assumes nothing.
 use Prim.Native.Nat.{_-_}
 use native.Mathlib.Omega.{arith}
 use Rattle.place.specs.Place.{placeOf}
 use Rattle.store.proofs.Scans.{scan-slot}
-use Rattle.check_kin.proofs.Holding.{Counted, count-start, count-few, count-next, count-end}
-use Rattle.check_kin.proofs.holders.Statement.{statement}
-use Rattle.check_kin.proofs.holders.Tie as tie
+use Rattle.check_holder.proofs.Holding.{Counted, count-start, count-few, count-next, count-end}
+use Rattle.check_holder.proofs.holders.Statement.{statement}
+use Rattle.check_holder.proofs.holders.Tie as tie
 
 abbrev Inv-loop : tie.InvT-loop
 Inv-loop form store version place n count₀ j₀ count j = Counted form store version (placeOf place) n count j

@@ -1,12 +1,12 @@
--- `check_kin::holder` meets its contract: the slot is looked at. Assumes nothing.
+-- `check_holder::holder` meets its contract: the slot is looked at. Assumes nothing.
 use mathlib.Core.Path.{ap}
 use mathlib.Core.Bool.{cond}
 use Rattle.place.specs.Place.{placeOf}
 use Rattle.layout.specs.Stores.{slotNo}
-use Rattle.check_kin.proofs.Holding.{as-count}
+use Rattle.check_holder.proofs.Holding.{as-count}
 use borrow.Author.Needs.{needs}
-use Rattle.check_kin.proofs.holder.Statement.{statement}
-use Rattle.check_kin.proofs.holder.Tie as tie
+use Rattle.check_holder.proofs.holder.Statement.{statement}
+use Rattle.check_holder.proofs.holder.Tie as tie
 
 holds-node-requires : tie.Need-holds-node-requires
 holds-node-requires c κs = search needs
