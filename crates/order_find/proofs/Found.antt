@@ -25,7 +25,7 @@ use Rattle.ordered.proofs.Ordered.{key-node, first-lowest, first-found, first-n
 use Rattle.order_look.specs.Looks.{headKey, keyIn, Stands}
 use Rattle.order_look.specs.declared.Look as declared
 use Rattle.order_look.specs.declared.Look.the-variants.{Before, After, Same}
-use Rattle.order_look.proofs.Passed.{inside}
+use Rattle.order_look.proofs.Keys.{inside}
 use Rattle.order_halves.proofs.Looked.{place-key, entry-has, mine as its-key, said as its-look}
 use Rattle.order_find.specs.Finds.{NoLower}
 

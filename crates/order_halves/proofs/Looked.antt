@@ -19,8 +19,7 @@ use Rattle.ordered.specs.Ordered.{nodeKey, keyNo, Ordered}
 use Rattle.order_look.specs.Looks.{headKey, keyIn, Stands}
 use Rattle.order_look.specs.declared.Look as declared
 use Rattle.order_look.specs.declared.Look.the-variants.{Before, After, Same}
-use Rattle.order_look.proofs.Keys.{key-in}
-use Rattle.order_look.proofs.Passed.{inside}
+use Rattle.order_look.proofs.Keys.{inside, key-in}
 
 -- the key of a place as it is handed over
 pub place-key : (v : ℕ) (p : declared-place.Place) → Proper p → headKey (p .count) (p .bits) v ≡ nodeKey v (placeOf p)

@@ -1,12 +1,12 @@
--- `order_look::ascending` meets its contract: the entries before k are in order. Assumes nothing.
+-- `order_table::ascending` meets its contract: the entries before k are in order. Assumes nothing.
 use native.Mathlib.Omega.{arith}
 use mathlib.Core.Path.{_≡_, subst}
 use Prim.Native.Nat.{_-_, _≤_}
 use Rattle.check_pass.proofs.Passes.{passed-so}
-use Rattle.order_look.specs.Looks.{InOrder}
-use Rattle.order_look.proofs.Passed.{order-start}
-use Rattle.order_look.proofs.ascending.Statement.{statement}
-use Rattle.order_look.proofs.ascending.Tie as tie
+use Rattle.order_table.specs.Tables.{InOrder}
+use Rattle.order_table.proofs.Passed.{order-start}
+use Rattle.order_table.proofs.ascending.Statement.{statement}
+use Rattle.order_table.proofs.ascending.Tie as tie
 
 abbrev Inv-loop : tie.InvT-loop
 Inv-loop store table many n k₀ k = (k ≤ many) × InOrder store table k

@@ -1,9 +1,9 @@
--- `order_look::ordered` meets its contract: the entries ascend, and each slot in form is named. Assumes nothing.
+-- `order_table::ordered` meets its contract: the entries ascend, and each slot in form is named. Assumes nothing.
 use Rattle.check_pass.proofs.Passes.{passed-so, pass-map}
-use Rattle.order_look.proofs.Passed.{both-passed}
+use Rattle.order_table.proofs.Passed.{both-passed}
 use borrow.Author.Needs.{needs}
-use Rattle.order_look.proofs.ordered.Statement.{statement}
-use Rattle.order_look.proofs.ordered.Tie as tie
+use Rattle.order_table.proofs.ordered.Statement.{statement}
+use Rattle.order_table.proofs.ordered.Tie as tie
 
 ascending-requires : tie.Need-ascending-requires
 ascending-requires c κs = search needs

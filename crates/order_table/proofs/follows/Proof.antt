@@ -1,15 +1,15 @@
--- `order_look::follows` meets its contract. Assumes nothing.
+-- `order_table::follows` meets its contract. Assumes nothing.
 use native.Mathlib.Omega.{arith}
 use mathlib.Core.Path.{_≡_, refl, ap, sym, _∙_, subst}
 use Prim.Native.Nat.{_-_}
 use Rattle.layout.specs.Stores.{storeOf}
 use Rattle.check_pass.proofs.Passes.{passed-so, pass-map}
 use Rattle.ordered.specs.Ordered.{Ahead}
 use Rattle.order_look.specs.Looks.{Formed}
-use Rattle.order_look.proofs.Passed.{order-next}
+use Rattle.order_table.proofs.Passed.{order-next}
 use borrow.Author.Needs.{needs}
-use Rattle.order_look.proofs.follows.Statement.{statement}
-use Rattle.order_look.proofs.follows.Tie as tie
+use Rattle.order_table.proofs.follows.Statement.{statement}
+use Rattle.order_table.proofs.follows.Tie as tie
 
 mul-wide : tie.Need-mul-wide
 mul-wide c = search needs

@@ -1,4 +1,4 @@
--- `order_look::names_form` meets its contract. Assumes nothing.
+-- `order_table::names_form` meets its contract. Assumes nothing.
 use native.Mathlib.Omega.{arith}
 use mathlib.Core.Path.{ap, sym, _∙_}
 use Rattle.layout.specs.Slots.{slotOf}
@@ -7,10 +7,10 @@ use Rattle.store.proofs.Slots.{slot-within, slot-is}
 use Rattle.lookup.specs.Lookup.{isUsed}
 use Rattle.check_pass.proofs.Passes.{pass-map}
 use Rattle.check_pass.proofs.Records.{room-has}
-use Rattle.order_look.proofs.Passed.{formed}
+use Rattle.order_table.proofs.Passed.{formed}
 use borrow.Author.Needs.{needs}
-use Rattle.order_look.proofs.names_form.Statement.{statement}
-use Rattle.order_look.proofs.names_form.Tie as tie
+use Rattle.order_table.proofs.names_form.Statement.{statement}
+use Rattle.order_table.proofs.names_form.Tie as tie
 
 returns : tie.Need-returns
 returns c = tt

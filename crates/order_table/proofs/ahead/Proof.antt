@@ -1,4 +1,4 @@
--- `order_look::ahead` meets its contract. Assumes nothing.
+-- `order_table::ahead` meets its contract. Assumes nothing.
 use native.Mathlib.Omega.{arith}
 use mathlib.Core.Path.{_≡_, refl, ap, ap₂, sym, _∙_, subst}
 use mathlib.Core.Logic.{inl, inr}
@@ -9,11 +9,11 @@ use Rattle.terms.proofs.Lists.{all-of}
 use Rattle.layout.specs.Slots.{countIn, bitsIn, versionIn}
 use Rattle.layout.specs.Stores.{slotIn, storeOf}
 use Rattle.store.proofs.Slots.{slot-within}
 use Rattle.order_look.proofs.Keys.{all-same}
-use Rattle.order_look.proofs.Passed.{ahead-before, ahead-same}
+use Rattle.order_table.proofs.Passed.{ahead-before, ahead-same}
 use borrow.Author.Needs.{needs}
-use Rattle.order_look.proofs.ahead.Statement.{statement}
-use Rattle.order_look.proofs.ahead.Tie as tie
+use Rattle.order_table.proofs.ahead.Statement.{statement}
+use Rattle.order_table.proofs.ahead.Tie as tie
 
 -- `A-from-B` is the state A as the later state B has it.
 abbrev start-from-wide : tie.After-wide → tie.Start

@@ -1,17 +1,16 @@
 -- What the passes over a table and over the slots leave. Assumes nothing.
-use Prim.Native.Nat.{ℕ, zero, suc, _+_, _-_, _<_, _≤_}
+use Prim.Native.Nat.{ℕ, suc, _+_, _-_, _<_, _≤_}
 use native.Mathlib.Omega.{arith}
 use mathlib.Core.Path.{_≡_, refl, ap, sym, _∙_, subst, subst₂}
 use mathlib.Core.Logic.{inl, inr}
 use mathlib.Core.Bool.{Bool, true, false, true≢false}
-use mathlib.Core.List.{List, [], _∷_}
+use mathlib.Core.List.{List}
 use lib.ListN.{length, getD}
 use lib.Dec.{ltb, eqb}
 use borrow.Author.Tests.{ltb-true, ltb-false, eqb-true}
 use Rattle.terms.specs.declared.Form.the-variants.{Counted as counted}
 use Rattle.terms.specs.Bits.{Bytes, Byte, All, before}
-use Rattle.terms.specs.Records.{Record, Slot, free, used, spoiled}
-use Rattle.meaning.proofs.Finding.{free-used}
+use Rattle.terms.specs.Records.{Slot, free}
 use Rattle.layout.specs.Sizes.{roomOf}
 use Rattle.layout.specs.Stores.{slotIn, storeOf}
 use Rattle.store.proofs.Slots.{slots-many}
@@ -19,16 +18,11 @@ use Rattle.lookup.specs.Lookup.{isUsed}
 use Rattle.lookup.proofs.Searching.{used-or}
 use Rattle.check_pass.specs.Passes.{Passed, Each}
 use Rattle.ordered.specs.Ordered.{keyNo, InForm, Ahead, Named, Ordered}
-use Rattle.order_look.specs.Looks.{keyIn, Stands, Formed, InOrder, NamedNo}
+use Rattle.order_look.specs.Looks.{keyIn, Stands, Formed}
 use Rattle.order_look.specs.declared.Look as declared
 use Rattle.order_look.specs.declared.Look.the-variants.{Before, Same}
-use Rattle.order_look.proofs.Keys.{key-in}
-
--- a slot that holds a record is one of the store's
-pub inside : (s : List Slot) (i : ℕ) (r : Record) → getD s i free ≡ used r → i < length s
-inside [] i r e = free-used r e
-inside (x ∷ s) zero r e = omega arith
-inside (x ∷ s) (suc i) r e = let l = inside s i r e in omega arith
+use Rattle.order_look.proofs.Keys.{inside, key-in}
+use Rattle.order_table.specs.Tables.{InOrder, NamedNo}
 
 -- a slot that a test says is in form
 pub formed : (b : Bool) (s : List Slot) (i : ℕ) → b ≡ isUsed (getD s i free) → Passed b (InForm s i)

@@ -1,4 +1,4 @@
--- `order_look::slot_named` meets its contract. Assumes nothing.
+-- `order_table::slot_named` meets its contract. Assumes nothing.
 use native.Mathlib.Omega.{arith}
 use mathlib.Core.Path.{refl, ap, sym, _∙_}
 use lib.Dec.{eqb}
@@ -8,10 +8,10 @@ use Rattle.layout.specs.Stores.{storeOf}
 use Rattle.store.proofs.Slots.{slot-within, slot-is}
 use Rattle.lookup.specs.Lookup.{isUsed}
 use Rattle.check_pass.proofs.Passes.{pass-map}
-use Rattle.order_look.proofs.Passed.{unformed, named-here}
+use Rattle.order_table.proofs.Passed.{unformed, named-here}
 use borrow.Author.Needs.{needs}
-use Rattle.order_look.proofs.slot_named.Statement.{statement}
-use Rattle.order_look.proofs.slot_named.Tie as tie
+use Rattle.order_table.proofs.slot_named.Statement.{statement}
+use Rattle.order_table.proofs.slot_named.Tie as tie
 
 -- `A-from-B` is the state A as the later state B has it.
 abbrev start-from-holds-record : tie.After-holds-record → tie.Start

@@ -1,4 +1,4 @@
--- `order_look::all_named` meets its contract: the slots before i are named. Assumes nothing.
+-- `order_table::all_named` meets its contract: the slots before i are named. Assumes nothing.
 use native.Mathlib.Omega.{arith}
 use Prim.Native.Nat.{_-_}
 use lib.ListN.{length}
@@ -6,9 +6,9 @@ use Rattle.terms.specs.declared.Form.the-variants.{Counted as counted}
 use Rattle.layout.specs.Sizes.{roomOf}
 use Rattle.check_pass.proofs.Passes.{each-below}
 use Rattle.check_pass.proofs.Walks.{Walk, walk-start, walk-slot, walk-on}
-use Rattle.order_look.specs.Looks.{NamedNo}
-use Rattle.order_look.proofs.all_named.Statement.{statement}
-use Rattle.order_look.proofs.all_named.Tie as tie
+use Rattle.order_table.specs.Tables.{NamedNo}
+use Rattle.order_table.proofs.all_named.Statement.{statement}
+use Rattle.order_table.proofs.all_named.Tie as tie
 
 abbrev Inv-loop : tie.InvT-loop
 Inv-loop store table many ranks n i₀ i = Walk counted store (NamedNo store table many) n i
