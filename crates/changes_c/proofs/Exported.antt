@@ -7,9 +7,9 @@ use Rattle.terms.specs.Fields.{le}
 use Rattle.fields.specs.Written.{written}
 use Rattle.fields.proofs.Written.{number-fills}
 use Rattle.meaning.proofs.Told.{told-refused, told-given}
-use Rattle.changes.specs.Parts.{comparedSays, Compares}
-use Rattle.changes.specs.declared.Compared as declared
-use Rattle.changes.specs.declared.Compared.the-variants.{Refused, Listed}
+use Rattle.changes_kept.specs.Parts.{comparedSays, Compares}
+use Rattle.changes_kept.specs.declared.Compared as declared
+use Rattle.changes_kept.specs.declared.Compared.the-variants.{Refused, Listed}
 use Rattle.contracts.specs.Changes.{Changes}
 
 module _ {first second limit : ℕ} {s room after : Bytes} (r : declared.Compared) (w : Compares first second limit s room (comparedSays r) after)

@@ -12,9 +12,9 @@ use Rattle.fields.proofs.Written.{fields-fill}
 use Rattle.meaning.specs.Calls.{Answer, refused, accepted}
 use Rattle.meaning.specs.Answers.{numberOf}
 use Rattle.quarter.specs.Figures.{Quarter}
-use Rattle.figures.specs.Figures.{Totals, totals, figuredSays, totalsOf, Tells}
-use Rattle.figures.specs.declared.Figured as declared
-use Rattle.figures.specs.declared.Figured.the-variants.{Refused, Told}
+use Rattle.figures_sound.specs.Figures.{Totals, totals, figuredSays, totalsOf, Tells}
+use Rattle.figures_sound.specs.declared.Figured as declared
+use Rattle.figures_sound.specs.declared.Figured.the-variants.{Refused, Told}
 use Rattle.contracts.specs.Figures.{totalsBytes, totalsAfter, Figures}
 
 -- two numbers of four bytes

@@ -33,7 +33,7 @@ use Rattle.shelf_rules.proofs.Told.{shelf-verifies}
 use Rattle.verify_rules.specs.Verify.{Verifies}
 use Rattle.verify_rules.specs.Reading.{judged, verified}
 use Rattle.verify_rules.proofs.Told.{told-exactly}
-use Rattle.verify.proofs.Boundary.{zeros-found}
+use Rattle.verify_call.proofs.Boundary.{zeros-found}
 use Rattle.shelf_verify.specs.Both.{isProof, firstLength, isShelf, both, ChecksBoth}
 
 -- the bytes of that place are the part's key
