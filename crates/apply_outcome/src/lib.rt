@@ -74,7 +74,13 @@ pub fn child_after(writes: bool, old: Child, out: Outcome) -> Child
 }
 
 // Places the node of an outcome, if it was updated, and answers how far the new records reach.
-pub fn place_updated(store: &mut [u8], writes: bool, from: usize, place: Place, out: Outcome) -> usize
+pub fn place_updated(
+    store: &mut [u8],
+    writes: bool,
+    from: usize,
+    place: Place,
+    out: Outcome,
+) -> usize
     requires { ⌜ Places writes (now store) from place (updatedSays (placeOf place) out) ⌝ }
     ensures { λ r. ⌜ Placed writes from (updatedSays (placeOf place) out) (now (store .entry)) (now (store .exit)) r ⌝ }
 {

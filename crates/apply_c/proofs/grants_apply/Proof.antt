@@ -4,6 +4,7 @@ use borrow.Author.Needs.{needs}
 use native.Mathlib.Omega.{arith}
 use Rattle.terms.specs.Bits.{Byte, All}
 use Rattle.terms.proofs.Lists.{all-of}
+use Rattle.apply_answer.specs.Answers.{appliedSays}
 use Rattle.apply_c.proofs.grants_apply.Statement.{statement}
 use Rattle.apply_c.proofs.grants_apply.Tie as tie
 
@@ -25,7 +26,10 @@ batch-bytes : (c : tie.After-apply) → All Byte (start-from-apply c .args .batc
 batch-bytes c = all-of Byte (start-from-apply c .args .batch .now) 0 (λ i _. omega (arith, c .before .before .shared-slice-known .given i))
 
 returns : tie.Need-returns
-returns c = ?
+returns c =
+    let after-apply = c .before .before .before .before in
+    let a = start-from-apply after-apply .args in
+    export-sent (a .number) (a .batch .now) (batch-bytes after-apply) (appliedSays (after-apply .apply .result)) (after-apply .apply .ensures) (c .send .ensures)
 
 pub grants-apply-spec : {M : Type 1} → statement M
 grants-apply-spec =
