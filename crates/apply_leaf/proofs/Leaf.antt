@@ -29,9 +29,10 @@ use Rattle.apply_place.proofs.Reaching.{reaches-none}
 use Rattle.apply_outcome.specs.declared.Change.the-variants as C
 use Rattle.apply_outcome.specs.declared.Outcome as declared
 use Rattle.apply_outcome.specs.Outcomes.{Did}
-use Rattle.apply_grow.specs.declared.Stays as stays
-use Rattle.apply_grow.specs.declared.Stays.the-variants as S
-use Rattle.apply_grow.specs.Growing.{staysSays, staysAt, StaysAt, Grows}
+use Rattle.apply_inserts.specs.declared.Stays as stays
+use Rattle.apply_inserts.specs.declared.Stays.the-variants as S
+use Rattle.apply_inserts.specs.Inserts.{staysSays, staysAt, StaysAt}
+use Rattle.apply_grow.specs.Growing.{Grows}
 use Rattle.apply_grow.proofs.Growing.{written-nothing}
 use Rattle.apply_leaf.specs.declared.Own as own
 use Rattle.apply_leaf.specs.declared.Own.the-variants.{Nothing, Insert, Delete}

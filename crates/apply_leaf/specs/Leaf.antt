@@ -19,8 +19,8 @@ use Rattle.apply_place.specs.Placing.{Stored}
 use Rattle.apply_place.specs.Reach.{Starts}
 use Rattle.apply_outcome.specs.declared.Outcome as outcome
 use Rattle.apply_outcome.specs.Outcomes.{changeSays, NodeSays}
-use Rattle.apply_grow.specs.declared.Stays as stays
-use Rattle.apply_grow.specs.declared.Stays.the-variants as S
+use Rattle.apply_inserts.specs.declared.Stays as stays
+use Rattle.apply_inserts.specs.declared.Stays.the-variants as S
 use Rattle.apply_leaf.specs.declared.Own as declared
 use Rattle.apply_leaf.specs.declared.Own.the-variants.{Nothing, Insert, Delete}
 

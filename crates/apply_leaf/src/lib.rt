@@ -1,6 +1,6 @@
 // The step at a leaf, document 01: what the run asks for its key, and inserts beside it.
-use apply_grow::Stays;
 use apply_grow::grow;
+use apply_inserts::Stays;
 use apply_outcome::Change;
 use apply_outcome::Outcome;
 use apply_place::Node;

@@ -16,9 +16,10 @@ use Rattle.fields.specs.Written.{written}
 use Rattle.fields.proofs.Written.{number-fills}
 use Rattle.layout.specs.Sizes.{roomOf}
 use Rattle.promises.specs.Calls.{SoundBytes}
-use Rattle.apply_publish.specs.Apply.{appliedSays, ApplyDoes}
-use Rattle.apply_publish.specs.declared.Applied as declared-applied
-use Rattle.apply_publish.specs.declared.Applied.the-variants.{Refused, Made}
+use Rattle.apply_publish.specs.Apply.{ApplyDoes}
+use Rattle.apply_answer.specs.Answers.{appliedSays}
+use Rattle.apply_answer.specs.declared.Applied as declared-applied
+use Rattle.apply_answer.specs.declared.Applied.the-variants.{Refused, Made}
 use Rattle.prune_sound.specs.Prune.{prunedSays, PruneDoes}
 use Rattle.prune_sound.specs.declared.Pruned as declared-pruned
 use Rattle.prune_sound.specs.declared.Pruned.the-variants.{Refused as Kept, Freed}
