@@ -25,12 +25,11 @@ use Rattle.quarter.proofs.Small.{figures-are-small, distinct-is-small, records-
 use Rattle.quarter.proofs.Told.{leaves-told, inners-told, longest-told, sum-told, versions-long, version-told, distinct-told, records-told, no-grant-no-node, nothing-told}
 use Rattle.contracts.specs.Figures.{totalsAfter, eachBytes}
 use Rattle.refusals.specs.Exactly.{Exactly}
-use Rattle.refusals.specs.Rows.{KeptRange}
-use Rattle.refusals.specs.Orders.{rangeRows}
+use Rattle.refusals.specs.Tables.{KeptRange, figuresRows}
+use Rattle.refusals.proofs.Parts.{rangeRows}
 use Rattle.refusals.proofs.Exactly.{First, exactly}
 use Rattle.refusals.proofs.Figures.{range-said, figures-first}
 use Rattle.contracts.specs.Contracts as contracts
-use Rattle.demands.specs.Tables.{figuresRows}
 use Rattle.demands.specs.Claims.{treeOfVersion, grantsOfVersion, NextVersion, latestOf}
 use Rattle.demands.specs.Quarter.{FiguresAre, partOf, GivesFigures}
 use Rattle.demands.proofs.Refusals.{no-refusal, never-0, header-numbers, refused-of}

@@ -23,8 +23,9 @@ use Rattle.palette_rules.specs.Palette.{wholeKeys, keysIn, followed, inTurn, le
 use Rattle.palette_rules.specs.Claims.{FirstRefused}
 use Rattle.palette_rules.proofs.Turns.{proofs-of-each, first-refused, refused-first, each-proved}
 use Rattle.palette_rules.proofs.Keys.{keys-are-32, keys-counted, list-is-keys, flat-is-whole}
-use Rattle.refusals.specs.Rows.{NotKept, EmptyVersion, NotKeys, AskedOfEmpty, StopsPalette, TooLongTogether}
-use Rattle.refusals.specs.Orders.{askingRows}
+use Rattle.ways.specs.Ways.{EmptyVersion}
+use Rattle.refusals.specs.Tables.{NotKeys, StopsPalette}
+use Rattle.refusals.proofs.Parts.{NotKept, TooLongTogether, askingRows}
 use Rattle.refusals.proofs.Exactly.{First}
 use Rattle.refusals.proofs.Stopped.{Stopped, tested, met, passed}
 use Rattle.refusals.proofs.Walks.{kept-said, not-kept, proof-is, refused-by}
@@ -65,13 +66,13 @@ module _ (s : Bytes) (formed : Formed (storeOf s)) (v : ℕ) (keys : List Bytes)
     fits ps f false e =
         inr (λ w. absurd (omega (arith, ltb-false (length room) (lengthTogether ps) e, ap lengthTogether (same-proofs (sym f ∙ each-proved (proof (storeOf s) v) keys (w .0) (w .1))), w .2)), refl)
 
-    given : (AskedOfEmpty s v keys → ⊥) → (ps : List Proof) → inTurn (proof (storeOf s) v) keys ≡ accepted ps →
+    given : (EmptyVersion (storeOf s) v × (keys ≡ [] → ⊥) → ⊥) → (ps : List Proof) → inTurn (proof (storeOf s) v) keys ≡ accepted ps →
         Deserved (numberOf (fittedTogether (length room) (accepted ps)))
     given full ps f =
         passed (not-8, (full, tt)) (λ t w. let z = sym f ∙ stops-refused t w in clash (cc)) (fits ps f (ltb (length room) (lengthTogether ps)) refl)
 
     -- with a root
-    rooted : (EmptyVersion s v → ⊥) → (a : Answer (List Proof)) → inTurn (proof (storeOf s) v) keys ≡ a → Deserved (numberOf (fittedTogether (length room) a))
+    rooted : (EmptyVersion (storeOf s) v → ⊥) → (a : Answer (List Proof)) → inTurn (proof (storeOf s) v) keys ≡ a → Deserved (numberOf (fittedTogether (length room) a))
     rooted full (accepted ps) f = given (λ q. full (q .0)) ps f
     rooted full (refused n) f = go (first-refused (proof (storeOf s) v) keys n f)
       where

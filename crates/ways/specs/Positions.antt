@@ -50,3 +50,7 @@ pub data Position (st : Store) (v i : ℕ) : Answer Grant → Type 0 where
   not-below : (n : ℕ) → Number st v (accepted n) → n ≤ i → Position st v i (refused 20)
   from-root : {r : Record} {n : ℕ} {a : Answer Grant} → AtRoot st v (found r) → Says r n → i < n →
       Lands st [] (found r) i a → Position st v i a
+
+-- The read of a position is stopped by t.
+abbrev pub PositionStopped : Store → ℕ → ℕ → Trouble → Type 0
+PositionStopped st v i t = Position st v i (refused (refusalOf t))
