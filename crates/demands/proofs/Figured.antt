@@ -138,10 +138,10 @@ module _ (first last : ℕ) (s room f t g : Bytes) (h : SoundBytes s) (right : r
     grants = λ v a b. figures-are v a b .leaves ∙ leaves-are-grants (treeAtVersion st v);
     alike = λ v w a b c d e. part-is v a b ∙ ap (λ x. figuresBytes (figuresOf x)) e ∙ sym (part-is w c d);
     empty = λ v a b e.
-        let kept : Kept st v = (omega (arith, range .first-kept .0), omega (arith, range .last-kept .1)) in
+        let kept : Kept st v = (omega (arith, range .0 .0), omega (arith, range .1 .1)) in
         part-is v a b ∙ ap (λ x. figuresBytes (figuresOf x)) (no-grant-no-node leafHash innerHash st (h .sound) v kept e) ∙ nothing-told;
     rest =
-        let long : length bytes ≡ 16 * (last - first + 1) = versions-long st first (suc last - first) ∙ omega (arith, range .some) in
+        let long : length bytes ≡ 16 * (last - first + 1) = versions-long st first (suc last - first) ∙ omega (arith, range .2) in
         ap (drop (16 * (last - first + 1))) room-is ∙ drop-at bytes (drop (length bytes) room) (16 * (last - first + 1)) long
         ∙ ap (λ n. drop n room) long;
     distinct = distinct-is;

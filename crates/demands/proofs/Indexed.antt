@@ -38,7 +38,7 @@ use Rattle.refusals.specs.Exactly.{Table, Exactly, NoneOf, low, Names}
 use Rattle.ways.specs.Ways.{RootStopped, KeyStopped, ProofStopped}
 use Rattle.ways.specs.Positions.{PositionStopped}
 use Rattle.refusals.specs.Tables.{StopsPalette, TooLong, headerRows, testsOf, rootRows, getRows, atRows, proveRows, paletteRows}
-use Rattle.refusals.proofs.Parts.{WrongLength, TooLongTogether}
+use Rattle.refusals.proofs.Parts.{Row, WrongLength, TooLongTogether}
 use Rattle.refusals.proofs.Exactly.{exactly}
 use Rattle.refusals.proofs.Headers.{Header, wrong-length, wrong-header, right, header-is, records-formed}
 use Rattle.refusals.proofs.Stopped.{Stopped, stopped-past, stopped-within, stopped-first, stopped-found, stopped-names}
@@ -46,7 +46,7 @@ use Rattle.refusals.proofs.Walks.{kept-said, root-stopped, get-stopped, prove-s
 use Rattle.refusals.proofs.Positions.{number-stopped, position-stopped}
 use Rattle.refusals.proofs.Palettes.{palette-stopped}
 use Rattle.contracts.specs.Contracts.{ReadsRootBy, ReadsKeyBy, CountsBy, ReadsAtBy, ProvesBy, PalettesBy}
-use Rattle.demands.specs.Indexed.{WrongLengths, rowsBy, NoneTwice, AsPlain}
+use Rattle.demands.specs.Indexed.{rowsBy, NoneTwice, AsPlain}
 use Rattle.demands.proofs.Refusals.{refused-of}
 use Rattle.demands.proofs.Exact.{key-stopped, list-stopped, never-lost}
 
@@ -167,6 +167,9 @@ pub sound-indexed-as-plain : {s : Bytes} → SoundBytes s → (table : List ℕ)
 sound-indexed-as-plain {s} w table many v = indexed-as-plain s table v many (sound-none-twice w v)
 
 -- Rows 1 and 2 with a table.
+abbrev pub WrongLengths : Bytes → List ℕ → Type 0
+WrongLengths s table = Row 1 (rowsBy s table (headerRows s))
+
 module _ (s : Bytes) (table : List ℕ) where
   -- row 1 by the test of both lengths
   not-many : asMany s table ≡ false → WrongLengths s table

@@ -35,7 +35,8 @@ use Rattle.refusals.proofs.Headers.{length-wrong, length-right, Header, wrong-l
 use Rattle.refusals.proofs.Batches.{batch-first}
 use Rattle.refusals.proofs.Walks.{prune-first}
 use Rattle.contracts.specs.Contracts.{Formats, Applies, Prunes, Indexes, TellsIndex, FormatsIndexed, AppliesIndexed, PrunesIndexed}
-use Rattle.demands.specs.Indexed.{WrongLengths, rowsBy}
+use Rattle.demands.specs.Indexed.{rowsBy}
+use Rattle.demands.proofs.Indexed.{WrongLengths}
 use Rattle.demands.proofs.Refusals.{never-0, apply-refusals, prune-refusals}
 use Rattle.demands.specs.Tabled.{tellRows, keepRows, Together, formatted-both, built-for, then-formatted, then-applied, then-pruned, then-built, then-looked}
 

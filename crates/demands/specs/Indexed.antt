@@ -16,15 +16,13 @@ use Rattle.refusals.specs.Tables.{HasSlots, WrongSize}
 use Rattle.contracts.specs.Contracts.{ReadsRoot, ReadsKey, Counts, ReadsAt, Proves, Palettes}
 use Rattle.contracts.specs.Contracts.{ReadsRootBy, ReadsKeyBy, CountsBy, ReadsAtBy, ProvesBy, PalettesBy}
 
--- 1: the store's length isn't 24 + 128n, n in 1 to 16,384, or the table hasn't n entries.
-abbrev pub WrongLengths : Bytes → List ℕ → Type 0
-WrongLengths s table = WrongSize (λ n. HasSlots counted s n × (length table ≡ n))
-
--- The rows of a call that is lent a table of slot numbers: those of the plain call, with this 1.
+-- The rows of a call that is lent a table of slot numbers: those of the plain call, but 1 is also for a table that
+-- hasn't n entries.
 abbrev pub rowsBy : Bytes → List ℕ → Table → Table
 rowsBy s table [] = []
 rowsBy s table (row ∷ rows) =
-    (row .0, cond (eqb (row .0) 1) (WrongLengths s table) (row .1)) ∷ rowsBy s table rows
+    let wrong = WrongSize (λ n. HasSlots counted s n × (length table ≡ n)) in
+    (row .0, cond (eqb (row .0) 1) wrong (row .1)) ∷ rowsBy s table rows
 
 -- No two slots match where version v is read: nothing is looked for of a version that isn't kept.
 abbrev pub NoneTwice : Bytes → ℕ → Type 0

@@ -4,14 +4,14 @@ use native.Mathlib.Omega.{arith}
 use mathlib.Core.Path.{_≡_, refl, ap, ap₂, sym, _∙_, subst}
 use mathlib.Core.Logic.{_↔_}
 use mathlib.Core.Bool.{true}
-use mathlib.Core.List.{List, [], _∷_, _++_}
+use mathlib.Core.List.{List, [], _∷_, _++_, map}
 use borrow.Author.Tests.{le-ltb}
 use Rattle.terms.specs.Bits.{Bytes, All}
 use Rattle.terms.specs.Records.{Proof, Store}
 use Rattle.meaning.specs.Calls.{Answer, refused, accepted, isKept}
 use Rattle.meaning.specs.Proving.{proof}
 use Rattle.palette_rules.specs.Palette.{followed, inTurn, fittedTogether, palette}
-use Rattle.palette_rules.specs.Claims.{ProofOfEach, Proved, FirstAsked, FirstRefused}
+use Rattle.palette_rules.specs.Claims.{ProofOfEach, FirstAsked, FirstRefused}
 
 clash : {A B : Type 0} {n : ℕ} {a : B} → refused n ≡ accepted a → A
 clash e = let z : _≡_ {A = ℕ} 0 1 = cc in absurd (omega arith)
@@ -40,8 +40,21 @@ module _ (single : Bytes → Answer Proof) where
   each-proved (k ∷ keys) [] h = absurd h
   each-proved (k ∷ keys) (p ∷ ps) h = ap₂ followed (h .0) (each-proved keys ps (h .1))
 
+  -- each has its proof exactly if the answers are these
+  pub each-mapped : (keys : List Bytes) (ps : List Proof) → (map single keys ≡ map accepted ps) ↔ ProofOfEach single keys ps
+  each-mapped [] [] = (λ e. tt, λ h. refl)
+  each-mapped [] (p ∷ ps) = (λ e. let z : _≡_ {A = ℕ} 0 1 = cc in absurd (omega arith), λ h. absurd h)
+  each-mapped (k ∷ keys) [] = (λ e. let z : _≡_ {A = ℕ} 0 1 = cc in absurd (omega arith), λ h. absurd h)
+  each-mapped (k ∷ keys) (p ∷ ps) = (
+    λ e. let first : single k ≡ accepted p = cc in let rest : map single keys ≡ map accepted ps = cc in (first, each-mapped keys ps .0 rest),
+    λ h. ap₂ _∷_ (h .0) (each-mapped keys ps .1 (h .1)),
+  )
+
   -- refused exactly with the first refusal
-  one-more : {P : Bytes → Type 0} (k : Bytes) (keys : List Bytes) → Proved single k → FirstAsked single P keys → FirstAsked single P (k ∷ keys)
+  abbrev Proved : Bytes → Type 0
+  Proved k = (p : Proof) × (single k ≡ accepted p)
+
+  one-more : {P : Bytes → Type 0} (k : Bytes) (keys : List Bytes) → Proved k → FirstAsked single P keys → FirstAsked single P (k ∷ keys)
   one-more k keys p w = record {
     earlier = k ∷ w .earlier;
     key = w .key;
@@ -63,7 +76,7 @@ module _ (single : Bytes → Answer Proof) where
   first-refused [] n e = clash (sym e)
   first-refused (k ∷ keys) n e = followed-refused k keys n (single k) (inTurn single keys) refl refl e (λ m f. first-refused keys m f)
 
-  refused-at : (earlier : List Bytes) (key : Bytes) (later : List Bytes) (n : ℕ) → All (Proved single) earlier → single key ≡ refused n →
+  refused-at : (earlier : List Bytes) (key : Bytes) (later : List Bytes) (n : ℕ) → All Proved earlier → single key ≡ refused n →
       inTurn single (earlier ++ (key ∷ later)) ≡ refused n
   refused-at [] key later n h e = ap (λ a. followed a (inTurn single later)) e
   refused-at (k ∷ earlier) key later n h e = ap₂ followed (h .0 .1) (refused-at earlier key later n (h .1) e)

@@ -13,17 +13,13 @@ ProofOfEach single [] (p ∷ ps) = ⊥
 ProofOfEach single (k ∷ keys) [] = ⊥
 ProofOfEach single (k ∷ keys) (p ∷ ps) = (single k ≡ accepted p) × ProofOfEach single keys ps
 
--- A single call that is given its proof.
-abbrev pub Proved : (Bytes → Answer Proof) → Bytes → Type 0
-Proved single k = (p : Proof) × (single k ≡ accepted p)
-
 -- A key of the list of which P holds, where each before it, in the order asked, is given its proof.
 pub record FirstAsked (single : Bytes → Answer Proof) (P : Bytes → Type 0) (keys : List Bytes) : Type 0 where
   pub earlier : List Bytes
   pub key : Bytes
   pub later : List Bytes
   pub order : keys ≡ earlier ++ (key ∷ later)
-  pub proved : All (Proved single) earlier
+  pub proved : All (λ k. (p : Proof) × (single k ≡ accepted p)) earlier
   pub holds : P key
 
 -- The first single call refused, in the order asked, is refused with n.

@@ -32,12 +32,12 @@ module _ (s : Bytes) (first last : ℕ) where
   pub range-said : rangeRight (storeOf s) first last ≡ true → KeptRange s first last
   range-said e =
       let r = range-right (storeOf s) first last e in
-      record { first-kept = r .first-kept; last-kept = r .last-kept; some = r .ordered; few = r .few }
+      (r .first-kept, r .last-kept, r .ordered, r .few)
 
   said-range : KeptRange s first last → rangeRight (storeOf s) first last ≡ true
   unfolding rangeRight
   said-range w =
-      rw (is-kept (storeOf s) first (w .first-kept), is-kept (storeOf s) last (w .last-kept), le-leb first last (w .some), lt-ltb (last - first) mostVersions (omega (arith, w .few, w .some)))
+      rw (is-kept (storeOf s) first (w .0), is-kept (storeOf s) last (w .1), le-leb first last (w .2), lt-ltb (last - first) mostVersions (omega (arith, w .3, w .2)))
 
   pub figures-first : (room : Bytes) → First (rangeRows s first last room) (numberOf (figures first last (length room) (storeOf s) .answer))
   unfolding figures refuse
@@ -46,8 +46,8 @@ module _ (s : Bytes) (first last : ℕ) where
       fits : (b : Bool) → KeptRange s first last → ltb (length room) (figuresSize * (suc last - first)) ≡ b →
           First (drop 1 (rangeRows s first last room))
           (numberOf (cond b (refuse 9 (storeOf s)) (record { answer = accepted (quarterOf (storeOf s) first last); store = storeOf s }) .answer))
-      fits true w e = inl (omega (arith, ltb-true (length room) (figuresSize * (suc last - first)) e, w .some), refl)
-      fits false w e = inr (λ l. absurd (omega (arith, ltb-false (length room) (figuresSize * (suc last - first)) e, w .some)), refl)
+      fits true w e = inl (omega (arith, ltb-true (length room) (figuresSize * (suc last - first)) e, w .2), refl)
+      fits false w e = inr (λ l. absurd (omega (arith, ltb-false (length room) (figuresSize * (suc last - first)) e, w .2)), refl)
 
       range : (b : Bool) → rangeRight (storeOf s) first last ≡ b →
           First (rangeRows s first last room)

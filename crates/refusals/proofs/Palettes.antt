@@ -21,7 +21,7 @@ use Rattle.ways.proofs.Theorems.{one-trouble, empty-exactly, proof-stopped-exac
 use Rattle.layout.specs.Stores.{storeOf}
 use Rattle.palette_rules.specs.Palette.{wholeKeys, keysIn, followed, inTurn, lengthTogether, fittedTogether, palette}
 use Rattle.palette_rules.specs.Claims.{FirstRefused}
-use Rattle.palette_rules.proofs.Turns.{proofs-of-each, first-refused, refused-first, each-proved}
+use Rattle.palette_rules.proofs.Turns.{proofs-of-each, each-mapped, first-refused, refused-first, each-proved}
 use Rattle.palette_rules.proofs.Keys.{keys-are-32, keys-counted, list-is-keys, flat-is-whole}
 use Rattle.ways.specs.Ways.{EmptyVersion}
 use Rattle.refusals.specs.Tables.{NotKeys, StopsPalette}
@@ -62,9 +62,9 @@ module _ (s : Bytes) (formed : Formed (storeOf s)) (v : ℕ) (keys : List Bytes)
 
     fits : (ps : List Proof) → inTurn (proof (storeOf s) v) keys ≡ accepted ps → (b : Bool) → ltb (length room) (lengthTogether ps) ≡ b →
         First ((9, TooLongTogether s v keys room) ∷ []) (numberOf {A = List Proof} (cond b (refused 9) (accepted ps)))
-    fits ps f true e = inl ((ps, proofs-of-each (proof (storeOf s) v) keys ps f, ltb-true (length room) (lengthTogether ps) e), refl)
+    fits ps f true e = inl ((ps, each-mapped (proof (storeOf s) v) keys ps .1 (proofs-of-each (proof (storeOf s) v) keys ps f), ltb-true (length room) (lengthTogether ps) e), refl)
     fits ps f false e =
-        inr (λ w. absurd (omega (arith, ltb-false (length room) (lengthTogether ps) e, ap lengthTogether (same-proofs (sym f ∙ each-proved (proof (storeOf s) v) keys (w .0) (w .1))), w .2)), refl)
+        inr (λ w. absurd (omega (arith, ltb-false (length room) (lengthTogether ps) e, ap lengthTogether (same-proofs (sym f ∙ each-proved (proof (storeOf s) v) keys (w .0) (each-mapped (proof (storeOf s) v) keys (w .0) .0 (w .1)))), w .2)), refl)
 
     given : (EmptyVersion (storeOf s) v × (keys ≡ [] → ⊥) → ⊥) → (ps : List Proof) → inTurn (proof (storeOf s) v) keys ≡ accepted ps →
         Deserved (numberOf (fittedTogether (length room) (accepted ps)))

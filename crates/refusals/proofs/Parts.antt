@@ -2,16 +2,16 @@
 use Prim.Native.Nat.{ℕ, _<_}
 use mathlib.Core.Path.{_≡_}
 use mathlib.Core.Bool.{cond}
-use mathlib.Core.List.{List, [], _∷_}
+use mathlib.Core.List.{List, [], _∷_, map}
 use lib.ListN.{length, drop}
 use lib.Dec.{eqb}
 use Rattle.terms.specs.declared.Form.the-variants.{Counted as counted}
 use Rattle.terms.specs.Bits.{Bytes}
 use Rattle.terms.specs.Records.{Proof}
 use Rattle.meaning.specs.Sound.{Kept}
+use Rattle.meaning.specs.Calls.{accepted}
 use Rattle.meaning.specs.Proving.{proof}
 use Rattle.palette_rules.specs.Palette.{lengthTogether}
-use Rattle.palette_rules.specs.Claims.{ProofOfEach}
 use Rattle.ways.specs.Ways.{EmptyVersion}
 use Rattle.layout.specs.Stores.{storeOf}
 use Rattle.refusals.specs.Exactly.{Table}
@@ -57,4 +57,4 @@ askingRows s v keys = (8, NotKept s v) ∷ (14, EmptyVersion (storeOf s) v × (k
 
 -- 9 of a palette
 abbrev pub TooLongTogether : Bytes → ℕ → List Bytes → Bytes → Type 0
-TooLongTogether s v keys room = (ps : List Proof) × ProofOfEach (proof (storeOf s) v) keys ps × (length room < lengthTogether ps)
+TooLongTogether s v keys room = (ps : List Proof) × (map (proof (storeOf s) v) keys ≡ map accepted ps) × (length room < lengthTogether ps)

@@ -1,6 +1,6 @@
 -- A read that tests some rows first and then is stopped by the first trouble that it meets: its number is exact in the low half, and its slot in
 -- the high one. Assumes nothing.
-use Prim.Native.Nat.{ℕ, _+_, _*_, _<_}
+use Prim.Native.Nat.{ℕ, _+_, _*_, _/_, _<_}
 use native.Mathlib.Omega.{arith}
 use mathlib.Core.Path.{_≡_, refl, ap, sym, _∙_, subst}
 use mathlib.Core.Logic.{_⊎_, inl, inr}
@@ -10,7 +10,7 @@ use lib.Dec.{ltb}
 use borrow.Author.Tests.{ltb-true}
 use Rattle.terms.proofs.Tests.{and-left, and-right}
 use Rattle.meaning.specs.Reading.{Trouble, lostRecord, spoiltRecord, strayLeaf, beside, refusalOf}
-use Rattle.refusals.specs.Exactly.{Table, Exactly, NoneOf, low, high, Names}
+use Rattle.refusals.specs.Exactly.{Table, Exactly, NoneOf, low, Names}
 use Rattle.refusals.specs.Tables.{Unsound}
 use Rattle.refusals.proofs.Exactly.{First, past, within, distinct, exactly}
 
@@ -50,12 +50,14 @@ no-first (row ∷ rows) n none (inl f) = absurd (none .0 (f .0))
 no-first (row ∷ rows) n none (inr f) = no-first rows n (none .1) (f .1)
 
 -- the halves of a number
+abbrev high : ℕ → ℕ
+high r = r / 4294967296
+
 small-low : (n : ℕ) → n < 4294967296 → low n ≡ n
 unfolding low
 small-low n h = omega arith
 
 small-high : (n : ℕ) → n < 4294967296 → high n ≡ 0
-unfolding high
 small-high n h = omega arith
 
 beside-low : (i : ℕ) → low (beside 3 i) ≡ 3
@@ -63,7 +65,7 @@ unfolding low beside
 beside-low i = omega arith
 
 beside-high : (i : ℕ) → high (beside 3 i) ≡ i + 1
-unfolding high beside
+unfolding beside
 beside-high i = omega arith
 
 clash : {A : Type 0} → _≡_ {A = ℕ} 0 1 → A

@@ -38,6 +38,9 @@ module _ (s : Bytes) (v : ℕ) (k room : Bytes) where
   abbrev proving : Table
   proving = drop 3 (proveRows s v k room)
 
+  twelve-before-one : Row 12 (getRows s v k) → Row 1 (getRows s v k) → First (getRows s v k) 12
+  twelve-before-one a b = inl (a, refl)
+
   eight-before-three : Row 8 key → Row 3 key → First key 8
   eight-before-three a b = inl (a, refl)
 

@@ -6,7 +6,7 @@ use Prim.Native.Nat.{ℕ, _+_, _*_, _-_, _≤_, _<_}
 use mathlib.Core.Path.{_≡_}
 use mathlib.Core.Logic.{_⊎_}
 use mathlib.Core.Bool.{false, true, cond, _||_}
-use mathlib.Core.List.{List, [], _∷_, _++_}
+use mathlib.Core.List.{List, [], _∷_, _++_, map}
 use mathlib.Core.Option.{none}
 use lib.ListN.{length}
 use lib.Dec.{eqb}
@@ -22,7 +22,7 @@ use Rattle.meaning.specs.Calls.{accepted, ascending}
 use Rattle.meaning.specs.Reading.{Trouble, lostRecord, spoiltRecord, strayLeaf, Verdict}
 use Rattle.meaning.specs.Proving.{proof, proofLength}
 use Rattle.palette_rules.specs.Palette.{keySize, mostKeys, keysIn, lengthTogether}
-use Rattle.palette_rules.specs.Claims.{ProofOfEach, FirstAsked}
+use Rattle.palette_rules.specs.Claims.{FirstAsked}
 use Rattle.changed.specs.Changes.{items, itemSize}
 use Rattle.changed.specs.Compare.{changesOf, visitsOf}
 use Rattle.checker.specs.Holding.{Holds}
@@ -79,9 +79,8 @@ abbrev pub applyRows : ℕ → Bytes → Bytes → Table
 applyRows number batch s =
     let latest = treeAtVersion (storeOf s) (storeOf s .latest) in
     let new : List Ask → List Record = λ as′. newRecords leafHash innerHash number (nextTree number latest as′) in
-    soundRows s ++
     -- the batch isn't whole records in form, or has over 1,024
-    (4, Asks batch none) ∷
+    soundRows s ++ (4, Asks batch none) ∷
     -- keys not strictly ascending, of a batch in form: 4 is tested before it
     (5, (as′ : List Ask) × AskedBy batch as′ × (ascending as′ ≡ false)) ∷
     -- the number given is not above latest (2026-13)
@@ -126,15 +125,19 @@ atRows s v i =
     headerRows s ++ (8, Kept (storeOf s) v → ⊥) ∷ (20, (n : ℕ) × Number (storeOf s) v (accepted n) × (n ≤ i)) ∷
     stopRows (PositionStopped (storeOf s) v i)
 
+-- Proving, before there is a proof: 12; then 1, 2; then 8; 14 in an empty version (2026-03); 17 or 3.
+abbrev pub proofRows : Bytes → ℕ → Bytes → Table
+proofRows s v k =
+    (12, Not32 (k ∷ [])) ∷ headerRows s ++ (8, Kept (storeOf s) v → ⊥) ∷ (14, EmptyVersion (storeOf s) v) ∷
+    stopRows (ProofStopped (storeOf s) v k)
+
 -- 9: the proof is longer than the buffer.
 abbrev pub TooLong : Bytes → ℕ → Bytes → Bytes → Type 0
 TooLong s v k room = (p : Proof) × (proof (storeOf s) v k ≡ accepted p) × (length room < proofLength p)
 
--- Proving: 12; then 1, 2; then 8; 14 in an empty version (2026-03); 17 or 3; 9.
+-- Proving: these, then 9.
 abbrev pub proveRows : Bytes → ℕ → Bytes → Bytes → Table
-proveRows s v k room =
-    (12, Not32 (k ∷ [])) ∷ headerRows s ++ (8, Kept (storeOf s) v → ⊥) ∷ (14, EmptyVersion (storeOf s) v) ∷
-    stopRows (ProofStopped (storeOf s) v k) ++ (9, TooLong s v k room) ∷ []
+proveRows s v k room = proofRows s v k ++ (9, TooLong s v k room) ∷ []
 
 -- 10: the proof isn't one whole record in form, no byte over.
 abbrev pub ProofOffForm : Bytes → Type 0
@@ -151,9 +154,8 @@ verifyRows root k x = (12, Not32 (root ∷ k ∷ [])) ∷ (10, ProofOffForm x) �
 -- Document 02, 2026-01: 'Order: 1, 2, 3 by full soundness, 8, 13, 9.'
 abbrev pub changesRows : Bytes → ℕ → ℕ → ℕ → Bytes → Table
 changesRows s first second limit room =
-    soundRows s ++
     -- one of the two versions isn't in oldest to latest
-    (8, Kept (storeOf s) first × Kept (storeOf s) second → ⊥) ∷
+    soundRows s ++ (8, Kept (storeOf s) first × Kept (storeOf s) second → ⊥) ∷
     -- the count of visits is above the limit
     (13, limit < visitsOf (storeOf s) first second) ∷
     -- the list is longer than the buffer
@@ -187,9 +189,10 @@ StopsPalette s v keys t = FirstAsked (proof (storeOf s) v) (λ k. ProofStopped (
 -- first key refused; 9, all together don't fit.
 abbrev pub paletteRows : Bytes → ℕ → Bytes → Bytes → Table
 paletteRows s v list room =
+    let keys = keysIn list in
     (12, NotKeys list) ∷ headerRows s ++ (8, Kept (storeOf s) v → ⊥) ∷
-    (14, EmptyVersion (storeOf s) v × (keysIn list ≡ [] → ⊥)) ∷ stopRows (StopsPalette s v (keysIn list)) ++
-    (9, (ps : List Proof) × ProofOfEach (proof (storeOf s) v) (keysIn list) ps × (length room < lengthTogether ps)) ∷ []
+    (14, EmptyVersion (storeOf s) v × (keys ≡ [] → ⊥)) ∷ stopRows (StopsPalette s v keys) ++
+    (9, (ps : List Proof) × (map (proof (storeOf s) v) keys ≡ map accepted ps) × (length room < lengthTogether ps)) ∷ []
 
 -- Many proofs at once: 12; 10, the bytes aren't a piece for each key one after the other, none over; 9, fewer than 34
 -- bytes for each answer.
@@ -225,11 +228,9 @@ findingRows s v k x =
     (10, ProofOffForm x) ∷ (11, DoesNotHold (rootOfVersion s v) k x) ∷ []
 
 -- A range of 1 to 1,024 kept versions (document 02, 2026-14).
-pub record KeptRange (s : Bytes) (first last : ℕ) : Type 0 where
-  pub first-kept : Kept (storeOf s) first
-  pub last-kept : Kept (storeOf s) last
-  pub some : first ≤ last
-  pub few : last < first + mostVersions
+abbrev pub KeptRange : Bytes → ℕ → ℕ → Type 0
+KeptRange s first last =
+    Kept (storeOf s) first × Kept (storeOf s) last × (first ≤ last) × (last < first + mostVersions)
 
 -- The figures: 1, 2, 3 by full soundness; then 8, any other range; 9, 16 bytes for each version don't fit.
 abbrev pub figuresRows : Bytes → ℕ → ℕ → Bytes → Table
@@ -250,11 +251,9 @@ abbrev pub pocketVerifyRows : Bytes → Bytes → Bytes → Table
 pocketVerifyRows root k x =
     (12, Not32 (root ∷ k ∷ [])) ∷ (10, ProofOffForm x) ∷ (19, OutsidePocket x) ∷ (11, DoesNotHold root k x) ∷ []
 
--- The pocket prover: 12; then 1, 2; then 8, 14, 17 or 3, 19, 9.
+-- The pocket prover: those of proving before there is a proof; then 19, 9.
 abbrev pub pocketProveRows : Bytes → ℕ → Bytes → Bytes → Table
-pocketProveRows s v k room =
-    (12, Not32 (k ∷ [])) ∷ headerRows s ++ (8, Kept (storeOf s) v → ⊥) ∷ (14, EmptyVersion (storeOf s) v) ∷
-    stopRows (ProofStopped (storeOf s) v k) ++ (19, ProvedOutside s v k) ∷ (9, TooLong s v k room) ∷ []
+pocketProveRows s v k room = proofRows s v k ++ (19, ProvedOutside s v k) ∷ (9, TooLong s v k room) ∷ []
 
 -- The check of a shelf's proof: 12; then 21, over 12 bits; 10, the bytes aren't one whole one in form; 11.
 abbrev pub shelfVerifyRows : Bytes → ℕ → Bytes → Bytes → Table

@@ -17,8 +17,8 @@ use Rattle.meaning.specs.Sight.{scan}
 use Rattle.meaning.specs.Reading.{Trouble, strayLeaf}
 use Rattle.meaning.specs.Reading as reading
 use Rattle.meaning.specs.Proving.{step, isGap, Descended, stuck, reached, raisedBy, descend, Sought, lostWay, sought, turnsAway, fromTrail}
-use Rattle.ways.specs.Ways.{Present, to, Inner, Stop, lost, leaf, missing, Met, stop, found, AtChild, Way, ended, misplaced, at-leaf, onward, TurnedAway, DescentLost}
-use Rattle.ways.proofs.Walking.{Formed, inner, inner-short, child-form, child-above, not-missing, missing-met, at-child, seenMet, child-seen, way-ends, passOf}
+use Rattle.ways.specs.Ways.{to, Inner, Stop, lost, leaf, missing, Met, stop, found, AtChild, Way, ended, misplaced, at-leaf, onward, TurnedAway, DescentLost}
+use Rattle.ways.proofs.Walking.{Formed, Present, inner, inner-short, child-form, child-above, not-missing, missing-met, at-child, seenMet, child-seen, way-ends, passOf}
 
 module _ (st : Store) (formed : Formed st) where
   -- a gap is seen exactly where there is no child

@@ -18,10 +18,6 @@ use Rattle.meaning.specs.Store.{find, rootOf, childOn}
 use Rattle.meaning.specs.Reading.{Trouble, lostRecord, spoiltRecord, strayLeaf}
 use Rattle.meaning.specs.Proving.{beyond}
 
--- A child is present.
-abbrev pub Present : Child → Type 0
-Present c = c .version ≡ 0 → ⊥
-
 -- The version, bit count and bits fields of a slot's bytes agree with a version and place.
 abbrev pub Agrees : ℕ → Place → Bytes → Type 0
 Agrees v p x = (versionIn x ≡ v) × (countIn x ≡ length p) × (bitsIn x ≡ pack 32 p)
@@ -64,7 +60,7 @@ AtRoot st v m = Meets st (rootOf st v) (AgreesRoot v) missing m
 -- What is met at the place p for the child c: a missing child; or a present one of the first, second or third kind.
 pub data AtChild (st : Store) (p : Place) (c : Child) : Met → Type 0 where
   no-child : c .version ≡ 0 → AtChild st p c (stop missing)
-  child : {m : Met} → Present c →
+  child : {m : Met} → (c .version ≡ 0 → ⊥) →
       Meets st (find (c .version) p (st .slots)) (Agrees (c .version) p) (lost lostRecord) m → AtChild st p c m
 
 -- Which way to go below an inner record, by its place and its children.
@@ -107,7 +103,7 @@ Walk st v k passed end = (met : Met) × AtRoot st v met × Way st (byKey k) [] [
 
 -- Where the walk turned away from side b (or wanted to), and a child is present there.
 abbrev pub TurnedAway : Side → Bytes → Inner → Type 0
-TurnedAway b k i = (bit (length (i .place)) k ≡ not b) × Present (childOn b (i .left) (i .right))
+TurnedAway b k i = (bit (length (i .place)) k ≡ not b) × (childOn b (i .left) (i .right) .version ≡ 0 → ⊥)
 
 -- The descent to the neighbour on side b is stopped: from the deepest such record, into that child, then to the other
 -- side where there is a child.
