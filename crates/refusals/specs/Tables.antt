@@ -1,5 +1,5 @@
--- Document 01, 'Numbers of refusal', with those of document 02: the table of each public call, each row a proposition in
--- their words. 'Order: 12; then 1, 2; apply 3, 4, 5, 6, 7; prune 3, 8; reads 8, 3, 9; the proof check 10, 11. Format
+-- Document 01, 'Numbers of refusal', with document 02's: the table of each public call, each row a proposition in their
+-- words. 'Order: 12; then 1, 2; apply 3, 4, 5, 6, 7; prune 3, 8; reads 8, 3, 9; the proof check 10, 11. Format
 -- gives only 1.' By 2026-03 proving tests for 14 after 8; by 2026-13 apply tests for 18 where 6 was; by 2026-09 a
 -- position is tested for 20 after the root's lookup. A hash is never refused. Assumes nothing.
 use Prim.Native.Nat.{ℕ, _+_, _*_, _-_, _≤_, _<_}
@@ -96,7 +96,7 @@ pruneRows n s = soundRows s ++ (8, Kept (storeOf s) n → ⊥) ∷ []
 abbrev pub Unsound : (Trouble → Type 0) → Type 0
 Unsound stops = stops strayLeaf ⊎ ((i : ℕ) × stops (spoiltRecord i))
 
--- 17 of the reads, or 3: they exclude each other. 17 is for a present child that no slot matches, the first that is met.
+-- 17 of the reads, a present child that no slot matches, or 3: the first that is met, so they exclude each other.
 abbrev pub stopRows : (Trouble → Type 0) → Table
 stopRows stops = (17, stops lostRecord) ∷ (3, Unsound stops) ∷ []
 
