@@ -21,7 +21,7 @@ use Rattle.ways.proofs.Theorems.{one-trouble, empty-exactly, proof-stopped-exac
 use Rattle.layout.specs.Stores.{storeOf}
 use Rattle.palette_rules.specs.Palette.{wholeKeys, keysIn, followed, inTurn, lengthTogether, fittedTogether, palette}
 use Rattle.palette_rules.specs.Claims.{FirstRefused}
-use Rattle.palette_rules.proofs.Turns.{proofs-of-each, each-mapped, first-refused, refused-first, each-proved}
+use Rattle.palette_rules.proofs.Turns.{proofs-of-each, each-mapped, asked-as, one-asked, first-refused, refused-first, each-proved}
 use Rattle.palette_rules.proofs.Keys.{keys-are-32, keys-counted, list-is-keys, flat-is-whole}
 use Rattle.ways.specs.Ways.{EmptyVersion}
 use Rattle.refusals.specs.Tables.{NotKeys, StopsPalette}
@@ -51,14 +51,7 @@ module _ (s : Bytes) (formed : Formed (storeOf s)) (v : ℕ) (keys : List Bytes)
     stops-refused : (t : Trouble) → StopsPalette s v keys t → inTurn (proof (storeOf s) v) keys ≡ refused (refusalOf t)
     stops-refused t w =
         refused-first (proof (storeOf s) v) keys (refusalOf t)
-        (record {
-          earlier = w .earlier;
-          key = w .key;
-          later = w .later;
-          order = w .order;
-          proved = w .proved;
-          holds = proof-is s formed v (w .key) kept ∙ proof-stopped-exactly (storeOf s) formed v (w .key) t .1 (w .holds);
-        })
+        (asked-as (proof (storeOf s) v) (λ k h. proof-is s formed v k kept ∙ proof-stopped-exactly (storeOf s) formed v k t .1 h) keys w)
 
     fits : (ps : List Proof) → inTurn (proof (storeOf s) v) keys ≡ accepted ps → (b : Bool) → ltb (length room) (lengthTogether ps) ≡ b →
         First ((9, TooLongTogether s v keys room) ∷ []) (numberOf {A = List Proof} (cond b (refused 9) (accepted ps)))
@@ -77,22 +70,15 @@ module _ (s : Bytes) (formed : Formed (storeOf s)) (v : ℕ) (keys : List Bytes)
     rooted full (refused n) f = go (first-refused (proof (storeOf s) v) keys n f)
       where
         go : FirstRefused (proof (storeOf s) v) keys n → Deserved n
-        go w = by (refused-by s formed v (w .key) kept (w .holds))
+        go w = let (k, h) = one-asked (proof (storeOf s) v) keys w in by k h (refused-by s formed v k kept h)
           where
-            by : ((t : Trouble) × (n ≡ refusalOf t)) ⊎ (n ≡ 14) → Deserved n
-            by (inl (t, e)) =
+            by : (k : Bytes) → proof (storeOf s) v k ≡ refused n → ((t : Trouble) × (n ≡ refusalOf t)) ⊎ (n ≡ 14) → Deserved n
+            by k h (inl (t, e)) =
                 met (not-8, (λ q. full (q .0), tt)) t
-                (record {
-                  earlier = w .earlier;
-                  key = w .key;
-                  later = w .later;
-                  order = w .order;
-                  proved = w .proved;
-                  holds = proof-stopped-exactly (storeOf s) formed v (w .key) t .0 (sym (proof-is s formed v (w .key) kept) ∙ w .holds ∙ ap refused e);
-                })
+                (asked-as (proof (storeOf s) v) (λ j i. proof-stopped-exactly (storeOf s) formed v j t .0 (sym (proof-is s formed v j kept) ∙ i ∙ ap refused e)) keys w)
                 (λ u p. one-trouble t u (sym e ∙ same-number (sym f ∙ stops-refused u p))) e
-            by (inr fourteen) =
-                absurd (full (empty-exactly (storeOf s) v .0 (fourteen-exactly-without-root (storeOf s) formed v (w .key) .0 (w .holds ∙ ap refused fourteen) .1)))
+            by k h (inr fourteen) =
+                absurd (full (empty-exactly (storeOf s) v .0 (fourteen-exactly-without-root (storeOf s) formed v k .0 (h ∙ ap refused fourteen) .1)))
 
     by-root : (x : Sight) → rootSight (storeOf s) v ≡ x → Deserved (numberOf (fittedTogether (length room) (inTurn (proof (storeOf s) v) keys)))
     by-root (matches r) e = rooted (λ w. let f = sym e ∙ empty-exactly (storeOf s) v .1 w in clash (cc)) (inTurn (proof (storeOf s) v) keys) refl

@@ -21,11 +21,15 @@ use Rattle.meaning.specs.Reading.{lostRecord, spoiltRecord, strayLeaf}
 use Rattle.meaning.specs.Reading as reading
 use Rattle.meaning.proofs.Finding.{found-at}
 use Rattle.ways.proofs.Spoilt.{metBy, node-meets, node-met, root-met}
-use Rattle.ways.specs.Ways.{Rule, byKey, Inner, Stop, lost, leaf, missing, Met, stop, found, first, second, third, AtRoot, AtChild, no-child, child, Way, ended, misplaced, at-leaf, onward}
+use Rattle.ways.specs.Ways.{byKey, Inner, Stop, lost, leaf, missing, Met, stop, found, first, second, third, AtRoot, AtChild, no-child, child, Way, ended, misplaced, at-leaf, onward}
 
 -- records are in form, as those of every store read from bytes are
 abbrev pub Formed : Store → Type 0
 Formed st = (i : ℕ) (r : Record) → At st i r → RecordForm r
+
+-- which way to go below an inner record
+abbrev pub Rule : Type 0
+Rule = Place → Child → Child → Side
 
 -- a child is present
 abbrev pub Present : Child → Type 0

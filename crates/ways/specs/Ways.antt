@@ -41,13 +41,13 @@ pub data Stop : Type 0 where
   leaf : Bytes → Bytes → Stop
   missing : Stop
 
--- What is met where a record is looked for: that the way ends, or a record.
+-- What is met where a record is looked for: an end of the way, or a record.
 pub data Met : Type 0 where
   stop : Stop → Met
   found : Record → Met
 
--- The record of a slot in form that matches; the lowest slot off form that agrees, where none matches; or neither, and
--- the way ends so.
+-- The three kinds of 2026-07: a slot in form matches, with its record; none does and none off form agrees, where the
+-- way ends as given; none does, but the fields of slots off form agree, the lowest of which is slot i.
 pub data Meets (st : Store) (match : Option Record) (agree : Bytes → Type 0) (end : Stop) : Met → Type 0 where
   first : {r : Record} → match ≡ some r → Meets st match agree end (found r)
   second : match ≡ none → ((i : ℕ) → SpoiltIn st agree i → ⊥) → Meets st match agree end (stop end)
@@ -57,22 +57,18 @@ pub data Meets (st : Store) (match : Option Record) (agree : Bytes → Type 0) (
 abbrev pub AtRoot : Store → ℕ → Met → Type 0
 AtRoot st v m = Meets st (rootOf st v) (AgreesRoot v) missing m
 
--- What is met at the place p for the child c: a missing child; or a present one of the first, second or third kind.
+-- What is met at the place p for the child c: a missing child, or a present one of the three kinds.
 pub data AtChild (st : Store) (p : Place) (c : Child) : Met → Type 0 where
   no-child : c .version ≡ 0 → AtChild st p c (stop missing)
   child : {m : Met} → (c .version ≡ 0 → ⊥) →
       Meets st (find (c .version) p (st .slots)) (Agrees (c .version) p) (lost lostRecord) m → AtChild st p c m
 
--- Which way to go below an inner record, by its place and its children.
-abbrev pub Rule : Type 0
-Rule = Place → Child → Child → Side
-
--- The walk follows the key's bits.
-abbrev pub byKey : Bytes → Rule
+-- Which way to go below an inner record, by its place and its children: the walk follows the key's bits.
+abbrev pub byKey : Bytes → Place → Child → Child → Side
 byKey k p l r = bit (length p) k
 
 -- The descent goes to side b where there is a child on side b, else to the other.
-abbrev pub to : Side → Rule
+abbrev pub to : Side → Place → Child → Child → Side
 to b p l r = cond (eqb (childOn b l r .version) 0) (not b) b
 
 -- An inner record that was passed: its place and its children.
@@ -83,7 +79,8 @@ pub record Inner : Type 0 where
 
 -- The way from what is met at the place p, before which some inner records were passed, ends so; in the end these have
 -- been passed, the deepest first.
-pub data Way (st : Store) (rule : Rule) : List Inner → Place → Met → List Inner → Stop → Type 0 where
+pub data Way (st : Store) (rule : Place → Child → Child → Side) :
+    List Inner → Place → Met → List Inner → Stop → Type 0 where
   ended : {before : List Inner} {p : Place} {end : Stop} → Way st rule before p (stop end) before end
   -- a found leaf whose key doesn't begin with its place
   misplaced : {before : List Inner} {p : Place} {r : Record} (k x : Bytes) → r .body ≡ leafBody k x →
