@@ -25,12 +25,11 @@ use Rattle.quarter.proofs.Small.{figures-are-small, distinct-is-small, records-
 use Rattle.quarter.proofs.Told.{leaves-told, inners-told, longest-told, sum-told, versions-long, version-told, distinct-told, records-told, no-grant-no-node, nothing-told}
 use Rattle.contracts.specs.Figures.{totalsAfter, eachBytes}
 use Rattle.refusals.specs.Exactly.{Exactly}
-use Rattle.refusals.specs.Rows.{KeptRange}
-use Rattle.refusals.specs.Orders.{rangeRows}
+use Rattle.refusals.specs.Tables.{KeptRange, figuresRows}
+use Rattle.refusals.proofs.Parts.{rangeRows}
 use Rattle.refusals.proofs.Exactly.{First, exactly}
 use Rattle.refusals.proofs.Figures.{range-said, figures-first}
 use Rattle.contracts.specs.Contracts as contracts
-use Rattle.demands.specs.Tables.{figuresRows}
 use Rattle.demands.specs.Claims.{treeOfVersion, grantsOfVersion, NextVersion, latestOf}
 use Rattle.demands.specs.Quarter.{FiguresAre, partOf, GivesFigures}
 use Rattle.demands.proofs.Refusals.{no-refusal, never-0, header-numbers, refused-of}
@@ -139,10 +138,10 @@ module _ (first last : ℕ) (s room f t g : Bytes) (h : SoundBytes s) (right : r
     grants = λ v a b. figures-are v a b .leaves ∙ leaves-are-grants (treeAtVersion st v);
     alike = λ v w a b c d e. part-is v a b ∙ ap (λ x. figuresBytes (figuresOf x)) e ∙ sym (part-is w c d);
     empty = λ v a b e.
-        let kept : Kept st v = (omega (arith, range .first-kept .0), omega (arith, range .last-kept .1)) in
+        let kept : Kept st v = (omega (arith, range .0 .0), omega (arith, range .1 .1)) in
         part-is v a b ∙ ap (λ x. figuresBytes (figuresOf x)) (no-grant-no-node leafHash innerHash st (h .sound) v kept e) ∙ nothing-told;
     rest =
-        let long : length bytes ≡ 16 * (last - first + 1) = versions-long st first (suc last - first) ∙ omega (arith, range .some) in
+        let long : length bytes ≡ 16 * (last - first + 1) = versions-long st first (suc last - first) ∙ omega (arith, range .2) in
         ap (drop (16 * (last - first + 1))) room-is ∙ drop-at bytes (drop (length bytes) room) (16 * (last - first + 1)) long
         ∙ ap (λ n. drop n room) long;
     distinct = distinct-is;

@@ -30,7 +30,7 @@ use Rattle.layout.specs.Stores.{storeOf}
 use Rattle.promises.specs.Check.{sound}
 use Rattle.promises.specs.Calls.{SoundBytes}
 use Rattle.promises.proofs.Check.{one-answer}
-use Rattle.refusals.specs.Rows.{rootOfVersion}
+use Rattle.refusals.specs.Tables.{rootOfVersion}
 use Rattle.forgery.specs.Messages.{leafHash, innerHash}
 use Rattle.forgery.specs.Finding.{True, Finding, nothing, twoEqual, oneZero, Among, NamedFrom, finding}
 use Rattle.finding_rules.specs.Call.{HoldsAt, FoundIn, not-kept, no-grant, not-in-form, not-holding, holding, findingBytes}

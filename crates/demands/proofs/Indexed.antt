@@ -35,7 +35,10 @@ use Rattle.contracts.specs.Proves.{proveAnswer, lengthBytes}
 use Rattle.contracts.specs.Palettes as palettes
 use Rattle.contracts.specs.Palettes.{paletteAnswer, proofsBytes}
 use Rattle.refusals.specs.Exactly.{Table, Exactly, NoneOf, low, Names}
-use Rattle.refusals.specs.Rows.{WrongLength, StopsRoot, StopsGet, StopsAt, StopsProve, StopsPalette, TooLong, TooLongTogether}
+use Rattle.ways.specs.Ways.{RootStopped, KeyStopped, ProofStopped}
+use Rattle.ways.specs.Positions.{PositionStopped}
+use Rattle.refusals.specs.Tables.{StopsPalette, TooLong, headerRows, testsOf, rootRows, getRows, atRows, proveRows, paletteRows}
+use Rattle.refusals.proofs.Parts.{Row, WrongLength, TooLongTogether}
 use Rattle.refusals.proofs.Exactly.{exactly}
 use Rattle.refusals.proofs.Headers.{Header, wrong-length, wrong-header, right, header-is, records-formed}
 use Rattle.refusals.proofs.Stopped.{Stopped, stopped-past, stopped-within, stopped-first, stopped-found, stopped-names}
@@ -43,8 +46,7 @@ use Rattle.refusals.proofs.Walks.{kept-said, root-stopped, get-stopped, prove-s
 use Rattle.refusals.proofs.Positions.{number-stopped, position-stopped}
 use Rattle.refusals.proofs.Palettes.{palette-stopped}
 use Rattle.contracts.specs.Contracts.{ReadsRootBy, ReadsKeyBy, CountsBy, ReadsAtBy, ProvesBy, PalettesBy}
-use Rattle.demands.specs.Indexed.{WrongLengths, headerRowsBy, rowsBy, NoneTwice, AsPlain}
-use Rattle.demands.specs.Tables.{rootRows, getRows, atRows, proveRows, paletteRows, testsOf}
+use Rattle.demands.specs.Indexed.{rowsBy, NoneTwice, AsPlain}
 use Rattle.demands.proofs.Refusals.{refused-of}
 use Rattle.demands.proofs.Exact.{key-stopped, list-stopped, never-lost}
 
@@ -165,38 +167,41 @@ pub sound-indexed-as-plain : {s : Bytes} → SoundBytes s → (table : List ℕ)
 sound-indexed-as-plain {s} w table many v = indexed-as-plain s table v many (sound-none-twice w v)
 
 -- Rows 1 and 2 with a table.
+abbrev pub WrongLengths : Bytes → List ℕ → Type 0
+WrongLengths s table = Row 1 (rowsBy s table (headerRows s))
+
 module _ (s : Bytes) (table : List ℕ) where
   -- row 1 by the test of both lengths
   not-many : asMany s table ≡ false → WrongLengths s table
   unfolding asMany
-  not-many e n least most size many =
+  not-many e n least most (size, many) =
       true≢false (sym (eq-eqb (length table) (roomOf counted (length s)) (many ∙ sym (room-of counted (length s) n size))) ∙ e)
 
   right-lengths : asMany s table ≡ true → (WrongLength s → ⊥) → WrongLengths s table → ⊥
   unfolding asMany
   right-lengths e ok wrong =
       ok (λ n least most size.
-      wrong n least most size (eqb-true (length table) (roomOf counted (length s)) e ∙ room-of counted (length s) n size))
+      wrong n least most (size, eqb-true (length table) (roomOf counted (length s)) e ∙ room-of counted (length s) n size))
 
   module _ {A : Type 0} {early later : Table} {stops : Trouble → Type 0} (a : Answer A)
       (rest : (c o l : ℕ) → headerOf counted s ≡ header c o l → Stopped early later stops (numberOf a)) where
     abbrev Deserved : ℕ → Type 0
-    Deserved n = Stopped (headerRowsBy s table ++ early) later stops n
+    Deserved n = Stopped (rowsBy s table (headerRows s) ++ early) later stops n
 
     of-right-length : asMany s table ≡ true → {h : Headed} → headerOf counted s ≡ h → Header s h → Deserved (numberOf (byHeader h a))
     of-right-length many e (wrong-length w) =
-        stopped-within (headerRowsBy s table) early (inl (λ n least most size its. w n least most size, refl)) (λ z. absurd (omega arith))
+        stopped-within (rowsBy s table (headerRows s)) early (inl (λ n least most both. w n least most (both .0), refl)) (λ z. absurd (omega arith))
     of-right-length many e (wrong-header ok w) =
-        stopped-within (headerRowsBy s table) early (inr (right-lengths many ok, inl (w, refl))) (λ z. absurd (omega arith))
+        stopped-within (rowsBy s table (headerRows s)) early (inr (right-lengths many ok, inl (w, refl))) (λ z. absurd (omega arith))
     of-right-length many e (right {c} {o} {l} ok w) =
-        stopped-past (headerRowsBy s table) early (right-lengths many ok, (w, tt)) (rest c o l e)
+        stopped-past (rowsBy s table (headerRows s)) early (right-lengths many ok, (w, tt)) (rest c o l e)
 
     by-header : Deserved (numberOf (byHeader (headerWith s table) a))
     unfolding headerWith
     by-header = go (asMany s table) refl
       where
         go : (b : Bool) → asMany s table ≡ b → Deserved (numberOf (byHeader (cond b (headerOf counted s) (refusal 1)) a))
-        go false e = stopped-within (headerRowsBy s table) early (inl (not-many e, refl)) (λ z. absurd (omega arith))
+        go false e = stopped-within (rowsBy s table (headerRows s)) early (inl (not-many e, refl)) (λ z. absurd (omega arith))
         go true e = of-right-length e refl (header-is s)
 
 -- an answer that is equal to one that is stopped so is
@@ -207,37 +212,37 @@ as-stopped {early = early} {later = later} {stops = stops} e w = subst (λ x. St
 -- Where no two slots match, each number is answered exactly if its row deserves it and no earlier one does; and the slot beside 3.
 module _ {s : Bytes} {table : List ℕ} {v : ℕ} (once : NoneTwice s v) where
   module _ {f g : Bytes} {r : ℕ} where
-    root-answers : ReadsRootBy s table v f r g → Stopped (testsOf (rowsBy s table (rootRows s v))) [] (StopsRoot s v) r
+    root-answers : ReadsRootBy s table v f r g → Stopped (testsOf (rowsBy s table (rootRows s v))) [] (RootStopped (storeOf s) v) r
     unfolding rootAnswer
     root-answers w =
-        subst (Stopped (testsOf (rowsBy s table (rootRows s v))) [] (StopsRoot s v)) (sym (w .answer))
+        subst (Stopped (testsOf (rowsBy s table (rootRows s v))) [] (RootStopped (storeOf s) v)) (sym (w .answer))
         (by-header s table (readRootBy leafHash innerHash (byTable table (storeOf s)) (storeOf s) v)
         (λ c o l e. as-stopped (root-alike (storeOf s) table v once leafHash innerHash) (root-stopped leafHash innerHash s v)))
 
     pub root-by-exactly : ReadsRootBy s table v f r g → Exactly (rowsBy s table (rootRows s v)) (low r)
-    root-by-exactly w = exactly (rowsBy s table (rootRows s v)) (low r) refl (stopped-found refl refl (root-answers w) (never-lost s v lostRecord refl))
+    root-by-exactly w = exactly (rowsBy s table (rootRows s v)) (low r) refl (stopped-found refl refl (root-answers w) (never-lost s v))
 
-    pub root-by-names-slot : ReadsRootBy s table v f r g → Names (λ i. NoneOf (testsOf (rowsBy s table (rootRows s v))) × StopsRoot s v (spoiltRecord i)) r
+    pub root-by-names-slot : ReadsRootBy s table v f r g → Names (λ i. NoneOf (testsOf (rowsBy s table (rootRows s v))) × RootStopped (storeOf s) v (spoiltRecord i)) r
     root-by-names-slot w = stopped-names refl refl (root-answers w)
 
-    count-answers : CountsBy s table v f r g → Stopped (testsOf (rowsBy s table (rootRows s v))) [] (StopsRoot s v) r
+    count-answers : CountsBy s table v f r g → Stopped (testsOf (rowsBy s table (rootRows s v))) [] (RootStopped (storeOf s) v) r
     unfolding numberAnswer
     count-answers w =
-        subst (Stopped (testsOf (rowsBy s table (rootRows s v))) [] (StopsRoot s v)) (sym (w .answer))
+        subst (Stopped (testsOf (rowsBy s table (rootRows s v))) [] (RootStopped (storeOf s) v)) (sym (w .answer))
         (by-header s table (readNumberBy (byTable table (storeOf s)) (storeOf s) v)
         (λ c o l e. as-stopped (number-alike (storeOf s) table v once) (number-stopped leafHash innerHash s v)))
 
     pub count-by-exactly : CountsBy s table v f r g → Exactly (rowsBy s table (rootRows s v)) (low r)
-    count-by-exactly w = exactly (rowsBy s table (rootRows s v)) (low r) refl (stopped-found refl refl (count-answers w) (never-lost s v lostRecord refl))
+    count-by-exactly w = exactly (rowsBy s table (rootRows s v)) (low r) refl (stopped-found refl refl (count-answers w) (never-lost s v))
 
-    pub count-by-names-slot : CountsBy s table v f r g → Names (λ i. NoneOf (testsOf (rowsBy s table (rootRows s v))) × StopsRoot s v (spoiltRecord i)) r
+    pub count-by-names-slot : CountsBy s table v f r g → Names (λ i. NoneOf (testsOf (rowsBy s table (rootRows s v))) × RootStopped (storeOf s) v (spoiltRecord i)) r
     count-by-names-slot w = stopped-names refl refl (count-answers w)
 
   module _ (bytes : All Byte s) where
-    get-answers : {k f g : Bytes} {r : ℕ} → ReadsKeyBy s table v k f r g → Stopped (testsOf (rowsBy s table (getRows s v k))) [] (StopsGet s v k) r
+    get-answers : {k f g : Bytes} {r : ℕ} → ReadsKeyBy s table v k f r g → Stopped (testsOf (rowsBy s table (getRows s v k))) [] (KeyStopped (storeOf s) v k) r
     unfolding keyAnswer
     get-answers {k} w =
-        subst (Stopped (testsOf (rowsBy s table (getRows s v k))) [] (StopsGet s v k)) (sym (w .answer))
+        subst (Stopped (testsOf (rowsBy s table (getRows s v k))) [] (KeyStopped (storeOf s) v k)) (sym (w .answer))
         (key-stopped k (byHeader (headerWith s table) (readKeyBy (byTable table (storeOf s)) (storeOf s) v k))
         (by-header s table (readKeyBy (byTable table (storeOf s)) (storeOf s) v k)
         (λ c o l e. as-stopped (key-alike (storeOf s) table v once k) (get-stopped s (records-formed s bytes e) v k))))
@@ -246,13 +251,13 @@ module _ {s : Bytes} {table : List ℕ} {v : ℕ} (once : NoneTwice s v) where
     get-by-exactly {k} {r = r} w = exactly (rowsBy s table (getRows s v k)) (low r) refl (stopped-first refl refl (get-answers w))
 
     pub get-by-names-slot : {k f g : Bytes} {r : ℕ} → ReadsKeyBy s table v k f r g →
-        Names (λ i. NoneOf (testsOf (rowsBy s table (getRows s v k))) × StopsGet s v k (spoiltRecord i)) r
+        Names (λ i. NoneOf (testsOf (rowsBy s table (getRows s v k))) × KeyStopped (storeOf s) v k (spoiltRecord i)) r
     get-by-names-slot w = stopped-names refl refl (get-answers w)
 
-    at-answers : {i : ℕ} {f g : Bytes} {r : ℕ} → ReadsAtBy s table v i f r g → Stopped (testsOf (rowsBy s table (atRows s v i))) [] (StopsAt s v i) r
+    at-answers : {i : ℕ} {f g : Bytes} {r : ℕ} → ReadsAtBy s table v i f r g → Stopped (testsOf (rowsBy s table (atRows s v i))) [] (PositionStopped (storeOf s) v i) r
     unfolding positionAnswer
     at-answers {i} w =
-        subst (Stopped (testsOf (rowsBy s table (atRows s v i))) [] (StopsAt s v i)) (sym (w .answer))
+        subst (Stopped (testsOf (rowsBy s table (atRows s v i))) [] (PositionStopped (storeOf s) v i)) (sym (w .answer))
         (by-header s table (readPositionBy (byTable table (storeOf s)) (storeOf s) v i)
         (λ c o l e. as-stopped (position-alike (storeOf s) table v once i) (position-stopped s (records-formed s bytes e) v i)))
 
@@ -260,14 +265,14 @@ module _ {s : Bytes} {table : List ℕ} {v : ℕ} (once : NoneTwice s v) where
     at-by-exactly {i} {r = r} w = exactly (rowsBy s table (atRows s v i)) (low r) refl (stopped-first refl refl (at-answers w))
 
     pub at-by-names-slot : {i : ℕ} {f g : Bytes} {r : ℕ} → ReadsAtBy s table v i f r g →
-        Names (λ j. NoneOf (testsOf (rowsBy s table (atRows s v i))) × StopsAt s v i (spoiltRecord j)) r
+        Names (λ j. NoneOf (testsOf (rowsBy s table (atRows s v i))) × PositionStopped (storeOf s) v i (spoiltRecord j)) r
     at-by-names-slot w = stopped-names refl refl (at-answers w)
 
     prove-answers : {k room f t g : Bytes} {r : ℕ} → ProvesBy s table v k room f r t g →
-        Stopped (testsOf (rowsBy s table (proveRows s v k room))) ((9, TooLong s v k room) ∷ []) (StopsProve s v k) r
+        Stopped (testsOf (rowsBy s table (proveRows s v k room))) ((9, TooLong s v k room) ∷ []) (ProofStopped (storeOf s) v k) r
     unfolding proveAnswer
     prove-answers {k} {room} w =
-        subst (Stopped (testsOf (rowsBy s table (proveRows s v k room))) ((9, TooLong s v k room) ∷ []) (StopsProve s v k)) (sym (w .answer))
+        subst (Stopped (testsOf (rowsBy s table (proveRows s v k room))) ((9, TooLong s v k room) ∷ []) (ProofStopped (storeOf s) v k)) (sym (w .answer))
         (key-stopped k (byHeader (headerWith s table) (proveBy (byTable table (storeOf s)) (storeOf s) v k (length room)))
         (by-header s table (proveBy (byTable table (storeOf s)) (storeOf s) v k (length room))
         (λ c o l e. as-stopped (prove-alike (storeOf s) table v once k (length room)) (prove-stopped s (records-formed s bytes e) v k room))))
@@ -276,7 +281,7 @@ module _ {s : Bytes} {table : List ℕ} {v : ℕ} (once : NoneTwice s v) where
     prove-by-exactly {k} {room} {r = r} w = exactly (rowsBy s table (proveRows s v k room)) (low r) refl (stopped-first refl refl (prove-answers w))
 
     pub prove-by-names-slot : {k room f t g : Bytes} {r : ℕ} → ProvesBy s table v k room f r t g →
-        Names (λ i. NoneOf (testsOf (rowsBy s table (proveRows s v k room))) × StopsProve s v k (spoiltRecord i)) r
+        Names (λ i. NoneOf (testsOf (rowsBy s table (proveRows s v k room))) × ProofStopped (storeOf s) v k (spoiltRecord i)) r
     prove-by-names-slot w = stopped-names refl refl (prove-answers w)
 
     palette-answers : {list room f t g : Bytes} {r : ℕ} → PalettesBy s table v list room f r t g →

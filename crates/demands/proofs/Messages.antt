@@ -39,7 +39,7 @@ use Rattle.refusals.specs.Exactly.{Exactly}
 use Rattle.refusals.proofs.Exactly.{First, exactly}
 use Rattle.refusals.proofs.Messages.{write-first, read-first}
 use Rattle.contracts.specs.Contracts.{Verifies, WritesMessage, ReadsMessage}
-use Rattle.demands.specs.Tables.{writeMessageRows, readMessageRows}
+use Rattle.refusals.specs.Tables.{writeMessageRows, readMessageRows}
 use Rattle.demands.specs.Messages.{PartnerAgrees, MessageGiven, MessageTaken, LedAlike}
 
 -- 10, 15, 9 exactly, and 10, 9.

@@ -27,7 +27,7 @@ use Rattle.shown.proofs.Verdicts.{accepted-same}
 use Rattle.shown.proofs.Theorems.{proofs-have-17080-bytes, root-read-is-hash, shown}
 use Rattle.palette_rules.specs.Palette.{wholeKeys, keysIn, followed, inTurn, lengthTogether, fittedTogether, palette}
 use Rattle.palette_rules.specs.Claims.{ProofOfEach}
-use Rattle.palette_rules.proofs.Turns.{proofs-of-each, each-proved, first-refused}
+use Rattle.palette_rules.proofs.Turns.{proofs-of-each, each-proved, one-asked, first-refused}
 use Rattle.palette_rules.proofs.Keys.{keys-are-32, keys-are-bytes, keys-counted}
 use Rattle.nodehash.specs.Node.{leafHash, innerHash}
 use Rattle.proofrecords.specs.ProofBytes.{stepsBytes, flagsOf, neighbourBytes, presenceBytes, absenceBytes, proofBytes, ProofForm}
@@ -115,8 +115,7 @@ palette-never-0 st v keys room n e z = go (isKept st v) refl
   where
     fit : (a : Answer (List Proof)) → inTurn (proof st v) keys ≡ a → fittedTogether room a ≡ refused n → ⊥
     fit (refused m) f h =
-        let w = first-refused (proof st v) keys m f in
-        proof-nonzero st v (w .key) m (w .holds) (sym (with-number h) ∙ z)
+        let (k, e) = one-asked (proof st v) keys (first-refused (proof st v) keys m f) in proof-nonzero st v k m e (sym (with-number h) ∙ z)
     fit (accepted ps) f h = nine (ltb room (lengthTogether ps)) h
       where
         nine : (b : Bool) → cond b (refused 9) (accepted ps) ≡ refused n → ⊥

@@ -35,13 +35,13 @@ use Rattle.verify_rules.specs.Pocket as told
 use Rattle.verify_rules.specs.Pocket.{PocketJudged}
 use Rattle.verify_rules.proofs.Told.{one-pocket-verdict}
 use Rattle.refusals.specs.Exactly.{Exactly, NoneOf, low, Names}
-use Rattle.refusals.specs.Rows.{Not32, StopsProve, TooLong, ProvedOutside, OutsidePocket}
+use Rattle.ways.specs.Ways.{ProofStopped}
+use Rattle.refusals.specs.Tables.{Not32, TooLong, ProvedOutside, OutsidePocket, pocketProveRows, pocketVerifyRows, testsOf}
 use Rattle.refusals.proofs.Exactly.{First, exactly}
 use Rattle.refusals.proofs.Headers.{records-formed}
 use Rattle.refusals.proofs.Stopped.{Stopped, stopped-first, stopped-names}
 use Rattle.refusals.proofs.Pocket.{pocket-judged-first, pocket-stopped}
 use Rattle.contracts.specs.Contracts.{ReadsRoot, Proves, Verifies, PocketProves, PocketVerifies}
-use Rattle.demands.specs.Tables.{pocketProveRows, pocketVerifyRows, testsOf}
 use Rattle.demands.specs.Claims.{grantsOfVersion}
 use Rattle.demands.specs.Pocket.{BesideTheFullCheck, BesideTheFullProver, PocketShown}
 use Rattle.demands.proofs.Refusals.{never-0, header-numbers, refused-of, found-kept}
@@ -63,17 +63,17 @@ module _ {a b : ℕ} where
 
 -- The prover: 12, 1, 2, 8, 14, 17 or 3, 19, 9, and the slot beside 3.
 module _ {s : Bytes} {v : ℕ} {k room f : Bytes} {r : ℕ} {t g : Bytes} (h : All Byte s) (w : PocketProves s v k room f r t g) where
-  pocket-answers : Stopped (testsOf (pocketProveRows s v k room)) ((19, ProvedOutside s v k) ∷ (9, TooLong s v k room) ∷ []) (StopsProve s v k) r
+  pocket-answers : Stopped (testsOf (pocketProveRows s v k room)) ((19, ProvedOutside s v k) ∷ (9, TooLong s v k room) ∷ []) (ProofStopped (storeOf s) v k) r
   unfolding pocketAnswer
   pocket-answers =
-      subst (Stopped (testsOf (pocketProveRows s v k room)) ((19, ProvedOutside s v k) ∷ (9, TooLong s v k room) ∷ []) (StopsProve s v k)) (sym (w .answer))
+      subst (Stopped (testsOf (pocketProveRows s v k room)) ((19, ProvedOutside s v k) ∷ (9, TooLong s v k room) ∷ []) (ProofStopped (storeOf s) v k)) (sym (w .answer))
       (key-stopped k (byHeader (headerOf counted s) (pocketProve (storeOf s) v k (length room)))
       (read-stopped s (pocketProve (storeOf s) v k (length room)) (λ c o l e. pocket-stopped s (records-formed s h e) v k room)))
 
   pub pocket-prove-exactly : Exactly (pocketProveRows s v k room) (low r)
   pocket-prove-exactly = exactly (pocketProveRows s v k room) (low r) refl (stopped-first refl refl pocket-answers)
 
-  pub pocket-prove-names-slot : Names (λ i. NoneOf (testsOf (pocketProveRows s v k room)) × StopsProve s v k (spoiltRecord i)) r
+  pub pocket-prove-names-slot : Names (λ i. NoneOf (testsOf (pocketProveRows s v k room)) × ProofStopped (storeOf s) v k (spoiltRecord i)) r
   pocket-prove-names-slot = stopped-names refl refl pocket-answers
 
 pub refused-pocket-prove-writes-nothing : {s : Bytes} {v : ℕ} {k room f : Bytes} {r : ℕ} {t g : Bytes} → PocketProves s v k room f r t g → (r ≡ 0 → ⊥) →

@@ -9,7 +9,7 @@ use Rattle.refusals.specs.Exactly.{Exactly}
 use Rattle.refusals.proofs.Exactly.{First, exactly}
 use Rattle.refusals.proofs.Shelf.{shelf-first}
 use Rattle.contracts.specs.Contracts.{ShelfVerifies}
-use Rattle.demands.specs.Tables.{shelfVerifyRows}
+use Rattle.refusals.specs.Tables.{shelfVerifyRows}
 use Rattle.demands.proofs.Refusals.{found-kept}
 
 pub one-shelf-verify : {a b c : ℕ} {root k x f g h : Bytes} → ShelfVerifies root c k x f a g → ShelfVerifies root c k x f b h →

@@ -14,7 +14,7 @@ use Rattle.meaning.specs.Proving.{HoldsGrant}
 use Rattle.sha256.specs.Sha256.{sha256}
 use Rattle.layout.specs.Stores.{storeOf}
 use Rattle.promises.specs.Calls.{SoundBytes}
-use Rattle.refusals.specs.Rows.{rootOfVersion}
+use Rattle.refusals.specs.Tables.{rootOfVersion}
 use Rattle.proofrecords.specs.ProofBytes.{ProofIs}
 use Rattle.forgery.specs.Finding.{True, Among}
 use Rattle.finding_rules.specs.Claims.{theMessages}

@@ -1,6 +1,6 @@
 -- Document 02, 2026-05: the reads by a table of slot numbers lent with the store. 'A table of another length gives 1';
 -- 'whatever the index holds, a read differs from the plain scan's only where two slots match.' Assumes nothing.
-use Prim.Native.Nat.{ℕ, _+_, _*_, _≤_}
+use Prim.Native.Nat.{ℕ}
 use mathlib.Core.Path.{_≡_}
 use mathlib.Core.Bool.{true, cond}
 use mathlib.Core.List.{List, [], _∷_}
@@ -10,27 +10,19 @@ use Rattle.terms.specs.declared.Form.the-variants.{Counted as counted}
 use Rattle.terms.specs.Bits.{Bytes}
 use Rattle.meaning.specs.Calls.{isKept}
 use Rattle.index_reads.specs.Matching.{NoTwoMatch}
-use Rattle.layout.specs.Sizes.{headerSize, mostSlots, slotSize}
 use Rattle.layout.specs.Stores.{storeOf}
 use Rattle.refusals.specs.Exactly.{Table}
-use Rattle.refusals.specs.Rows.{WrongHeader}
+use Rattle.refusals.specs.Tables.{HasSlots, WrongSize}
 use Rattle.contracts.specs.Contracts.{ReadsRoot, ReadsKey, Counts, ReadsAt, Proves, Palettes}
 use Rattle.contracts.specs.Contracts.{ReadsRootBy, ReadsKeyBy, CountsBy, ReadsAtBy, ProvesBy, PalettesBy}
 
--- 1: the store's length isn't 24 + 128n, n in 1 to 16,384, or the table hasn't n entries.
-abbrev pub WrongLengths : Bytes → List ℕ → Type 0
-WrongLengths s table =
-    (n : ℕ) → 1 ≤ n → n ≤ mostSlots → length s ≡ headerSize + slotSize counted * n → length table ≡ n → ⊥
-
--- 1, 2.
-abbrev pub headerRowsBy : Bytes → List ℕ → Table
-headerRowsBy s table = (1, WrongLengths s table) ∷ (2, WrongHeader s) ∷ []
-
--- The table of a read by a table of slot numbers: that of the plain call, with this 1.
+-- The rows of a call that is lent a table of slot numbers: those of the plain call, but 1 is also for a table that
+-- hasn't n entries.
 abbrev pub rowsBy : Bytes → List ℕ → Table → Table
 rowsBy s table [] = []
 rowsBy s table (row ∷ rows) =
-    (row .0, cond (eqb (row .0) 1) (WrongLengths s table) (row .1)) ∷ rowsBy s table rows
+    let wrong = WrongSize (λ n. HasSlots counted s n × (length table ≡ n)) in
+    (row .0, cond (eqb (row .0) 1) wrong (row .1)) ∷ rowsBy s table rows
 
 -- No two slots match where version v is read: nothing is looked for of a version that isn't kept.
 abbrev pub NoneTwice : Bytes → ℕ → Type 0

@@ -8,7 +8,7 @@ use Rattle.terms.specs.Bits.{Bytes}
 use Rattle.terms.specs.Fields.{num}
 use Rattle.meaning.specs.Reading.{answerOf}
 use Rattle.meaning.specs.Answers.{foundBytes}
-use Rattle.refusals.specs.Rows.{OutsidePocket, ProvedOutside}
+use Rattle.refusals.specs.Tables.{OutsidePocket, ProvedOutside}
 use Rattle.contracts.specs.Contracts.{ReadsRoot, Proves, Verifies, PocketProves, PocketVerifies}
 use Rattle.demands.specs.Claims.{grantsOfVersion}
 

@@ -9,7 +9,7 @@ use Rattle.terms.specs.Fields.{field, slice, zeroBytes}
 use Rattle.meaning.specs.Tree.{VTree}
 use Rattle.quarter.specs.Figures as quarter
 use Rattle.quarter.specs.Figures.{versions, different, nodesOver, recordsOver}
-use Rattle.refusals.specs.Rows.{KeptRange}
+use Rattle.refusals.specs.Tables.{KeptRange}
 use Rattle.layout.specs.Stores.{storeOf}
 use Rattle.promises.specs.Calls.{SoundBytes}
 use Rattle.demands.specs.Claims.{treeOfVersion, grantsOfVersion}

@@ -13,18 +13,20 @@ use Rattle.layout.specs.Sizes.{roomOf}
 use Rattle.layout.specs.Headers.{sizeRight}
 use Rattle.layout.proofs.Headers.{size-says, size-right-of}
 use Rattle.rescue_bytes.specs.Rescues.{SameSize, Report, Rescues, wrong-size, out-of-order, no-version, rescues, RescueExports, exports-refusal, exports-report}
-use Rattle.refusals.specs.Rows.{WrongSizes}
-use Rattle.refusals.specs.Orders.{rescueRows}
+use Rattle.refusals.specs.Tables.{HasSlots, WrongSize, rescueRows}
 use Rattle.refusals.proofs.Exactly.{First}
 
 module _ (s old : Bytes) where
-  sizes-wrong : (SameSize s old → ⊥) → WrongSizes s old
-  sizes-wrong f n a b e g = f (record { source = size-right-of counted (length s) n e a b; target = size-right-of counted (length old) n g a b; equal = e ∙ sym g })
+  abbrev Sizes : Type 0
+  Sizes = WrongSize (λ n. HasSlots counted s n × HasSlots counted old n)
 
-  sizes-right : SameSize s old → WrongSizes s old → ⊥
+  sizes-wrong : (SameSize s old → ⊥) → Sizes
+  sizes-wrong f n a b (e, g) = f (record { source = size-right-of counted (length s) n e a b; target = size-right-of counted (length old) n g a b; equal = e ∙ sym g })
+
+  sizes-right : SameSize s old → Sizes → ⊥
   sizes-right w f =
       let k = size-says counted (length s) (w .source) in
-      f (roomOf counted (length s)) (k .1) (k .2) (k .0) (sym (w .equal) ∙ k .0)
+      f (roomOf counted (length s)) (k .1) (k .2) (k .0, sym (w .equal) ∙ k .0)
 
   rescue-case : (oldest latest : ℕ) (a : Answer Report) {t : Bytes} → Rescues oldest latest s old a t → First (rescueRows s old oldest latest) (numberOf a)
   rescue-case oldest latest a (wrong-size f) = inl (sizes-wrong f, refl)
