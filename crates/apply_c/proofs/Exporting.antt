@@ -16,7 +16,8 @@ use Rattle.meaning.specs.Calls.{apply}
 use Rattle.nodehash.specs.Node.{leafHash, innerHash}
 use Rattle.batch.specs.Batch.{batchOf}
 use Rattle.batch.proofs.Batches.{asks-read}
-use Rattle.promises.specs.Calls.{Exports, exports-refusal, exports-answer}
+use Rattle.meaning.specs.Answers.{Exports, exports-refusal, exports-answer}
+use Rattle.promises.specs.Calls.{Does}
 use Rattle.apply_publish.specs.Apply.{appliedSays, ApplyDoes}
 use Rattle.apply_publish.specs.declared.Applied as declared
 use Rattle.apply_publish.specs.declared.Applied.the-variants.{Refused, Made}
@@ -38,7 +39,7 @@ answer-put v n h f f₁ y f₂ l e g k =
 
 -- a batch asks for what it is read as
 exported : (number : ℕ) (batch : Bytes) → All Byte batch → {s f t g : Bytes} {r : ℕ} →
-    Exports (apply leafHash innerHash number (batchOf batch)) told s f r t g → ApplyExports number batch s f r t g
+    Exports (λ a. Does (apply leafHash innerHash number (batchOf batch)) s a t) told f r g → ApplyExports number batch s f r t g
 exported number batch bytes w = record { asked = batchOf batch; asks = asks-read batch bytes; applied = w }
 
 module _ (number : ℕ) (batch : Bytes) (bytes : All Byte batch) {s f t : Bytes} {a : declared.Applied} (o : ApplyDoes number batch s (appliedSays a) t) where

@@ -6,7 +6,7 @@ use lib.ListN.{length}
 use Rattle.terms.specs.declared.Form.the-variants.{Counted as counted}
 use Rattle.terms.specs.Bits.{Bytes}
 use Rattle.meaning.specs.Calls.{Answer, refused}
-use Rattle.meaning.specs.Answers.{numberOf, toldOf}
+use Rattle.meaning.specs.Answers.{Exports}
 use Rattle.sha256.specs.Sha256.{sha256}
 use Rattle.layout.specs.Stores.{storeOf}
 use Rattle.promises.specs.Check.{Checked}
@@ -26,8 +26,5 @@ pub data Answers (s : Bytes) (v : ℕ) (k x : Bytes) : Answer Finding → Type 0
 
 -- What is found of the bytes x as a proof for the key k in version v of the bytes s: the call answers r, and the array
 -- f for what is found is left as g. A refused call writes nothing.
-pub record Finds (s : Bytes) (v : ℕ) (k x f : Bytes) (r : ℕ) (g : Bytes) : Type 0 where
-  pub answer : Answer Finding
-  pub answers : Answers s v k x answer
-  pub number : r ≡ numberOf answer
-  pub told : g ≡ toldOf findingBytes answer f
+abbrev pub Finds : Bytes → ℕ → Bytes → Bytes → Bytes → ℕ → Bytes → Type 0
+Finds s v k x f r g = Exports (Answers s v k x) findingBytes f r g

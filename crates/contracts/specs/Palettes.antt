@@ -11,7 +11,7 @@ use Rattle.terms.specs.Records.{Proof}
 use Rattle.terms.specs.Fields.{le}
 use Rattle.meaning.specs.Calls.{Answer, refused}
 use Rattle.meaning.specs.Proving.{proofBy}
-use Rattle.meaning.specs.Answers.{numberOf, toldOf, roomAfter}
+use Rattle.meaning.specs.Answers.{roomAfter, Exported}
 use Rattle.palette_rules.specs.Palette.{wholeKeys, keysIn, paletteOf, lengthTogether}
 use Rattle.layout.specs.Stores.{storeOf}
 use Rattle.proofrecords.specs.ProofBytes.{proofBytes}
@@ -31,21 +31,12 @@ abbrev pub proofsBytes : List Proof → Bytes
 proofsBytes [] = []
 proofsBytes (p ∷ ps) = proofBytes p ++ proofsBytes ps
 
--- The proofs for a list of keys in version v of the store s, into a room.
-abbrev pub palettedInto : Bytes → Option (List ℕ) → ℕ → Bytes → Bytes → Answer (List Proof)
-palettedInto s by v list room = paletteAnswer s by v list (length room)
-
--- The length of all together, 4 bytes little-endian; a refused call writes nothing.
-abbrev pub lengthBytes : Answer (List Proof) → Bytes → Bytes
-lengthBytes a old = toldOf (λ ps. le 4 (lengthTogether ps)) a old
-
 -- Proving each key of a list in version v of the bytes s answers r; the room is left as t, the array f for the length
--- of all together as g.
+-- of all together, 4 bytes little-endian, as g.
 pub record ListProved (s : Bytes) (by : Option (List ℕ)) (v : ℕ) (list room f : Bytes) (r : ℕ) (t g : Bytes) :
     Type 0 where
-  pub answer : r ≡ numberOf (palettedInto s by v list room)
-  pub proofs : t ≡ roomAfter proofsBytes (palettedInto s by v list room) room
-  pub told : g ≡ lengthBytes (palettedInto s by v list room) f
+  pub exported : Exported (paletteAnswer s by v list (length room)) (λ ps. le 4 (lengthTogether ps)) f r g
+  pub proofs : t ≡ roomAfter proofsBytes (paletteAnswer s by v list (length room)) room
 
 abbrev pub Palettes : Bytes → ℕ → Bytes → Bytes → Bytes → ℕ → Bytes → Bytes → Type 0
 Palettes s v list room f r t g = ListProved s none v list room f r t g

@@ -1,13 +1,14 @@
 // The figures of a range of versions over lent bytes, document 02, request 2026-14: a scan of the slots for each block of versions, and one for the range.
 ghost use mathlib.Core.Path.{_≡_};
+ghost use mathlib.Core.List.{_++_};
 ghost use lib.ListN.{length};
+ghost use Rattle.terms.specs.Fields.{le};
 ghost use Rattle.promises.specs.Calls.{SoundBytes};
 ghost use Rattle.layout.specs.Stores.{storeOf, HeaderWithin};
 ghost use Rattle.quarter.specs.Figures.{rangeRight, figuresBytes};
 ghost use Rattle.figures_count.specs.Count.{figuresSay};
 ghost use Rattle.figures.specs.Figures.{figuredSays, Tells};
 ghost use Rattle.figures.specs.Parts.{Range, Writes};
-ghost use Rattle.contracts.specs.Figures.{totalsBytes};
 ghost use Rattle.contracts.specs.Figures as export;
 use check_store::check;
 use fields::put_u32;
@@ -119,7 +120,7 @@ pub fn figures(store: &[u8], first: u32, last: u32, room: &mut [u8]) -> Figured
 // Distinct records and the sum of records over versions fill 8 bytes.
 fn put_totals(totals: &mut [u8], distinct: u32, records: u32)
     requires { ⌜ length (now totals) ≡ 8 ⌝ }
-    ensures { λ _. ⌜ now (totals .exit) ≡ totalsBytes distinct records ⌝ }
+    ensures { λ _. ⌜ now (totals .exit) ≡ le 4 distinct ++ le 4 records ⌝ }
 {
     put_u32(totals, 0, distinct);
     put_u32(totals, 4, records);

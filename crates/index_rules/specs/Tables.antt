@@ -60,12 +60,3 @@ pub data DoesBoth {A : Type 0} (call : Store → Result A) (s : Bytes) (table : 
   -- the call without it is accepted: its answer, its bytes, and the right table of the store in them
   accepts-both : {a : A} {t : Bytes} {u : List ℕ} → Tells s table 0 → Does call s (accepted a) t → RightFor t u →
       DoesBoth call s table (accepted a) t u
-
--- The same call for C: it answers 0 where it is accepted, else the number of refusal; what is told goes to the array f,
--- which a refused call leaves.
-pub data ExportsBoth {A : Type 0} (call : Store → Result A) (told : A → Bytes) (s : Bytes) (table : List ℕ)
-    (f : Bytes) : ℕ → Bytes → List ℕ → Bytes → Type 0 where
-  both-refused : {m : ℕ} {t : Bytes} {u : List ℕ} → DoesBoth call s table (refused m) t u →
-      ExportsBoth call told s table f m t u f
-  both-answered : {a : A} {t : Bytes} {u : List ℕ} → DoesBoth call s table (accepted a) t u →
-      ExportsBoth call told s table f 0 t u (told a)

@@ -7,7 +7,7 @@ use Rattle.terms.specs.Bits.{Bytes}
 use Rattle.terms.specs.Records.{Proof}
 use Rattle.meaning.specs.Calls.{Answer, refused, accepted}
 use Rattle.meaning.specs.Reading.{Verdict}
-use Rattle.meaning.specs.Answers.{numberOf, foundAfter}
+use Rattle.meaning.specs.Answers.{foundBytes, Exports}
 use Rattle.checker.specs.Holding.{Holds}
 use Rattle.nodehash.specs.Node.{leafHash, innerHash}
 use Rattle.proofrecords.specs.ProofBytes.{ProofIs}
@@ -33,8 +33,5 @@ pub data Told (judged : Judgement) (root k x : Bytes) : Answer Verdict → Type 
   in-form : {p : Proof} {a : Answer Verdict} → Sizes32 root k → ProofIs x p → judged root k p a → Told judged root k x a
 
 -- Checking the bytes x as a proof of the key k against a root answers r; the array f for what is found is left as g.
-pub record Verifies (root k x f : Bytes) (r : ℕ) (g : Bytes) : Type 0 where
-  pub verdict : Answer Verdict
-  pub told : Told Judged root k x verdict
-  pub answer : r ≡ numberOf verdict
-  pub found : g ≡ foundAfter verdict f
+abbrev pub Verifies : Bytes → Bytes → Bytes → Bytes → ℕ → Bytes → Type 0
+Verifies root k x f r g = Exports (Told Judged root k x) foundBytes f r g
