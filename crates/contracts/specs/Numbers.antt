@@ -4,7 +4,7 @@ use Prim.Native.Nat.{ℕ}
 use mathlib.Core.List.{List, _++_}
 use mathlib.Core.Option.{Option, none, some}
 use Rattle.terms.specs.Bits.{Bytes}
-use Rattle.terms.specs.Records.{Grant, grant}
+use Rattle.terms.specs.Records.{Grant}
 use Rattle.terms.specs.Fields.{le}
 use Rattle.meaning.specs.Calls.{Answer}
 use Rattle.meaning.specs.Counting.{readNumberBy, readPositionBy}

@@ -16,13 +16,14 @@ use Rattle.meaning.specs.Calls.{Answer, refused, accepted, Result, apply, prune
 use Rattle.meaning.specs.Reading.{Verdict, Trouble, lostRecord, spoiltRecord, readKey, readRoot}
 use Rattle.meaning.specs.Proving.{prove, proof}
 use Rattle.meaning.specs.Counting.{readNumber, readPosition}
-use Rattle.meaning.specs.Answers.{numberOf}
+use Rattle.meaning.specs.Answers.{numberOf, Exports, exports-refusal, exports-answer}
+use Rattle.meaning.proofs.Told.{seen}
 use Rattle.nodehash.specs.Node.{leafHash, innerHash}
 use Rattle.layout.specs.Headers.{Headed, refusal, header, sizeRight, headerOf}
 use Rattle.layout.specs.Stores.{storeOf}
 use Rattle.contracts.specs.Format.{formatAnswer}
 use Rattle.promises.specs.Check as check
-use Rattle.promises.specs.Calls.{Does, wrong-header, not-sound, refuses, accepts, Exports, exports-refusal, exports-answer}
+use Rattle.promises.specs.Calls.{Does, wrong-header, not-sound, refuses, accepts}
 use Rattle.promises.specs.Headed.{byHeader}
 use Rattle.contracts.specs.Reads.{rootAnswer, keyAnswer}
 use Rattle.contracts.specs.Numbers.{numberAnswer, positionAnswer}
@@ -84,8 +85,8 @@ does-first call s more a f (accepts w e) =
     (inr (λ n. n (w .sound), subst (λ x. First more (numberOf x)) e f))
 
 export-first : {A : Type 0} (call : Store → Result A) {told : A → Bytes} (s : Bytes) (more : Table) {f t g : Bytes} {r : ℕ} →
-    First more (numberOf (call (storeOf s) .answer)) → Exports call told s f r t g → First (headerRows s ++ (3, NotSound s) ∷ more) r
-export-first call s more f (exports-refusal {m} d) = does-first call s more (refused m) f d
+    First more (numberOf (call (storeOf s) .answer)) → Exports (λ a. Does call s a t) told f r g → First (headerRows s ++ (3, NotSound s) ∷ more) r
+export-first call s more f (exports-refusal {n = m} d) = does-first call s more (refused m) f d
 export-first call s more f (exports-answer {a} d) = does-first call s more (accepted a) f d
 
 -- Apply: 1, 2, 3, 4, 5, 18, 7.
@@ -126,7 +127,7 @@ module _ {s : Bytes} {v : ℕ} {f : Bytes} {r : ℕ} {g : Bytes} (w : ReadsRoot 
   root-answers : Stopped (testsOf (rootRows s v)) [] (StopsRoot s v) r
   unfolding rootAnswer readRoot
   root-answers =
-      subst (Stopped (testsOf (rootRows s v)) [] (StopsRoot s v)) (sym (w .answer))
+      subst (Stopped (testsOf (rootRows s v)) [] (StopsRoot s v)) (sym (w .exported .number))
       (read-stopped s (readRoot leafHash innerHash (storeOf s) v) (λ c o l e. root-stopped leafHash innerHash s v))
 
   pub root-exactly : Exactly (rootRows s v) (low r)
@@ -140,7 +141,7 @@ module _ {s : Bytes} {v : ℕ} {k f : Bytes} {r : ℕ} {g : Bytes} (h : All Byte
   get-answers : Stopped (testsOf (getRows s v k)) [] (StopsGet s v k) r
   unfolding keyAnswer readKey
   get-answers =
-      subst (Stopped (testsOf (getRows s v k)) [] (StopsGet s v k)) (sym (w .answer))
+      subst (Stopped (testsOf (getRows s v k)) [] (StopsGet s v k)) (sym (w .exported .number))
       (key-stopped k (byHeader (headerOf counted s) (readKey (storeOf s) v k))
       (read-stopped s (readKey (storeOf s) v k) (λ c o l e. get-stopped s (records-formed s h e) v k)))
 
@@ -155,7 +156,7 @@ module _ {s : Bytes} {v : ℕ} {f : Bytes} {r : ℕ} {g : Bytes} (w : Counts s v
   count-answers : Stopped (testsOf (rootRows s v)) [] (StopsRoot s v) r
   unfolding numberAnswer readNumber
   count-answers =
-      subst (Stopped (testsOf (rootRows s v)) [] (StopsRoot s v)) (sym (w .answer))
+      subst (Stopped (testsOf (rootRows s v)) [] (StopsRoot s v)) (sym (w .exported .number))
       (read-stopped s (readNumber (storeOf s) v) (λ c o l e. number-stopped leafHash innerHash s v))
 
   pub count-exactly : Exactly (rootRows s v) (low r)
@@ -169,7 +170,7 @@ module _ {s : Bytes} {v i : ℕ} {f : Bytes} {r : ℕ} {g : Bytes} (h : All Byte
   at-answers : Stopped (testsOf (atRows s v i)) [] (StopsAt s v i) r
   unfolding positionAnswer readPosition
   at-answers =
-      subst (Stopped (testsOf (atRows s v i)) [] (StopsAt s v i)) (sym (w .answer))
+      subst (Stopped (testsOf (atRows s v i)) [] (StopsAt s v i)) (sym (w .exported .number))
       (read-stopped s (readPosition (storeOf s) v i) (λ c o l e. position-stopped s (records-formed s h e) v i))
 
   pub at-exactly : Exactly (atRows s v i) (low r)
@@ -183,7 +184,7 @@ module _ {s : Bytes} {v : ℕ} {k room f : Bytes} {r : ℕ} {t g : Bytes} (h : A
   prove-answers : Stopped (testsOf (proveRows s v k room)) ((9, TooLong s v k room) ∷ []) (StopsProve s v k) r
   unfolding proveAnswer prove proof
   prove-answers =
-      subst (Stopped (testsOf (proveRows s v k room)) ((9, TooLong s v k room) ∷ []) (StopsProve s v k)) (sym (w .answer))
+      subst (Stopped (testsOf (proveRows s v k room)) ((9, TooLong s v k room) ∷ []) (StopsProve s v k)) (sym (w .exported .number))
       (key-stopped k (byHeader (headerOf counted s) (prove (storeOf s) v k (length room)))
       (read-stopped s (prove (storeOf s) v k (length room)) (λ c o l e. prove-stopped s (records-formed s h e) v k room)))
 
@@ -207,7 +208,7 @@ module _ {s : Bytes} {v : ℕ} {list room f : Bytes} {r : ℕ} {t g : Bytes} (h 
   palette-answers : Stopped (testsOf (paletteRows s v list room)) ((9, TooLongTogether s v (keysIn list) room) ∷ []) (StopsPalette s v (keysIn list)) r
   unfolding paletteAnswer palette proof
   palette-answers =
-      subst (Stopped (testsOf (paletteRows s v list room)) ((9, TooLongTogether s v (keysIn list) room) ∷ []) (StopsPalette s v (keysIn list))) (sym (w .answer))
+      subst (Stopped (testsOf (paletteRows s v list room)) ((9, TooLongTogether s v (keysIn list) room) ∷ []) (StopsPalette s v (keysIn list))) (sym (w .exported .number))
       (list-stopped list (byHeader (headerOf counted s) (palette (storeOf s) v (keysIn list) (length room)))
       (read-stopped s (palette (storeOf s) v (keysIn list) (length room)) (λ c o l e. palette-stopped s (records-formed s h e) v (keysIn list) room)))
 
@@ -222,7 +223,7 @@ pub changes-exactly : (first second limit : ℕ) {s room f t g : Bytes} {r : ℕ
     Exactly (changesRows s first second limit room) r
 changes-exactly first second limit {s} {room} {r = r} w =
     exactly (changesRows s first second limit room) r refl
-    (subst (First (changesRows s first second limit room)) (sym (w .number))
+    (subst (First (changesRows s first second limit room)) (sym (w .exported .number))
     (does-first (compare first second limit (length room)) s (comparisonRows s first second limit room) (w .answer)
     (changes-first s first second limit room) (w .does)))
 
@@ -234,7 +235,7 @@ rescue-exactly oldest latest {s} {old} {r = r} w = exactly (rescuingRows s old o
 -- What is found of a proof: 12; then 1, 2, 3; then 8, 14, 10, 11.
 pub finding-exactly : {s : Bytes} {v : ℕ} {k x f : Bytes} {r : ℕ} {g : Bytes} → Finds s v k x f r g → Exactly (findingRows s v k x) r
 finding-exactly {s} {v} {k} {x} {r = r} w =
-    exactly (findingRows s v k x) r refl (subst (First (findingRows s v k x)) (sym (w .number)) (go (w .answers)))
+    exactly (findingRows s v k x) r refl (subst (First (findingRows s v k x)) (sym (seen w .exported .number)) (go (seen w .said)))
   where
     unsound : {m : ℕ} → check.Checked counted s m → (m ≡ 0 → ⊥) → First (headerRows s ++ (3, NotSound s) ∷ foundRows s v k x) m
     unsound (check.refused n e) f = let h = header-row s e in within (headerRows s) ((3, NotSound s) ∷ foundRows s v k x) n (h .0) (h .1)
@@ -259,7 +260,7 @@ back-exactly {s} {old} {r = r} w = exactly (moveRows counted s old) r refl (move
 
 -- The proof check: 12, 10, 11.
 pub verify-exactly : {root k x f : Bytes} {r : ℕ} {g : Bytes} → Verifies root k x f r g → Exactly (verifyRows root k x) r
-verify-exactly {root} {k} {x} {r = r} w = exactly (verifyRows root k x) r refl (subst (First (verifyRows root k x)) (sym (w .answer)) (go (w .told)))
+verify-exactly {root} {k} {x} {r = r} w = exactly (verifyRows root k x) r refl (subst (First (verifyRows root k x)) (sym (seen w .exported .number)) (go (seen w .said)))
   where
     go : {a : Answer Verdict} → Told Judged root k x a → First (verifyRows root k x) (numberOf a)
     go (not-32-bytes n) = inl (λ z. n (z .0, z .1 .0), refl)
@@ -270,7 +271,7 @@ verify-exactly {root} {k} {x} {r = r} w = exactly (verifyRows root k x) r refl (
 pub verify-many-exactly : {root list row old : Bytes} {r : ℕ} {new : Bytes} → VerifiesMany root list row old r new →
     Exactly (verifyManyRows root list row old) r
 verify-many-exactly {root} {list} {row} {old} {r} w =
-    exactly (verifyManyRows root list row old) r refl (subst (First (verifyManyRows root list row old)) (sym (w .answer)) (go (w .told)))
+    exactly (verifyManyRows root list row old) r refl (subst (First (verifyManyRows root list row old)) (sym (seen w .exported .number)) (go (seen w .said)))
   where
     right : RootAndKeys root list → NotRootAndKeys root list → ⊥
     right h (inl z) = z (h .0, tt)
