@@ -4,7 +4,7 @@ use Prim.Native.Nat.{ℕ}
 use mathlib.Core.Path.{_≡_}
 use mathlib.Core.Bool.{cond}
 use mathlib.Core.List.{List, [], _∷_, _++_}
-use mathlib.Core.Option.{Option, none, some}
+use mathlib.Core.Option.{Option, none}
 use lib.ListN.{length}
 use Rattle.terms.specs.Bits.{Bytes}
 use Rattle.terms.specs.Records.{Proof}
@@ -33,13 +33,10 @@ proofsBytes (p ∷ ps) = proofBytes p ++ proofsBytes ps
 
 -- Proving each key of a list in version v of the bytes s answers r; the room is left as t, the array f for the length
 -- of all together, 4 bytes little-endian, as g.
-pub record ListProved (s : Bytes) (by : Option (List ℕ)) (v : ℕ) (list room f : Bytes) (r : ℕ) (t g : Bytes) :
+pub record PalettesBy (s : Bytes) (by : Option (List ℕ)) (v : ℕ) (list room f : Bytes) (r : ℕ) (t g : Bytes) :
     Type 0 where
   pub exported : Exported (paletteAnswer s by v list (length room)) (λ ps. le 4 (lengthTogether ps)) f r g
   pub proofs : t ≡ roomAfter proofsBytes (paletteAnswer s by v list (length room)) room
 
 abbrev pub Palettes : Bytes → ℕ → Bytes → Bytes → Bytes → ℕ → Bytes → Bytes → Type 0
-Palettes s v list room f r t g = ListProved s none v list room f r t g
-
-abbrev pub PalettesBy : Bytes → List ℕ → ℕ → Bytes → Bytes → Bytes → ℕ → Bytes → Bytes → Type 0
-PalettesBy s table v list room f r t g = ListProved s (some table) v list room f r t g
+Palettes s v list room f r t g = PalettesBy s none v list room f r t g

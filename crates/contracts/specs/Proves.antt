@@ -4,7 +4,7 @@ use Prim.Native.Nat.{ℕ}
 use mathlib.Core.Path.{_≡_}
 use mathlib.Core.Bool.{cond}
 use mathlib.Core.List.{List}
-use mathlib.Core.Option.{Option, none, some}
+use mathlib.Core.Option.{Option, none}
 use lib.ListN.{length}
 use lib.Dec.{eqb}
 use Rattle.terms.specs.Bits.{Bytes}
@@ -26,12 +26,9 @@ proveAnswer s by v k room =
 
 -- Proving the key k in version v of the bytes s answers r; the room is left as t, the array f for the proof's length,
 -- 4 bytes little-endian, as g.
-pub record KeyProved (s : Bytes) (by : Option (List ℕ)) (v : ℕ) (k room f : Bytes) (r : ℕ) (t g : Bytes) : Type 0 where
+pub record ProvesBy (s : Bytes) (by : Option (List ℕ)) (v : ℕ) (k room f : Bytes) (r : ℕ) (t g : Bytes) : Type 0 where
   pub exported : Exported (proveAnswer s by v k (length room)) (λ p. le 4 (proofLength p)) f r g
   pub proof : t ≡ roomAfter proofBytes (proveAnswer s by v k (length room)) room
 
 abbrev pub Proves : Bytes → ℕ → Bytes → Bytes → Bytes → ℕ → Bytes → Bytes → Type 0
-Proves s v k room f r t g = KeyProved s none v k room f r t g
-
-abbrev pub ProvesBy : Bytes → List ℕ → ℕ → Bytes → Bytes → Bytes → ℕ → Bytes → Bytes → Type 0
-ProvesBy s table v k room f r t g = KeyProved s (some table) v k room f r t g
+Proves s v k room f r t g = ProvesBy s none v k room f r t g

@@ -3,7 +3,7 @@
 use Prim.Native.Nat.{ℕ}
 use mathlib.Core.Bool.{cond}
 use mathlib.Core.List.{List}
-use mathlib.Core.Option.{Option, none, some}
+use mathlib.Core.Option.{Option, none}
 use lib.ListN.{length}
 use lib.Dec.{eqb}
 use Rattle.terms.specs.Bits.{Bytes}
@@ -24,22 +24,17 @@ unfoldable pub keyAnswer : Bytes → Option (List ℕ) → ℕ → Bytes → Ans
 keyAnswer s by v k =
     cond (eqb (length k) 32) (byHeader (headerFor s by) (readKeyBy (lookingIn s by) (storeOf s) v k)) (refused 12)
 
--- Reading the root of version v of the bytes s answers r; the array f for the root is left as g.
-pub record RootRead (s : Bytes) (by : Option (List ℕ)) (v : ℕ) (f : Bytes) (r : ℕ) (g : Bytes) : Type 0 where
+-- Reading the root of version v of the bytes s, by scans or by a table, answers r; the array f for the root is left as
+-- g.
+pub record ReadsRootBy (s : Bytes) (by : Option (List ℕ)) (v : ℕ) (f : Bytes) (r : ℕ) (g : Bytes) : Type 0 where
   pub exported : Exported (rootAnswer s by v) (λ root. root) f r g
 
 abbrev pub ReadsRoot : Bytes → ℕ → Bytes → ℕ → Bytes → Type 0
-ReadsRoot s v f r g = RootRead s none v f r g
-
-abbrev pub ReadsRootBy : Bytes → List ℕ → ℕ → Bytes → ℕ → Bytes → Type 0
-ReadsRootBy s table v f r g = RootRead s (some table) v f r g
+ReadsRoot s v f r g = ReadsRootBy s none v f r g
 
 -- Reading the key k in version v of the bytes s answers r; the array f for what is found is left as g.
-pub record KeyRead (s : Bytes) (by : Option (List ℕ)) (v : ℕ) (k f : Bytes) (r : ℕ) (g : Bytes) : Type 0 where
+pub record ReadsKeyBy (s : Bytes) (by : Option (List ℕ)) (v : ℕ) (k f : Bytes) (r : ℕ) (g : Bytes) : Type 0 where
   pub exported : Exported (keyAnswer s by v k) foundBytes f r g
 
 abbrev pub ReadsKey : Bytes → ℕ → Bytes → Bytes → ℕ → Bytes → Type 0
-ReadsKey s v k f r g = KeyRead s none v k f r g
-
-abbrev pub ReadsKeyBy : Bytes → List ℕ → ℕ → Bytes → Bytes → ℕ → Bytes → Type 0
-ReadsKeyBy s table v k f r g = KeyRead s (some table) v k f r g
+ReadsKey s v k f r g = ReadsKeyBy s none v k f r g

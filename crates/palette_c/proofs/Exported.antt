@@ -2,7 +2,7 @@
 use Prim.Native.Nat.{ℕ}
 use mathlib.Core.Path.{_≡_, ap, sym, _∙_}
 use mathlib.Core.List.{List}
-use mathlib.Core.Option.{none, some}
+use mathlib.Core.Option.{Option}
 use lib.ListN.{length}
 use Rattle.terms.specs.Bits.{Bytes}
 use Rattle.terms.specs.Fields.{le}
@@ -16,7 +16,7 @@ use Rattle.palette_rules.specs.Palette.{lengthTogether}
 use Rattle.prove.specs.Parts.{provedSays}
 use Rattle.prove.specs.declared.Proved as declared
 use Rattle.prove.specs.declared.Proved.the-variants.{Refused, Length}
-use Rattle.contracts.specs.Palettes.{paletteAnswer, Palettes, PalettesBy, proofsBytes}
+use Rattle.contracts.specs.Palettes.{paletteAnswer, PalettesBy, proofsBytes}
 use Rattle.palette.specs.Parts.{Gives}
 use Rattle.palette_c.specs.Export.{PaletteTold}
 
@@ -39,10 +39,6 @@ pub palette-refusal : {b : Answer (List Proof)} (n : ℕ) (room f : Bytes) → r
 palette-refusal n room f e = record { exported = exported-refusal e; proofs = ap (λ x. roomAfter proofsBytes x room) e }
 
 -- an answer that is told is what the contract says
-module _ {s : Bytes} {v : ℕ} {list room f : Bytes} {r : ℕ} {t g : Bytes} where
-  pub palette-told : PaletteTold (paletteAnswer s none v list (length room)) room f r t g → Palettes s v list room f r t g
-  palette-told w = record { exported = w .exported; proofs = w .proofs }
-
-  pub palette-told-by : {table : List ℕ} → PaletteTold (paletteAnswer s (some table) v list (length room)) room f r t g →
-      PalettesBy s table v list room f r t g
-  palette-told-by w = record { exported = w .exported; proofs = w .proofs }
+pub palette-told : {s : Bytes} {by : Option (List ℕ)} {v : ℕ} {list room f t g : Bytes} {r : ℕ} →
+    PaletteTold (paletteAnswer s by v list (length room)) room f r t g → PalettesBy s by v list room f r t g
+palette-told w = record { exported = w .exported; proofs = w .proofs }

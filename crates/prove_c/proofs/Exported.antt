@@ -2,7 +2,7 @@
 use Prim.Native.Nat.{ℕ}
 use mathlib.Core.Path.{_≡_, ap, sym, _∙_}
 use mathlib.Core.List.{List}
-use mathlib.Core.Option.{none, some}
+use mathlib.Core.Option.{Option}
 use lib.ListN.{length}
 use Rattle.terms.specs.Bits.{Bytes}
 use Rattle.terms.specs.Fields.{le}
@@ -13,7 +13,7 @@ use Rattle.meaning.specs.Calls.{Answer, refused}
 use Rattle.meaning.specs.Answers.{roomAfter}
 use Rattle.meaning.specs.Proving.{proofLength}
 use Rattle.proofrecords.specs.ProofBytes.{proofBytes}
-use Rattle.contracts.specs.Proves.{proveAnswer, Proves, ProvesBy}
+use Rattle.contracts.specs.Proves.{proveAnswer, ProvesBy}
 use Rattle.prove.specs.Parts.{lengthAnswer, provedSays}
 use Rattle.prove.specs.declared.Proved as declared
 use Rattle.prove.specs.declared.Proved.the-variants.{Refused, Length}
@@ -39,9 +39,6 @@ pub proof-refusal : {b : Answer Proof} (n : ℕ) (room f : Bytes) → refused n 
 proof-refusal n room f e = record { exported = exported-refusal e; proof = ap (λ x. roomAfter proofBytes x room) e }
 
 -- an answer that is told is what the contract says
-module _ {s : Bytes} {v : ℕ} {k room f : Bytes} {r : ℕ} {t g : Bytes} where
-  pub proof-told : ProofTold (proveAnswer s none v k (length room)) room f r t g → Proves s v k room f r t g
-  proof-told w = record { exported = w .exported; proof = w .proof }
-
-  pub proof-told-by : {table : List ℕ} → ProofTold (proveAnswer s (some table) v k (length room)) room f r t g → ProvesBy s table v k room f r t g
-  proof-told-by w = record { exported = w .exported; proof = w .proof }
+pub proof-told : {s : Bytes} {by : Option (List ℕ)} {v : ℕ} {k room f t g : Bytes} {r : ℕ} → ProofTold (proveAnswer s by v k (length room)) room f r t g →
+    ProvesBy s by v k room f r t g
+proof-told w = record { exported = w .exported; proof = w .proof }

@@ -6,6 +6,7 @@ use read_number::NumberRead;
 use read_open::as_many;
 use read_position::PositionRead;
 use refusal_numbers::WRONG_SIZE;
+ghost use mathlib.Core.Option.{some};
 ghost use mathlib.Core.Path.{_≡_};
 ghost use mathlib.Core.List.{_++_};
 ghost use lib.ListN.{length};
@@ -78,7 +79,7 @@ pub fn grants_at(store: &[u8], version: u32, position: u64, grant: &mut [u8; 64]
 
 // The number of grants of a version, by a table lent with the store (2026-05).
 pub fn count_indexed(store: &[u8], index: &[u32], version: u32, count: &mut [u8; 8]) -> u64
-    ensures { λ r. ⌜ CountsBy (now (store .entry)) (now (index .entry)) version (now (count .entry)) r (now (count .exit)) ⌝ }
+    ensures { λ r. ⌜ CountsBy (now (store .entry)) (some (now (index .entry))) version (now (count .entry)) r (now (count .exit)) ⌝ }
 {
     if !as_many(store, index) {
         return WRONG_SIZE as u64;
@@ -94,7 +95,7 @@ pub fn at_indexed(
     position: u64,
     grant: &mut [u8; 64],
 ) -> u64
-    ensures { λ r. ⌜ ReadsAtBy (now (store .entry)) (now (index .entry)) version position (now (grant .entry)) r (now (grant .exit)) ⌝ }
+    ensures { λ r. ⌜ ReadsAtBy (now (store .entry)) (some (now (index .entry))) version position (now (grant .entry)) r (now (grant .exit)) ⌝ }
 {
     if !as_many(store, index) {
         return WRONG_SIZE as u64;
