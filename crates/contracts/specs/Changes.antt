@@ -1,5 +1,4 @@
--- Document 02, request 2026-01: what comparing two versions answers for any bytes, and every byte of the room and of
--- its array. Assumes nothing.
+-- Document 02, request 2026-01: comparing two versions, over any bytes. Assumes nothing.
 use Prim.Native.Nat.{ℕ}
 use mathlib.Core.Path.{_≡_}
 use mathlib.Core.List.{List}

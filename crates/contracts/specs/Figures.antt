@@ -1,19 +1,14 @@
--- Document 02, request 2026-14: what the figures of a range of versions answer for any bytes, and every byte of the
--- room and of its array. Order: 1, 2; then 3 by full soundness; then 8, 9. Assumes nothing.
+-- Document 02, request 2026-14: the figures of a range of versions, over any bytes. Assumes nothing.
 use Prim.Native.Nat.{ℕ}
 use mathlib.Core.Path.{_≡_}
-use mathlib.Core.List.{List, map, _++_}
+use mathlib.Core.List.{map, _++_}
 use lib.ListN.{length}
 use Rattle.terms.specs.Bits.{Bytes}
 use Rattle.terms.specs.Fields.{flat, le}
 use Rattle.meaning.specs.Calls.{Answer}
 use Rattle.meaning.specs.Answers.{roomAfter, Exported}
-use Rattle.quarter.specs.Figures.{Figures as OfVersion, figuresBytes, Quarter, figures}
+use Rattle.quarter.specs.Figures.{figuresBytes, Quarter, figures}
 use Rattle.promises.specs.Calls.{Does}
-
--- The numbers of the versions, one after the other.
-abbrev pub eachBytes : List OfVersion → Bytes
-eachBytes fs = flat (map figuresBytes fs)
 
 -- The totals of a range: distinct records, then the sum of records over versions, 4 bytes little-endian each.
 abbrev pub totalsBytes : Quarter → Bytes
@@ -25,4 +20,4 @@ pub record Figures (first last : ℕ) (s room f : Bytes) (r : ℕ) (t g : Bytes)
   pub answer : Answer Quarter
   pub does : Does (figures first last (length room)) s answer s
   pub exported : Exported answer totalsBytes f r g
-  pub numbers : t ≡ roomAfter (λ q. eachBytes (q .each)) answer room
+  pub numbers : t ≡ roomAfter (λ q. flat (map figuresBytes (q .each))) answer room

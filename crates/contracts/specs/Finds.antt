@@ -1,5 +1,4 @@
--- Document 02, request 2026-12: what the call answers for any bytes. Order: 12; then 1, 2; then 3 by full soundness;
--- then 8, 14; then 10, 11. Assumes nothing.
+-- Document 02, request 2026-12: what a forged proof would cost, over any bytes. Assumes nothing.
 use Prim.Native.Nat.{ℕ}
 use mathlib.Core.Path.{_≡_}
 use lib.ListN.{length}

@@ -1,5 +1,4 @@
--- 2026-09 over the bytes of a store, sound or not: the number of grants of a version, the grant at a position of it,
--- and what each leaves in its array. Assumes nothing.
+-- 2026-09, over any bytes: the number of grants of a version, and the grant at a position of it. Assumes nothing.
 use Prim.Native.Nat.{ℕ}
 use mathlib.Core.List.{List, _++_}
 use mathlib.Core.Option.{Option, none}

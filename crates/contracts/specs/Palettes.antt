@@ -1,14 +1,13 @@
--- Document 02, request 2026-04, over bytes, for every store, sound or damaged. Order: 12, for the list alone; then 1,
--- 2; then 8, as the single calls, 9. Assumes nothing.
+-- Document 02, request 2026-04: proving each key of a list, over any bytes. Assumes nothing.
 use Prim.Native.Nat.{ℕ}
 use mathlib.Core.Path.{_≡_}
 use mathlib.Core.Bool.{cond}
-use mathlib.Core.List.{List, [], _∷_, _++_}
+use mathlib.Core.List.{List, map}
 use mathlib.Core.Option.{Option, none}
 use lib.ListN.{length}
 use Rattle.terms.specs.Bits.{Bytes}
 use Rattle.terms.specs.Records.{Proof}
-use Rattle.terms.specs.Fields.{le}
+use Rattle.terms.specs.Fields.{flat, le}
 use Rattle.meaning.specs.Calls.{Answer, refused}
 use Rattle.meaning.specs.Proving.{proofBy}
 use Rattle.meaning.specs.Answers.{roomAfter, Exported}
@@ -28,8 +27,7 @@ paletteAnswer s by v list room =
 
 -- The proofs one after the other.
 abbrev pub proofsBytes : List Proof → Bytes
-proofsBytes [] = []
-proofsBytes (p ∷ ps) = proofBytes p ++ proofsBytes ps
+proofsBytes ps = flat (map proofBytes ps)
 
 -- Proving each key of a list in version v of the bytes s answers r; the room is left as t, the array f for the length
 -- of all together, 4 bytes little-endian, as g.

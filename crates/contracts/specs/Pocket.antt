@@ -1,5 +1,4 @@
--- Document 02, request 2026-14, of the pocket writer over bytes, for every store, sound or damaged. Order: 12; then 1,
--- 2; then 8, 14, 3 or 17, 19, 9. Assumes nothing.
+-- Document 02, request 2026-14: the pocket prover, over any bytes. Assumes nothing.
 use Prim.Native.Nat.{ℕ}
 use mathlib.Core.Path.{_≡_}
 use mathlib.Core.Bool.{cond}

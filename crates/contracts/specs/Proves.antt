@@ -1,5 +1,4 @@
--- Document 01, 'Reading and proving' and 'Numbers of refusal', with 2026-03 and 2026-07, of the call that proves, over
--- bytes, for every store, sound or damaged. Order: 12; then 1, 2; then 8, 14, 3 or 17, 9. Assumes nothing.
+-- Document 01, 'Reading and proving', with 2026-03 and 2026-07: proving a key, over any bytes. Assumes nothing.
 use Prim.Native.Nat.{ℕ}
 use mathlib.Core.Path.{_≡_}
 use mathlib.Core.Bool.{cond}

@@ -1,5 +1,4 @@
--- Document 01, 'Reading and proving' and 'Numbers of refusal', with 2026-07, of the root read and the key read over
--- bytes, for every store, sound or not. Order: 12; then 1, 2; then 8; then 3 or 17, the first met. Assumes nothing.
+-- Document 01, 'Reading and proving', with 2026-07: the root read and the key read, over any bytes. Assumes nothing.
 use Prim.Native.Nat.{ℕ}
 use mathlib.Core.Bool.{cond}
 use mathlib.Core.List.{List}

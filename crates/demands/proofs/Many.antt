@@ -70,10 +70,6 @@ many-are-single-checks {root} {list} {row} {old} {new} w = record {
         (one-answers root (keysIn list) xs c b
         (subst (λ zs. Answers root (keysIn list) zs c) (one-row (length (keysIn list)) row ys xs n are) q) r)
 
-proofs-flat : (ps : List Proof) → proofsBytes ps ≡ flat (map proofBytes ps)
-proofs-flat [] = refl
-proofs-flat (p ∷ ps) = ap (proofBytes p ++_) (proofs-flat ps)
-
 -- On a sound store, in a kept version.
 module _ (s : Bytes) (w : SoundBytes s) (v : ℕ) (kept : Kept (storeOf s) v) where
   slots : All (SlotForm counted) (storeOf s .slots)
@@ -113,8 +109,7 @@ module _ (s : Bytes) (w : SoundBytes s) (v : ℕ) (kept : Kept (storeOf s) v) wh
         let many : length (map proofBytes ps) ≡ length (keysIn list) = length-map ps proofBytes ∙ form .1 in
         let row : take (num g) t ≡ flat (map proofBytes ps) =
         ap (take (num g)) (room-is x)
-        ∙ take-at (proofsBytes ps) _ (num g) (together-long s v slots (keysIn list) ps keys each ∙ sym (told-is x whole))
-        ∙ proofs-flat ps in
+        ∙ take-at (proofsBytes ps) _ (num g) (together-long s v slots (keysIn list) ps keys each ∙ sym (told-is x whole)) in
         let root32 : length root ≡ 32 = ap length (root-of-tree w kept y .1) ∙ hash-whole (unversioned (treeOfVersion s v)) .0 in
         let are : Pieces (length (keysIn list)) (take (num g) t) (map proofBytes ps) = record { each = proofs-sized ps (form .0); many = many; bytes = row } in
         let same = each-answered y (keysIn list) ps keys each in

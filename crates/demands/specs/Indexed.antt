@@ -44,7 +44,7 @@ pub record AsPlain (s : Bytes) (table : List ℕ) (v : ℕ) : Type 0 where
   pub count : {f g h : Bytes} {r q : ℕ} → CountsBy s (some table) v f r g → Counts s v f q h → (r ≡ q) × (g ≡ h)
   pub position : {i : ℕ} {f g h : Bytes} {r q : ℕ} → ReadsAtBy s (some table) v i f r g → ReadsAt s v i f q h →
       (r ≡ q) × (g ≡ h)
-  pub proof : {k room f t u g h : Bytes} {r q : ℕ} → ProvesBy s (some table) v k room f r t g → Proves s v k room f q u h →
-      (r ≡ q) × (t ≡ u) × (g ≡ h)
+  pub proof : {k room f t u g h : Bytes} {r q : ℕ} → ProvesBy s (some table) v k room f r t g →
+      Proves s v k room f q u h → (r ≡ q) × (t ≡ u) × (g ≡ h)
   pub palette : {list room f t u g h : Bytes} {r q : ℕ} → PalettesBy s (some table) v list room f r t g →
       Palettes s v list room f q u h → (r ≡ q) × (t ≡ u) × (g ≡ h)

@@ -22,7 +22,7 @@ use Rattle.quarter.proofs.Theorems.{RangeRight, range-right, living-counts}
 use Rattle.figures_count.specs.Count.{figuresSay}
 use Rattle.figures_count.specs.declared.Figures as declared
 use Rattle.figures_block.specs.Block.{Counts}
-use Rattle.contracts.specs.Figures.{eachBytes}
+use Rattle.figures.specs.Figures.{eachBytes}
 use Rattle.figures.specs.Parts.{Range, Writes}
 
 -- four numbers of four bytes

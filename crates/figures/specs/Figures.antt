@@ -2,13 +2,14 @@
 -- room. Within the code; the contract is in `contracts`. Assumes nothing.
 use Prim.Native.Nat.{ℕ}
 use mathlib.Core.Path.{_≡_}
+use mathlib.Core.List.{List, map}
 use lib.ListN.{length}
 use Rattle.terms.specs.Bits.{Bytes}
+use Rattle.terms.specs.Fields.{flat}
 use Rattle.meaning.specs.Calls.{Answer, refused, accepted}
-use Rattle.quarter.specs.Figures.{Quarter, figures}
+use Rattle.quarter.specs.Figures.{Figures, figuresBytes, Quarter, figures}
 use Rattle.promises.specs.Calls.{Does}
 use Rattle.meaning.specs.Answers.{roomAfter}
-use Rattle.contracts.specs.Figures.{eachBytes}
 use Rattle.figures.specs.declared.Figured as declared
 use Rattle.figures.specs.declared.Figured.the-variants.{Refused, Told}
 
@@ -28,6 +29,10 @@ figuredSays (Told d n) = accepted (totals d n)
 abbrev pub totalsOf : Answer Quarter → Answer Totals
 totalsOf (refused m) = refused m
 totalsOf (accepted q) = accepted (totals (q .distinct) (q .records))
+
+-- The numbers of the versions, one after the other.
+abbrev pub eachBytes : List Figures → Bytes
+eachBytes fs = flat (map figuresBytes fs)
 
 -- The figures from version first to last give this answer and leave the room so; the store is as it was.
 pub record Tells (first last : ℕ) (s room : Bytes) (r : Answer Totals) (left : Bytes) : Type 0 where

@@ -7,7 +7,7 @@ use Rattle.terms.specs.Bits.{Bytes}
 use Rattle.layout.specs.Stores.{storeOf}
 use Rattle.promises.specs.Calls.{SoundBytes}
 use Rattle.quarter.specs.Figures.{rangeRight, figuresSize, versions, figuresOver, recordsOver}
-use Rattle.contracts.specs.Figures.{eachBytes}
+use Rattle.figures.specs.Figures.{eachBytes}
 
 -- A sound store, a right range, and a part with room for its numbers.
 pub record Range (first last : ℕ) (s part : Bytes) : Type 0 where

@@ -1,6 +1,5 @@
--- Document 02, request 2026-05: what the calls that keep a table of slot numbers answer for any bytes and any table,
--- and what they leave of both. Order: 1, with a table of another length, 2, 3; then 16; then the call's own. Assumes
--- nothing.
+-- Document 02, request 2026-05: the calls that keep a table of slot numbers, over any bytes and any table. Order: 1,
+-- with a table of another length, 2, 3; then 16; then the call's own. Assumes nothing.
 use Prim.Native.Nat.{ℕ}
 use mathlib.Core.Path.{_≡_}
 use mathlib.Core.Bool.{true}

@@ -9,7 +9,7 @@ use Rattle.terms.specs.Records.{Proof, presence, absence}
 use Rattle.terms.proofs.Places.{length-pack}
 use Rattle.meaning.specs.Calls.{Answer, accepted}
 use Rattle.meaning.specs.Reading.{Verdict, present, absent}
-use Rattle.meaning.specs.Answers.{numberOf, toldOf, foundBytes}
+use Rattle.meaning.specs.Answers.{numberOf, toldOf, foundBytes, exports-answer}
 use Rattle.meaning.proofs.Told.{seen}
 use Rattle.checker.specs.Holding.{Holds, shown, only-left, only-right, both}
 use Rattle.nodehash.specs.Node.{leafHash, innerHash}
@@ -45,7 +45,7 @@ what-was-accepted {root} {k} {y} {f} {g} {b} w = let x = seen w in go (x .said) 
 pub accepted-alone : (root k : Bytes) (p : Proof) (a : Verdict) (f : Bytes) → length root ≡ 32 → length k ≡ 32 → ProofForm p →
     Holds leafHash innerHash root k p a → Verifies root k (proofBytes p) f 0 (foundBytes a)
 accepted-alone root k p a f r l h i =
-    record { verdict = accepted a; told = in-form (r, l) (record { bytes = refl; form = h }) (holding-alone i); answer = refl; found = refl }
+    exports-answer (in-form (r, l) (record { bytes = refl; form = h }) (holding-alone i))
 
 pub key-32 : (b : ℕ) (k : Bytes) → length (partKey b k) ≡ 32
 unfolding partKey

@@ -1,6 +1,5 @@
 -- Many proofs checked in one call, beyond document 02: a row of pieces, one for each key of a list, and the answers of
--- single checks in their order. Order: 12, 10, 9. Whether a piece is a proof in form is its own number. Assumes
--- nothing.
+-- single checks in their order. Whether a piece is a proof in form is its own number. Assumes nothing.
 use Prim.Native.Nat.{ℕ, _*_, _≤_, _<_}
 use mathlib.Core.Path.{_≡_}
 use mathlib.Core.Bool.{true}

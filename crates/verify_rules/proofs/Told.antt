@@ -23,9 +23,13 @@ use Rattle.proofrecords.specs.ProofBytes.{proofIn}
 use Rattle.proofrecords.proofs.Proofs.{proof-is, no-proof-is, one-proof-is}
 use Rattle.pocket.specs.Pocket.{small}
 use Rattle.pocket.proofs.Theorems.{inside-they-agree, outside-is-refused, inside-shows-short, outside-shows-long}
-use Rattle.verify_rules.specs.Verify.{Judged, holding, not-holding, Sizes32, Judgement, Told, not-32-bytes, not-in-form, in-form, Verifies}
+use Rattle.verify_rules.specs.Verify.{Judged, holding, not-holding, Sizes32, Told, not-32-bytes, not-in-form, in-form, Verifies}
 use Rattle.verify_rules.specs.Pocket.{PocketJudged, outside, inside, PocketVerifies}
 use Rattle.verify_rules.specs.Reading.{judged, verified, pocketJudged, pocketVerified}
+
+-- What is said of a proof for a key against a root.
+abbrev Judgement : Type 1
+Judgement = Bytes → Bytes → Proof → Answer Verdict → Type 0
 
 -- One answer alone is told of any bytes, if one alone is said of any proof.
 one-told : (said : Judgement) (root k x : Bytes) →

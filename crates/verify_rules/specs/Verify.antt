@@ -1,5 +1,4 @@
--- Document 01, 'Checking', with the numbers of refusal 10, 11 and 12: what the proof check answers to any bytes.
--- Assumes nothing.
+-- Document 01, 'Checking', with the refusals 10, 11 and 12: the proof check, over any bytes. Assumes nothing.
 use Prim.Native.Nat.{ℕ}
 use mathlib.Core.Path.{_≡_}
 use lib.ListN.{length}
@@ -21,13 +20,10 @@ pub data Judged (root k : Bytes) (p : Proof) : Answer Verdict → Type 0 where
 abbrev pub Sizes32 : Bytes → Bytes → Type 0
 Sizes32 root k = (length root ≡ 32) × (length k ≡ 32)
 
--- What is said of a proof for a key against a root.
-abbrev pub Judgement : Type 1
-Judgement = Bytes → Bytes → Proof → Answer Verdict → Type 0
-
 -- What is said of the bytes x, given what is said of a proof: 12 if the root or the key isn't 32 bytes, 10 if x is no
 -- proof in form, else what is said of the proof that x is.
-pub data Told (judged : Judgement) (root k x : Bytes) : Answer Verdict → Type 0 where
+pub data Told (judged : Bytes → Bytes → Proof → Answer Verdict → Type 0) (root k x : Bytes) : Answer Verdict →
+    Type 0 where
   not-32-bytes : (Sizes32 root k → ⊥) → Told judged root k x (refused 12)
   not-in-form : Sizes32 root k → ((p : Proof) → ProofIs x p → ⊥) → Told judged root k x (refused 10)
   in-form : {p : Proof} {a : Answer Verdict} → Sizes32 root k → ProofIs x p → judged root k p a → Told judged root k x a
