@@ -16,11 +16,9 @@ module _ {first second limit : ℕ} {s room after : Bytes} (r : declared.Compare
     (old : Bytes) where
   pub changes-refused : {n : ℕ} → r ≡ Refused n → Changes first second limit s room old n after old
   changes-refused {n} e =
-      let t = told-refused length (w .answer) n old (sym (ap comparedSays e) ∙ w .says) in
-      record { answer = w .answer; does = w .does; number = t .number; list = w .bytes; told = t .told }
+      record { answer = w .answer; does = w .does; exported = told-refused length (w .answer) n old (sym (ap comparedSays e) ∙ w .says); list = w .bytes }
 
   pub changes-listed : {n : ℕ} {new : Bytes} → r ≡ Listed n → length old ≡ 4 → new ≡ written 0 (le 4 n) old →
       Changes first second limit s room old 0 after new
   changes-listed {n} {new} e l x =
-      let t = told-given length (w .answer) n old new (sym (ap comparedSays e) ∙ w .says) (x ∙ number-fills n old l) in
-      record { answer = w .answer; does = w .does; number = t .number; list = w .bytes; told = t .told }
+      record { answer = w .answer; does = w .does; exported = told-given length (w .answer) n old new (sym (ap comparedSays e) ∙ w .says) (x ∙ number-fills n old l); list = w .bytes }

@@ -19,6 +19,7 @@ use Rattle.meaning.specs.Calls.{Answer, refused, accepted, Result, isKept}
 use Rattle.meaning.specs.Reading.{answerOf}
 use Rattle.meaning.specs.Counting.{grantAt}
 use Rattle.meaning.specs.Answers.{numberOf, toldOf, foundBytes, roomAfter}
+use Rattle.meaning.proofs.Told.{one-exported}
 use Rattle.meaning.specs.Proving.{proof, fitted, prove}
 use Rattle.shown.proofs.Theorems.{kept-test, same-tree-same-proofs}
 use Rattle.changed.specs.Changes.{Item, changed, items, itemSize, listBytes}
@@ -31,11 +32,9 @@ use Rattle.promises.specs.Calls.{SoundBytes, Does, wrong-header, not-sound, ref
 use Rattle.palette_rules.specs.Palette.{wholeKeys, keysIn, inTurn, fittedTogether, palette}
 use Rattle.move_rules.proofs.Theorems.{comparedBy, by-trees}
 use Rattle.proofrecords.specs.ProofBytes.{proofBytes}
-use Rattle.contracts.specs.Proves.{proveAnswer, lengthBytes}
+use Rattle.contracts.specs.Proves.{proveAnswer}
 use Rattle.contracts.specs.Palettes.{paletteAnswer, proofsBytes}
-use Rattle.contracts.specs.Palettes as palettes
 use Rattle.contracts.specs.Changes as listed
-use Rattle.contracts.specs.Changes.{countBytes}
 use Rattle.contracts.specs.Numbers.{grantBytes}
 use Rattle.demands.specs.Claims.{treeOfVersion, grantsOfVersion, ReadsAs, ComparesAs}
 use Rattle.demands.proofs.Showing.{root-of-tree, key-of-grants}
@@ -84,18 +83,14 @@ module _ {t s : Bytes} (a : SoundBytes t) (b : SoundBytes s) {v w : ℕ} (kept :
         let m = sound-is-numbered a v kept .position x in
         let n = sound-is-numbered b w kept′ .position y in
         (m .0 ∙ ap (λ u. numberOf (grantAt (grantsIn u) i)) e ∙ sym (n .0), m .1 ∙ ap (λ u. toldOf grantBytes (grantAt (grantsIn u) i) f) e ∙ sym (n .1));
-    proof = λ {k} {room} {f} x y.
-        let is = same-proved k (length room) in (
-          x .answer ∙ ap (λ p. numberOf p) is ∙ sym (y .answer),
-          x .proof ∙ ap (λ p. roomAfter proofBytes p room) is ∙ sym (y .proof),
-          x .told ∙ ap (λ p. lengthBytes p f) is ∙ sym (y .told),
-        );
-    palette = λ {list} {room} {f} x y.
-        let is = same-palette list (length room) in (
-          x .answer ∙ ap (λ p. numberOf p) is ∙ sym (y .answer),
-          x .proofs ∙ ap (λ p. roomAfter proofsBytes p room) is ∙ sym (y .proofs),
-          x .told ∙ ap (λ p. palettes.lengthBytes p f) is ∙ sym (y .told),
-        );
+    proof = λ {k} {room} x y.
+        let is = same-proved k (length room) in
+        let (m, d) = one-exported is (x .exported) (y .exported) in
+        (m, x .proof ∙ ap (λ p. roomAfter proofBytes p room) is ∙ sym (y .proof), d);
+    palette = λ {list} {room} x y.
+        let is = same-palette list (length room) in
+        let (m, d) = one-exported is (x .exported) (y .exported) in
+        (m, x .proofs ∙ ap (λ p. roomAfter proofsBytes p room) is ∙ sym (y .proofs), d);
   }
 
 -- a comparison of kept versions goes by their trees
@@ -114,13 +109,11 @@ pub same-trees-compare-as : {t s : Bytes} → SoundBytes t → SoundBytes s → 
     Kept (storeOf t) v → Kept (storeOf t) v′ → Kept (storeOf s) w → Kept (storeOf s) w′ →
     treeOfVersion t v ≡ treeOfVersion s w → treeOfVersion t v′ ≡ treeOfVersion s w′ → ComparesAs t v v′ s w w′
 same-trees-compare-as {t} {s} a b {v} {v′} {w} {w′} kv kv′ kw kw′ e e′ = record {
-  same = λ {limit} {room} {f} x y.
+  same = λ {limit} {room} x y.
       let is : x .answer ≡ y .answer =
       asked a (x .does) ∙ compared-kept (storeOf t) v v′ limit (length room) kv kv′ ∙ ap₂ (comparison limit (length room)) e e′
       ∙ sym (asked b (y .does) ∙ compared-kept (storeOf s) w w′ limit (length room) kw kw′)
-      in (
-        x .number ∙ ap (λ p. numberOf p) is ∙ sym (y .number),
-        x .list ∙ ap (λ p. roomAfter listBytes p room) is ∙ sym (y .list),
-        x .told ∙ ap (λ p. countBytes p f) is ∙ sym (y .told),
-      );
+      in
+      let (m, d) = one-exported is (x .exported) (y .exported) in
+      (m, x .list ∙ ap (λ p. roomAfter listBytes p room) is ∙ sym (y .list), d);
 }

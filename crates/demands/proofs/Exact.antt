@@ -17,13 +17,14 @@ use Rattle.meaning.specs.Calls.{Answer, refused, accepted, Result, apply, prune
 use Rattle.meaning.specs.Reading.{Verdict, Trouble, lostRecord, spoiltRecord, readKey, readRoot}
 use Rattle.meaning.specs.Proving.{prove, proof}
 use Rattle.meaning.specs.Counting.{readNumber, readPosition}
-use Rattle.meaning.specs.Answers.{numberOf}
+use Rattle.meaning.specs.Answers.{numberOf, Exports, exports-refusal, exports-answer}
+use Rattle.meaning.proofs.Told.{seen}
 use Rattle.nodehash.specs.Node.{leafHash, innerHash}
 use Rattle.layout.specs.Headers.{Headed, refusal, header, sizeRight, headerOf}
 use Rattle.layout.specs.Stores.{storeOf}
 use Rattle.contracts.specs.Format.{formatAnswer}
 use Rattle.promises.specs.Check as check
-use Rattle.promises.specs.Calls.{Does, wrong-header, not-sound, refuses, accepts, Exports, exports-refusal, exports-answer}
+use Rattle.promises.specs.Calls.{Does, wrong-header, not-sound, refuses, accepts}
 use Rattle.promises.specs.Headed.{byHeader}
 use Rattle.contracts.specs.Reads.{rootAnswer, keyAnswer}
 use Rattle.contracts.specs.Numbers.{numberAnswer, positionAnswer}
@@ -86,8 +87,8 @@ does-first call s more a f (accepts w e) =
     (inr (λ n. n (w .sound), subst (λ x. First more (numberOf x)) e f))
 
 export-first : {A : Type 0} (call : Store → Result A) {told : A → Bytes} (s : Bytes) (more : Table) {f t g : Bytes} {r : ℕ} →
-    First more (numberOf (call (storeOf s) .answer)) → Exports call told s f r t g → First (headerRows s ++ (3, Sound leafHash innerHash (storeOf s) → ⊥) ∷ more) r
-export-first call s more f (exports-refusal {m} d) = does-first call s more (refused m) f d
+    First more (numberOf (call (storeOf s) .answer)) → Exports (λ a. Does call s a t) told f r g → First (headerRows s ++ (3, Sound leafHash innerHash (storeOf s) → ⊥) ∷ more) r
+export-first call s more f (exports-refusal {n = m} d) = does-first call s more (refused m) f d
 export-first call s more f (exports-answer {a} d) = does-first call s more (accepted a) f d
 
 -- Apply: 1, 2, 3, 4, 5, 18, 7.
@@ -133,7 +134,7 @@ module _ {s : Bytes} {v : ℕ} {f : Bytes} {r : ℕ} {g : Bytes} (w : ReadsRoot 
   root-answers : Stopped (testsOf (rootRows s v)) [] (RootStopped (storeOf s) v) r
   unfolding rootAnswer readRoot
   root-answers =
-      subst (Stopped (testsOf (rootRows s v)) [] (RootStopped (storeOf s) v)) (sym (w .answer))
+      subst (Stopped (testsOf (rootRows s v)) [] (RootStopped (storeOf s) v)) (sym (w .exported .number))
       (read-stopped s (readRoot leafHash innerHash (storeOf s) v) (λ c o l e. root-stopped leafHash innerHash s v))
 
   pub root-exactly : Exactly (rootRows s v) (low r)
@@ -147,7 +148,7 @@ module _ {s : Bytes} {v : ℕ} {k f : Bytes} {r : ℕ} {g : Bytes} (h : All Byte
   get-answers : Stopped (testsOf (getRows s v k)) [] (KeyStopped (storeOf s) v k) r
   unfolding keyAnswer readKey
   get-answers =
-      subst (Stopped (testsOf (getRows s v k)) [] (KeyStopped (storeOf s) v k)) (sym (w .answer))
+      subst (Stopped (testsOf (getRows s v k)) [] (KeyStopped (storeOf s) v k)) (sym (w .exported .number))
       (key-stopped k (byHeader (headerOf counted s) (readKey (storeOf s) v k))
       (read-stopped s (readKey (storeOf s) v k) (λ c o l e. get-stopped s (records-formed s h e) v k)))
 
@@ -162,7 +163,7 @@ module _ {s : Bytes} {v : ℕ} {f : Bytes} {r : ℕ} {g : Bytes} (w : Counts s v
   count-answers : Stopped (testsOf (rootRows s v)) [] (RootStopped (storeOf s) v) r
   unfolding numberAnswer readNumber
   count-answers =
-      subst (Stopped (testsOf (rootRows s v)) [] (RootStopped (storeOf s) v)) (sym (w .answer))
+      subst (Stopped (testsOf (rootRows s v)) [] (RootStopped (storeOf s) v)) (sym (w .exported .number))
       (read-stopped s (readNumber (storeOf s) v) (λ c o l e. number-stopped leafHash innerHash s v))
 
   pub count-exactly : Exactly (rootRows s v) (low r)
@@ -176,7 +177,7 @@ module _ {s : Bytes} {v i : ℕ} {f : Bytes} {r : ℕ} {g : Bytes} (h : All Byte
   at-answers : Stopped (testsOf (atRows s v i)) [] (PositionStopped (storeOf s) v i) r
   unfolding positionAnswer readPosition
   at-answers =
-      subst (Stopped (testsOf (atRows s v i)) [] (PositionStopped (storeOf s) v i)) (sym (w .answer))
+      subst (Stopped (testsOf (atRows s v i)) [] (PositionStopped (storeOf s) v i)) (sym (w .exported .number))
       (read-stopped s (readPosition (storeOf s) v i) (λ c o l e. position-stopped s (records-formed s h e) v i))
 
   pub at-exactly : Exactly (atRows s v i) (low r)
@@ -190,7 +191,7 @@ module _ {s : Bytes} {v : ℕ} {k room f : Bytes} {r : ℕ} {t g : Bytes} (h : A
   prove-answers : Stopped (testsOf (proveRows s v k room)) ((9, TooLong s v k room) ∷ []) (ProofStopped (storeOf s) v k) r
   unfolding proveAnswer prove proof
   prove-answers =
-      subst (Stopped (testsOf (proveRows s v k room)) ((9, TooLong s v k room) ∷ []) (ProofStopped (storeOf s) v k)) (sym (w .answer))
+      subst (Stopped (testsOf (proveRows s v k room)) ((9, TooLong s v k room) ∷ []) (ProofStopped (storeOf s) v k)) (sym (w .exported .number))
       (key-stopped k (byHeader (headerOf counted s) (prove (storeOf s) v k (length room)))
       (read-stopped s (prove (storeOf s) v k (length room)) (λ c o l e. prove-stopped s (records-formed s h e) v k room)))
 
@@ -214,7 +215,7 @@ module _ {s : Bytes} {v : ℕ} {list room f : Bytes} {r : ℕ} {t g : Bytes} (h 
   palette-answers : Stopped (testsOf (paletteRows s v list room)) ((9, TooLongTogether s v (keysIn list) room) ∷ []) (StopsPalette s v (keysIn list)) r
   unfolding paletteAnswer palette proof
   palette-answers =
-      subst (Stopped (testsOf (paletteRows s v list room)) ((9, TooLongTogether s v (keysIn list) room) ∷ []) (StopsPalette s v (keysIn list))) (sym (w .answer))
+      subst (Stopped (testsOf (paletteRows s v list room)) ((9, TooLongTogether s v (keysIn list) room) ∷ []) (StopsPalette s v (keysIn list))) (sym (w .exported .number))
       (list-stopped list (byHeader (headerOf counted s) (palette (storeOf s) v (keysIn list) (length room)))
       (read-stopped s (palette (storeOf s) v (keysIn list) (length room)) (λ c o l e. palette-stopped s (records-formed s h e) v (keysIn list) room)))
 
@@ -229,7 +230,7 @@ pub changes-exactly : (first second limit : ℕ) {s room f t g : Bytes} {r : ℕ
     Exactly (changesRows s first second limit room) r
 changes-exactly first second limit {s} {room} {r = r} w =
     exactly (changesRows s first second limit room) r refl
-    (subst (First (changesRows s first second limit room)) (sym (w .number))
+    (subst (First (changesRows s first second limit room)) (sym (w .exported .number))
     (does-first (compare first second limit (length room)) s (comparisonRows s first second limit room) (w .answer)
     (changes-first s first second limit room) (w .does)))
 
@@ -241,7 +242,7 @@ rescue-exactly oldest latest {s} {old} {r = r} w = exactly (rescueRows s old old
 -- What is found of a proof: 12; then 1, 2, 3; then 8, 14, 10, 11.
 pub finding-exactly : {s : Bytes} {v : ℕ} {k x f : Bytes} {r : ℕ} {g : Bytes} → Finds s v k x f r g → Exactly (findingRows s v k x) r
 finding-exactly {s} {v} {k} {x} {r = r} w =
-    exactly (findingRows s v k x) r refl (subst (First (findingRows s v k x)) (sym (w .number)) (go (w .answers)))
+    exactly (findingRows s v k x) r refl (subst (First (findingRows s v k x)) (sym (seen w .exported .number)) (go (seen w .said)))
   where
     unsound : {m : ℕ} → check.Checked counted s m → (m ≡ 0 → ⊥) → First (headerRows s ++ (3, Sound leafHash innerHash (storeOf s) → ⊥) ∷ foundRows s v k x) m
     unsound (check.refused n e) f = let h = header-row s e in within (headerRows s) ((3, Sound leafHash innerHash (storeOf s) → ⊥) ∷ foundRows s v k x) n (h .0) (h .1)
@@ -266,7 +267,7 @@ back-exactly {s} {old} {r = r} w = exactly (moveRows counted s old) r refl (move
 
 -- The proof check: 12, 10, 11.
 pub verify-exactly : {root k x f : Bytes} {r : ℕ} {g : Bytes} → Verifies root k x f r g → Exactly (verifyRows root k x) r
-verify-exactly {root} {k} {x} {r = r} w = exactly (verifyRows root k x) r refl (subst (First (verifyRows root k x)) (sym (w .answer)) (go (w .told)))
+verify-exactly {root} {k} {x} {r = r} w = exactly (verifyRows root k x) r refl (subst (First (verifyRows root k x)) (sym (seen w .exported .number)) (go (seen w .said)))
   where
     go : {a : Answer Verdict} → Told Judged root k x a → First (verifyRows root k x) (numberOf a)
     go (not-32-bytes n) = inl (λ z. n (z .0, z .1 .0), refl)
@@ -277,7 +278,7 @@ verify-exactly {root} {k} {x} {r = r} w = exactly (verifyRows root k x) r refl (
 pub verify-many-exactly : {root list row old : Bytes} {r : ℕ} {new : Bytes} → VerifiesMany root list row old r new →
     Exactly (verifyManyRows root list row old) r
 verify-many-exactly {root} {list} {row} {old} {r} w =
-    exactly (verifyManyRows root list row old) r refl (subst (First (verifyManyRows root list row old)) (sym (w .answer)) (go (w .told)))
+    exactly (verifyManyRows root list row old) r refl (subst (First (verifyManyRows root list row old)) (sym (seen w .exported .number)) (go (seen w .said)))
   where
     right : RootAndKeys root list → Not32 (root ∷ []) ⊎ NotKeys list → ⊥
     right h (inl z) = z (h .0, tt)

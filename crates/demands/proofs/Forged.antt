@@ -21,6 +21,7 @@ use Rattle.meaning.specs.Reading.{Verdict, present, absent, answerOf}
 use Rattle.meaning.specs.Proving.{HoldsGrant}
 use Rattle.meaning.specs.Checking.{checked}
 use Rattle.meaning.specs.Answers.{numberOf, toldOf, foundBytes}
+use Rattle.meaning.proofs.Told.{seen}
 use Rattle.checker.proofs.Theorems.{accepted-exactly-if-holds}
 use Rattle.sha256.specs.Sha256.{sha256}
 use Rattle.nodehash.specs.Node as node
@@ -126,7 +127,7 @@ module _ {s : Bytes} {v : ℕ} {k x g : Bytes} where
       either {a} o (inr n) t = inl (told (messagesOf s v p) (o .of-65-bytes) a g (o .named-is-a-finding n) t)
 
   pub accepted-finding-means : {f : Bytes} → Finds s v k x f 0 g → Cost s v k x g
-  accepted-finding-means {f} w = go (w .answers) (w .number) (w .told)
+  accepted-finding-means {f} w = let y = seen w in go (y .said) (y .exported .number) (y .exported .told)
     where
       by-proof : {a : Answer Finding} → SoundBytes s → length k ≡ 32 → FoundIn sha256 (storeOf s) v k x a → 0 ≡ numberOf a → g ≡ toldOf findingBytes a f →
           Cost s v k x g
@@ -182,7 +183,7 @@ module _ {s : Bytes} {v : ℕ} {k x : Bytes} (w : SoundBytes s) (kept : Kept (st
       (r ≡ 0) × ((answerOf k (grantsOfVersion s v) ≡ answer) ⊎ Deceived s v x g)
   accepted-proof-is-true-or-found-out {f = f} {g = g} answer y z e h =
       let c = subst (λ q. Accepts q k x answer) (root-of-tree w kept y .1) (accepted-exactly-if-it-holds z answer .0 (refl, e)) in
-      let zero = h .number ∙ answered c (h .answers) in
+      let zero = seen h .exported .number ∙ answered c (seen h .said) in
       (zero, decide c (accepted-finding-means (subst (λ n. Finds s v k x f n g) zero h)) (right-or-not (answerOf k (grantsOfVersion s v)) answer))
     where
       decide : Accepts (rootOfVersion s v) k x answer → Cost s v k x g → (answerOf k (grantsOfVersion s v) ≡ answer) ⊎ (answerOf k (grantsOfVersion s v) ≡ answer → ⊥) →

@@ -30,7 +30,8 @@ use Rattle.layout.proofs.Stores.{length-slots}
 use Rattle.batch.specs.Asked.{Asks}
 use Rattle.contracts.specs.Format.{formatBytes}
 use Rattle.contracts.specs.Apply.{told}
-use Rattle.promises.specs.Calls.{wrong-header, not-sound, refuses, accepts, Exports, exports-refusal, exports-answer}
+use Rattle.meaning.specs.Answers.{Exports, exports-refusal, exports-answer}
+use Rattle.promises.specs.Calls.{wrong-header, not-sound, refuses, accepts, Does}
 use Rattle.demands.specs.Calls.{takenOver, Called, formats, applies, prunes, Calls, none-yet, then-called, doneBy, WithoutGaps, Life, rescues-into, moves-over, looks, formats-both, applies-both, prunes-both}
 use Rattle.contracts.specs.Contracts.{Formats, Prunes, PrunesIndexed}
 use Rattle.demands.proofs.Hashes.{leaf-hash-whole, inner-hash-whole}
@@ -57,11 +58,11 @@ fresh-is s e =
 
 -- the store after a call that tests soundness
 export-after : {A : Type 0} {call : Store → Result A} {told : A → Bytes} {s f t g : Bytes} {r : ℕ} {es : List Entry} →
-    Exports call told s f r t g → Keeping s es → ((m : ℕ) → call (storeOf s) .answer ≡ refused m → call (storeOf s) .store ≡ storeOf s) →
+    Exports (λ a. Does call s a t) told f r g → Keeping s es → ((m : ℕ) → call (storeOf s) .answer ≡ refused m → call (storeOf s) .store ≡ storeOf s) →
     call (storeOf s) .store .form ≡ counted → Sound leafHash innerHash (call (storeOf s) .store) → storeOf t ≡ call (storeOf s) .store
 export-after (exports-refusal (wrong-header e)) k same form sound = not-headed e (sound-bytes k .headed)
 export-after (exports-refusal (not-sound e n)) k same form sound = absurd (n (k .keeps .sound))
-export-after (exports-refusal {m} (refuses w e)) k same form sound = sym (same m e)
+export-after (exports-refusal {n = m} (refuses w e)) k same form sound = sym (same m e)
 export-after (exports-answer (accepts w e)) k same form sound = stored-is _ form sound
 
 -- and after any public call
@@ -83,7 +84,7 @@ module _ {s : Bytes} {es : List Entry} (k : Keeping s es) where
   format-after w = ap storeOf (w .bytes) ∙ fresh-is s (size-right k) ∙ ap formatted (sym (slots-many s))
 
   apply-after : (number : ℕ) (batch : Bytes) (o : Option (List Ask)) {f t g : Bytes} {r : ℕ} → number ≤ top32 → Asks batch o →
-      Exports (apply leafHash innerHash number o) told s f r t g → storeOf t ≡ after leafHash innerHash (applying number o) (storeOf s)
+      Exports (λ a. Does (apply leafHash innerHash number o) s a t) told f r g → storeOf t ≡ after leafHash innerHash (applying number o) (storeOf s)
   apply-after number batch o small h w =
       export-after w k (λ m e. laws.refused-apply-writes-nothing leafHash innerHash number o (storeOf s) m e)
       (apply-form number o (storeOf s)) (sound-after (applying number o) (asks-form number batch o small h))

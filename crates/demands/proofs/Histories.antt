@@ -34,7 +34,7 @@ use Rattle.layout.proofs.Headers as headers
 use Rattle.layout.proofs.Stores.{store-back}
 use Rattle.batch.specs.Asked.{Asks}
 use Rattle.contracts.specs.Format.{formatAnswer, formatBytes}
-use Rattle.promises.specs.Calls.{SoundBytes, wrong-header, not-sound, refuses, accepts, Exports, exports-refusal, exports-answer}
+use Rattle.promises.specs.Calls.{SoundBytes, wrong-header, not-sound, refuses, accepts, Does}
 use Rattle.rescue_bytes.specs.Rescues as rescue
 use Rattle.rescue_bytes.specs.Rescues.{slotsIn, Report, reportBytes}
 use Rattle.rescue_bytes.specs.Claims.{runLedger}
@@ -50,9 +50,9 @@ use Rattle.move_rules.proofs.Theorems.{accepted-move-is-worth}
 use Rattle.move_rules.proofs.Ledger.{moved-keeps}
 use Rattle.contracts.specs.Contracts.{Formats, ReadsRoot, ReadsKey, Proves, Rescues, MovesOver, Verifies, Counts, ReadsAt}
 use Rattle.meaning.specs.Counting.{grantAt}
-use Rattle.meaning.specs.Answers.{foundBytes, numberOf, toldOf}
+use Rattle.meaning.specs.Answers.{foundBytes, numberOf, toldOf, Exports, exports-refusal, exports-answer}
 use Rattle.demands.specs.Calls.{Called, formats, applies, prunes, Calls, none-yet, then-called, Life, rescues-into, moves-over, looks, Begins, by-format, by-rescue, as-found, by-over, by-back, takenOver, formats-both, applies-both, prunes-both}
-use Rattle.index_rules.specs.Tables.{FormatsBoth, wrong-size, both-fresh, not-told, refuses-both, accepts-both, ExportsBoth, both-refused, both-answered}
+use Rattle.index_rules.specs.Tables.{FormatsBoth, wrong-size, both-fresh, not-told, refuses-both, accepts-both, DoesBoth}
 use Rattle.demands.specs.Claims.{grantsOfVersion, AfterHistory}
 use Rattle.demands.proofs.Hashes.{leaf-hash-whole, inner-hash-whole}
 use Rattle.demands.proofs.Stored.{stored-is, stored-sound, formatted-form, prune-form, apply-form}
@@ -104,24 +104,24 @@ not-headed e f = let z : _≡_ {A = ℕ} 0 1 = cc in absurd (omega arith)
 
 -- a call that tests soundness, refused or accepted
 export-keeps : {A : Type 0} {call : Store → Result A} {told : A → Bytes} {s f t g : Bytes} {r : ℕ} {es now : List Entry} →
-    Exports call told s f r t g → Keeping s es → ((m : ℕ) → call (storeOf s) .answer ≡ refused m → m ≡ 0 → ⊥) →
+    Exports (λ a. Does call s a t) told f r g → Keeping s es → ((m : ℕ) → call (storeOf s) .answer ≡ refused m → m ≡ 0 → ⊥) →
     call (storeOf s) .store .form ≡ counted →
     ((a : A) → call (storeOf s) .answer ≡ accepted a → Keeps leafHash innerHash (call (storeOf s) .store) now) →
     Keeping t (cond (eqb r 0) now es)
 export-keeps (exports-refusal (wrong-header e)) k never form then = not-headed e (sound-bytes k .headed)
 export-keeps (exports-refusal (not-sound e n)) k never form then = absurd (n (k .keeps .sound))
-export-keeps (exports-refusal {m} (refuses w e)) k never form then = rw (ne-eqb m 0 (never m e)) k
+export-keeps (exports-refusal {n = m} (refuses w e)) k never form then = rw (ne-eqb m 0 (never m e)) k
 export-keeps {now = now} (exports-answer {a} (accepts w e)) k never form then = of-store _ now form (then a e)
 
 -- the same with a table
 both-keeps : {A : Type 0} {call : Store → Result A} {told : A → Bytes} {s : Bytes} {table : List ℕ} {f : Bytes} {r : ℕ} {t : Bytes} {u : List ℕ} {g : Bytes} {es now : List Entry} →
-    ExportsBoth call told s table f r t u g → Keeping s es → ((m : ℕ) → call (storeOf s) .answer ≡ refused m → m ≡ 0 → ⊥) →
+    Exports (λ a. DoesBoth call s table a t u) told f r g → Keeping s es → ((m : ℕ) → call (storeOf s) .answer ≡ refused m → m ≡ 0 → ⊥) →
     call (storeOf s) .store .form ≡ counted →
     ((a : A) → call (storeOf s) .answer ≡ accepted a → Keeps leafHash innerHash (call (storeOf s) .store) now) →
     Keeping t (cond (eqb r 0) now es)
-both-keeps (both-refused (not-told {r} n o)) k never form then = rw (ne-eqb r 0 n) k
-both-keeps {told = told} {f = f} (both-refused (refuses-both o c)) k never form then = export-keeps {told = told} {f = f} (exports-refusal c) k never form then
-both-keeps {told = told} {f = f} (both-answered (accepts-both o c q)) k never form then = export-keeps {told = told} {f = f} (exports-answer c) k never form then
+both-keeps (exports-refusal (not-told {r} n o)) k never form then = rw (ne-eqb r 0 n) k
+both-keeps {told = told} {f = f} (exports-refusal (refuses-both o c)) k never form then = export-keeps {told = told} {f = f} (exports-refusal c) k never form then
+both-keeps {told = told} {f = f} (exports-answer (accepts-both o c q)) k never form then = export-keeps {told = told} {f = f} (exports-answer c) k never form then
 
 pub asks-form : (number : ℕ) (batch : Bytes) (o : Option (List Ask)) → number ≤ top32 → Asks batch o → CallForm (applying number o)
 asks-form number batch none small w = tt
@@ -140,8 +140,8 @@ rescue-taken {latest = latest} {source} {t = t} r n h w =
 
 rescue-into : {oldest latest : ℕ} {source s f : Bytes} {r : ℕ} {t g : Bytes} (es : List Entry) → latest ≤ top32 → All Byte source →
     Rescues oldest latest source s f r t g → Keeping s es → Keeping t (cond (eqb r 0) (takenOver source latest g) es)
-rescue-into es n h (rescue.exports-refusal {n = m} w) k = rw (ne-eqb m 0 (rescued.never-0 w)) (subst (λ x. Keeping x es) (sym (refused-leaves w)) k)
-rescue-into es n h (rescue.exports-report {r = r} w) k = rescue-taken r n h w
+rescue-into es n h (exports-refusal {n = m} w) k = rw (ne-eqb m 0 (rescued.never-0 w)) (subst (λ x. Keeping x es) (sym (refused-leaves w)) k)
+rescue-into es n h (exports-answer {a = r} w) k = rescue-taken r n h w
 
 -- a move that was accepted: the target takes over what the source keeps
 moved-on : {from : Form} {s before t : Bytes} (es : List Entry) → All Byte s → Moves from s before 0 t → Keeps leafHash innerHash (storeIn from s) es →

@@ -17,7 +17,8 @@ use Rattle.terms.proofs.Tests.{same-bytes, bytes-same}
 use Rattle.meaning.specs.Calls.{Answer, refused, accepted}
 use Rattle.meaning.specs.Reading.{Verdict}
 use Rattle.meaning.specs.Checking.{leadsTo}
-use Rattle.meaning.specs.Answers.{numberOf, foundAfter}
+use Rattle.meaning.specs.Answers.{numberOf}
+use Rattle.meaning.proofs.Told.{seen, exported-left}
 use Rattle.sha256.specs.Sha256.{sha256}
 use Rattle.nodehash.specs.Node.{leafHash, innerHash}
 use Rattle.proofrecords.specs.ProofBytes.{proofBytes, NeighbourForm, ProofForm, neighbourBytes, ProofIs}
@@ -91,25 +92,25 @@ agreed root x q h is = go (eqb (length root) 32) refl
 partner-agrees : (x m : Bytes) (q : Proof) → RawProof q → messageBytes q ≡ m → ProofIs x (ownProof sha256 q) → PartnerAgrees x m q
 partner-agrees x m q h is own = record {
   encoded = message-is-encoded q ∙ is;
-  agrees = λ {root} {f} {g} {r} w. (λ t. w .answer ∙ ap (λ o. numberOf o) (taken w t), λ z. back w (sym (w .answer) ∙ z));
-  found = λ {root} {f} {g} w. w .found ∙ ap (λ o. foundAfter o f) (taken w (back w (sym (w .answer))));
+  agrees = λ {root} {f} {g} {r} w. (λ t. exported-left (seen w .exported) (taken w t) .0, λ z. back w (sym (seen w .exported .number) ∙ z));
+  found = λ w. exported-left (seen w .exported) (taken w (back w (sym (seen w .exported .number)))) .1;
 }
   where
     ours : Bytes → Answer Verdict
     ours root = cond (partnerAccepts sha256 root q) (accepted (verdictOf sha256 q)) (refused (agreed root x q h own .n))
 
-    same : {root f g : Bytes} {r : ℕ} (w : Verifies root (sha256 (askedKey q)) x f r g) → w .verdict ≡ ours root
-    same {root} w = one-verdict root (sha256 (askedKey q)) x (w .verdict) (ours root) (w .told) (agreed root x q h own .told)
+    same : {root f g : Bytes} {r : ℕ} (w : Verifies root (sha256 (askedKey q)) x f r g) → seen w .answer ≡ ours root
+    same {root} w = one-verdict root (sha256 (askedKey q)) x (seen w .answer) (ours root) (seen w .said) (agreed root x q h own .told)
 
     taken : {root f g : Bytes} {r : ℕ} (w : Verifies root (sha256 (askedKey q)) x f r g) → partnerAccepts sha256 root q ≡ true →
-        w .verdict ≡ accepted (verdictOf sha256 q)
+        seen w .answer ≡ accepted (verdictOf sha256 q)
     taken {root} w t = same w ∙ ap (λ b. cond b (accepted (verdictOf sha256 q)) (refused (agreed root x q h own .n))) t
 
     only : (b : Bool) (v : Verdict) (n : ℕ) → 1 ≤ n → numberOf (cond b (accepted v) (refused n)) ≡ 0 → b ≡ true
     only true v n l z = refl
     only false v n l z = absurd (omega arith)
 
-    back : {root f g : Bytes} {r : ℕ} (w : Verifies root (sha256 (askedKey q)) x f r g) → numberOf (w .verdict) ≡ 0 → partnerAccepts sha256 root q ≡ true
+    back : {root f g : Bytes} {r : ℕ} (w : Verifies root (sha256 (askedKey q)) x f r g) → numberOf (seen w .answer) ≡ 0 → partnerAccepts sha256 root q ≡ true
     back {root} w z =
         let a = agreed root x q h own in
         only (partnerAccepts sha256 root q) (verdictOf sha256 q) (a .n) (a .not-0) (sym (ap (λ o. numberOf o) (same w)) ∙ z)

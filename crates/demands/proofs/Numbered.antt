@@ -2,7 +2,7 @@
 -- sound tree ascend. Assumes nothing.
 use Prim.Native.Nat.{ℕ, zero, suc, _<_, _≤_}
 use native.Mathlib.Omega.{arith}
-use mathlib.Core.Path.{_≡_, refl, ap, sym, _∙_, subst}
+use mathlib.Core.Path.{_≡_, refl, sym, _∙_, subst}
 use mathlib.Core.Logic.{_↔_}
 use mathlib.Core.List.{List, [], _∷_}
 use lib.ListN.{length}
@@ -12,6 +12,7 @@ use Rattle.terms.specs.Records.{Grant}
 use Rattle.meaning.specs.Sound.{Kept}
 use Rattle.meaning.specs.Counting.{grantAt}
 use Rattle.meaning.specs.Answers.{numberOf, toldOf}
+use Rattle.meaning.proofs.Told.{exported-left, exported-as}
 use Rattle.histories.proofs.Theorems.{sound-tree-of-grants}
 use Rattle.nodehash.specs.Node.{leafHash, innerHash}
 use Rattle.layout.specs.Stores.{storeOf}
@@ -44,9 +45,9 @@ sound-is-numbered {s} w v kept = record {
   where
     number : {f g : Bytes} {r : ℕ} → Counts s v f r g → (r ≡ 0) × (g ≡ le 8 (length (grantsOfVersion s v)))
     number {f} x =
-        let is = number-of-sound s (w .headed) (w .sound) v kept in (x .answer ∙ ap (λ a. numberOf a) is, x .count ∙ ap (λ a. toldOf (le 8) a f) is)
+        let is = number-of-sound s (w .headed) (w .sound) v kept in exported-left (x .exported) is
 
     position : {i : ℕ} {f g : Bytes} {r : ℕ} → ReadsAt s v i f r g → (r ≡ numberOf (grantAt (grantsOfVersion s v) i)) × (g ≡ toldOf grantBytes (grantAt (grantsOfVersion s v) i) f)
     position {i} {f} x =
         let is = position-of-sound s (w .headed) (w .sound) v kept i in
-        (x .answer ∙ ap (λ a. numberOf a) is, x .grant ∙ ap (λ a. toldOf grantBytes a f) is)
+        let d = exported-as is (x .exported) in (d .number, d .told)

@@ -10,7 +10,7 @@ use Rattle.meaning.specs.Tree.{hash, unversioned, grantsIn}
 use Rattle.meaning.specs.Sound.{Kept}
 use Rattle.meaning.specs.Calls.{Answer, refused, accepted}
 use Rattle.meaning.specs.Reading.{answerOf}
-use Rattle.meaning.specs.Answers.{foundBytes}
+use Rattle.meaning.specs.Answers.{foundBytes, exports-refusal, exports-answer}
 use Rattle.nodehash.specs.Node.{leafHash, innerHash}
 use Rattle.layout.specs.Stores.{storeOf}
 use Rattle.promises.specs.Calls.{SoundBytes}
@@ -58,8 +58,8 @@ same-report e = cc
 
 given-back : {oldest latest first : ℕ} {s old f t g : Bytes} {r : ℕ} → Rescues oldest latest s old f r t g →
     ((a : Answer Report) → rescue.Rescues oldest latest s old a t → GaveBack first s a t) → GivenBack first s r t g
-given-back (rescue.exports-refusal w) k = let (x, (q, e, m, c)) = k _ w in not-both e
-given-back (rescue.exports-report {r = r} w) k =
+given-back (exports-refusal w) k = let (x, (q, e, m, c)) = k _ w in not-both e
+given-back (exports-answer {a = r} w) k =
     let (x, (q, e, m, c)) = k _ w in
     let same : r ≡ q = same-report e in
     record { accepts = refl; bytes = x; report = r; told = refl; begins = ap (λ y. y .first) same ∙ m; as-it-was = subst AsItWas (sym same) c }

@@ -14,7 +14,7 @@ use Rattle.terms.specs.Bits.{Bytes}
 use Rattle.terms.specs.Records.{Store}
 use Rattle.meaning.specs.Sound.{Sound}
 use Rattle.meaning.specs.Calls.{Answer, refused, accepted, Result, apply, prune}
-use Rattle.meaning.specs.Answers.{numberOf}
+use Rattle.meaning.specs.Answers.{numberOf, Exports, exports-refusal, exports-answer}
 use Rattle.nodehash.specs.Node.{leafHash, innerHash}
 use Rattle.layout.specs.Sizes.{roomOf}
 use Rattle.layout.specs.Headers.{Headed, refusal, header, headerOf, sizeRight}
@@ -24,8 +24,8 @@ use Rattle.batch.proofs.Batches.{asks-one}
 use Rattle.contracts.specs.Format.{formatAnswer, formatBytes}
 use Rattle.contracts.specs.Apply.{told}
 use Rattle.promises.specs.Check as check
-use Rattle.promises.specs.Calls.{SoundBytes, wrong-header, not-sound, refuses, accepts, Exports, exports-answer}
-use Rattle.index_rules.specs.Tables.{Fits, RightFor, Opened, other-length, checked, Tells, not-opened, not-right, is-right, Builds, not-built, built, FormatsBoth, wrong-size, both-fresh, DoesBoth, not-told, refuses-both, accepts-both, ExportsBoth, both-refused, both-answered}
+use Rattle.promises.specs.Calls.{SoundBytes, wrong-header, not-sound, refuses, accepts, Does}
+use Rattle.index_rules.specs.Tables.{Fits, RightFor, Opened, other-length, checked, Tells, not-opened, not-right, is-right, Builds, not-built, built, FormatsBoth, wrong-size, both-fresh, DoesBoth, not-told, refuses-both, accepts-both}
 use Rattle.index_rules.proofs.Outcomes as outcomes
 use Rattle.refusals.specs.Exactly.{Table, Exactly, NoneOf}
 use Rattle.refusals.specs.Tables.{formatRows, headerRows, soundRows, applyRows, pruneRows}
@@ -54,7 +54,7 @@ module _ {s : Bytes} {table : List ℕ} {a b : ℕ} where
   pub one-apply-indexed : (number : ℕ) (batch : Bytes) {f t t′ g h : Bytes} {u v : List ℕ} → AppliesIndexed number batch s table f a t u g →
       AppliesIndexed number batch s table f b t′ v h → (a ≡ b) × (t ≡ t′) × (u ≡ v) × (g ≡ h)
   one-apply-indexed number batch {f} {t′ = t′} {h = h} {v = v} x y =
-      outcomes.one-export-both (x .applied) (subst (λ o. ExportsBoth (apply leafHash innerHash number o) told s table f b t′ v h)
+      outcomes.one-export-both (x .applied) (subst (λ o. Exports (λ a. DoesBoth (apply leafHash innerHash number o) s table a t′ v) told f b h)
       (asks-one batch (y .asked) (x .asked) (y .asks) (x .asks)) (y .applied))
 
   pub one-prune-indexed : (n : ℕ) {f t t′ g h : Bytes} {u v : List ℕ} → PrunesIndexed n s table f a t u g →
@@ -63,9 +63,9 @@ module _ {s : Bytes} {table : List ℕ} {a b : ℕ} where
 
 -- A refused call writes neither the store, nor the table, nor its array.
 both-left : {A : Type 0} {call : Store → Result A} {told : A → Bytes} {s : Bytes} {table : List ℕ} {f : Bytes} {r : ℕ} {t : Bytes} {u : List ℕ} {g : Bytes} →
-    ExportsBoth call told s table f r t u g → (r ≡ 0 → ⊥) → (t ≡ s) × (u ≡ table) × (g ≡ f)
-both-left (both-refused d) z = let w = outcomes.refused-writes-neither d in (w .0, w .1, refl)
-both-left (both-answered d) z = absurd (z refl)
+    Exports (λ a. DoesBoth call s table a t u) told f r g → (r ≡ 0 → ⊥) → (t ≡ s) × (u ≡ table) × (g ≡ f)
+both-left (exports-refusal d) z = let w = outcomes.refused-writes-neither d in (w .0, w .1, refl)
+both-left (exports-answer d) z = absurd (z refl)
 
 module _ {s : Bytes} {table : List ℕ} {r : ℕ} (z : r ≡ 0 → ⊥) where
   pub refused-index-writes-nothing : {u : List ℕ} → Indexes s table r u → u ≡ table
@@ -105,20 +105,20 @@ clash e f = let z : _≡_ {A = ℕ} 0 1 = cc in absurd (omega arith)
 -- what a call that keeps a table was, where it was accepted
 module _ {A : Type 0} {call : Store → Result A} {told : A → Bytes} {s : Bytes} {table : List ℕ} {f : Bytes} where
   both-kept : {r : ℕ} {t g : Bytes} {u : List ℕ} → ((m : ℕ) → call (storeOf s) .answer ≡ refused m → m ≡ 0 → ⊥) →
-      ExportsBoth call told s table f r t u g → r ≡ 0 → Exports call told s f 0 t g × RightFor s table × RightFor t u
-  both-kept never (both-refused (not-told n o)) z = absurd (n z)
-  both-kept never (both-refused (refuses-both o (wrong-header e))) z = clash e (outcomes.told-sound o refl .headed)
-  both-kept never (both-refused (refuses-both o (not-sound e n))) z = absurd (n (outcomes.told-sound o refl .sound))
-  both-kept never (both-refused (refuses-both o (refuses w e))) z = absurd (never _ e z)
-  both-kept never (both-answered d) z = (exports-answer (outcomes.accepted-as-plain d), outcomes.accepted-was-right d, outcomes.accepted-right d)
+      Exports (λ a. DoesBoth call s table a t u) told f r g → r ≡ 0 → Exports (λ a. Does call s a t) told f 0 g × RightFor s table × RightFor t u
+  both-kept never (exports-refusal (not-told n o)) z = absurd (n z)
+  both-kept never (exports-refusal (refuses-both o (wrong-header e))) z = clash e (outcomes.told-sound o refl .headed)
+  both-kept never (exports-refusal (refuses-both o (not-sound e n))) z = absurd (n (outcomes.told-sound o refl .sound))
+  both-kept never (exports-refusal (refuses-both o (refuses w e))) z = absurd (never _ e z)
+  both-kept never (exports-answer d) z = (exports-answer (outcomes.accepted-as-plain d), outcomes.accepted-was-right d, outcomes.accepted-right d)
 
-  both-right : {r : ℕ} {t g : Bytes} {u : List ℕ} → ExportsBoth call told s table f r t u g → RightFor s table → RightFor t u
-  both-right (both-refused {u = u} d) q =
+  both-right : {r : ℕ} {t g : Bytes} {u : List ℕ} → Exports (λ a. DoesBoth call s table a t u) told f r g → RightFor s table → RightFor t u
+  both-right {u = u} (exports-refusal d) q =
       let w = outcomes.refused-writes-neither d in subst (λ x. RightFor x u) (sym (w .0)) (subst (RightFor s) (sym (w .1)) q)
-  both-right (both-answered d) q = outcomes.accepted-right d
+  both-right (exports-answer d) q = outcomes.accepted-right d
 
 pub apply-as-plain : (number : ℕ) (batch : Bytes) {s f t g : Bytes} {table u : List ℕ} {r : ℕ} (w : AppliesIndexed number batch s table f r t u g) → r ≡ 0 →
-    Exports (apply leafHash innerHash number (w .asked)) told s f 0 t g × RightFor s table × RightFor t u
+    Exports (λ a. Does (apply leafHash innerHash number (w .asked)) s a t) told f 0 g × RightFor s table × RightFor t u
 apply-as-plain number batch {s} w =
     both-kept (λ m e. never-0 (4 ∷ 5 ∷ 18 ∷ 7 ∷ []) refl (apply-refusals number (w .asked) (storeOf s) m e)) (w .applied)
 
@@ -217,14 +217,14 @@ module _ (s : Bytes) (table : List ℕ) where
       go (both-fresh h f e q) = inr (lengths-right f (length-right s h), refl)
 
 both-first : {A : Type 0} (call : Store → Result A) {told : A → Bytes} (s : Bytes) (table : List ℕ) (more : Table) {f t g : Bytes} {u : List ℕ} {r : ℕ} →
-    First more (numberOf (call (storeOf s) .answer)) → ExportsBoth call told s table f r t u g →
+    First more (numberOf (call (storeOf s) .answer)) → Exports (λ a. DoesBoth call s table a t u) told f r g →
     First (rowsBy s table (headerRows s) ++ (3, Sound leafHash innerHash (storeOf s) → ⊥) ∷ (16, RightFor s table → ⊥) ∷ more) r
-both-first call s table more h (both-refused (not-told n o)) = told-first s table more o n
-both-first call s table more h (both-refused (refuses-both o (wrong-header e))) = clash e (outcomes.told-sound o refl .headed)
-both-first call s table more h (both-refused (refuses-both o (not-sound e n))) = absurd (n (outcomes.told-sound o refl .sound))
-both-first call s table more h (both-refused {m} (refuses-both o (refuses w e))) =
+both-first call s table more h (exports-refusal (not-told n o)) = told-first s table more o n
+both-first call s table more h (exports-refusal (refuses-both o (wrong-header e))) = clash e (outcomes.told-sound o refl .headed)
+both-first call s table more h (exports-refusal (refuses-both o (not-sound e n))) = absurd (n (outcomes.told-sound o refl .sound))
+both-first call s table more h (exports-refusal {n = m} (refuses-both o (refuses w e))) =
     right-past s table more m o refl (subst (λ x. First more (numberOf x)) e h)
-both-first call s table more h (both-answered (accepts-both o (accepts w e) q)) =
+both-first call s table more h (exports-answer (accepts-both o (accepts w e) q)) =
     right-past s table more 0 o refl (subst (λ x. First more (numberOf x)) e h)
 
 pub apply-indexed-exactly : (number : ℕ) (batch : Bytes) {s f t g : Bytes} {table u : List ℕ} {r : ℕ} →

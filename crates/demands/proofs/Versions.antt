@@ -22,9 +22,9 @@ use Rattle.histories.proofs.Theorems.{sound-tree-of-grants, apply-keeps-sound}
 use Rattle.nodehash.specs.Node.{leafHash, innerHash}
 use Rattle.layout.specs.Stores.{storeOf, storeBytes}
 use Rattle.batch.specs.Asked.{AskedBy, Asks}
-use Rattle.promises.specs.Calls.{SoundBytes, accepts, Exports, exports-refusal, exports-answer}
+use Rattle.promises.specs.Calls.{SoundBytes, accepts, Does}
 use Rattle.contracts.specs.Apply.{answerBytes, told}
-use Rattle.meaning.specs.Answers.{foundBytes}
+use Rattle.meaning.specs.Answers.{foundBytes, Exports, exports-refusal, exports-answer}
 use Rattle.contracts.specs.Contracts.{Applies, ReadsRoot, ReadsKey}
 use Rattle.demands.specs.Claims.{treeOfVersion, grantsOfVersion, latestOf, ReadsAs, ComparesAs, NextVersion}
 use Rattle.demands.proofs.Hashes.{leaf-hash-whole, inner-hash-whole, hash-whole}
@@ -47,7 +47,7 @@ pub makes : (number : ℕ) (batch : Bytes) {s f t g : Bytes} {r : ℕ} → Appli
 unfolding refuse
 makes number batch {s} {f} w = go (w .asked) (w .asks) (w .applied)
   where
-    go : (o : Option (List Ask)) → Asks batch o → {n : ℕ} {t g : Bytes} → Exports (apply leafHash innerHash number o) told s f n t g → n ≡ 0 → Makes number batch s t g
+    go : (o : Option (List Ask)) → Asks batch o → {n : ℕ} {t g : Bytes} → Exports (λ a. Does (apply leafHash innerHash number o) s a t) told f n g → n ≡ 0 → Makes number batch s t g
     go o x (exports-refusal d) z =
         absurd (never-0 (1 ∷ 2 ∷ 3 ∷ 4 ∷ 5 ∷ 18 ∷ 7 ∷ []) refl (does-numbers (4 ∷ 5 ∷ 18 ∷ 7 ∷ []) (apply-refusals number o) d) z)
     go none x (exports-answer (accepts was e)) z = no-refusal (sym e)

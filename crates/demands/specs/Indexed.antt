@@ -4,6 +4,7 @@ use Prim.Native.Nat.{ℕ}
 use mathlib.Core.Path.{_≡_}
 use mathlib.Core.Bool.{true, cond}
 use mathlib.Core.List.{List, [], _∷_}
+use mathlib.Core.Option.{some}
 use lib.ListN.{length}
 use lib.Dec.{eqb}
 use Rattle.terms.specs.declared.Form.the-variants.{Counted as counted}
@@ -30,12 +31,12 @@ NoneTwice s v = isKept (storeOf s) v ≡ true → NoTwoMatch (storeOf s) v
 
 -- Every read of version v by the table answers, and leaves every byte, as the plain call does.
 pub record AsPlain (s : Bytes) (table : List ℕ) (v : ℕ) : Type 0 where
-  pub root : {f g h : Bytes} {r q : ℕ} → ReadsRootBy s table v f r g → ReadsRoot s v f q h → (r ≡ q) × (g ≡ h)
-  pub key : {k f g h : Bytes} {r q : ℕ} → ReadsKeyBy s table v k f r g → ReadsKey s v k f q h → (r ≡ q) × (g ≡ h)
-  pub count : {f g h : Bytes} {r q : ℕ} → CountsBy s table v f r g → Counts s v f q h → (r ≡ q) × (g ≡ h)
-  pub position : {i : ℕ} {f g h : Bytes} {r q : ℕ} → ReadsAtBy s table v i f r g → ReadsAt s v i f q h →
+  pub root : {f g h : Bytes} {r q : ℕ} → ReadsRootBy s (some table) v f r g → ReadsRoot s v f q h → (r ≡ q) × (g ≡ h)
+  pub key : {k f g h : Bytes} {r q : ℕ} → ReadsKeyBy s (some table) v k f r g → ReadsKey s v k f q h → (r ≡ q) × (g ≡ h)
+  pub count : {f g h : Bytes} {r q : ℕ} → CountsBy s (some table) v f r g → Counts s v f q h → (r ≡ q) × (g ≡ h)
+  pub position : {i : ℕ} {f g h : Bytes} {r q : ℕ} → ReadsAtBy s (some table) v i f r g → ReadsAt s v i f q h →
       (r ≡ q) × (g ≡ h)
-  pub proof : {k room f t u g h : Bytes} {r q : ℕ} → ProvesBy s table v k room f r t g → Proves s v k room f q u h →
-      (r ≡ q) × (t ≡ u) × (g ≡ h)
-  pub palette : {list room f t u g h : Bytes} {r q : ℕ} → PalettesBy s table v list room f r t g →
+  pub proof : {k room f t u g h : Bytes} {r q : ℕ} → ProvesBy s (some table) v k room f r t g →
+      Proves s v k room f q u h → (r ≡ q) × (t ≡ u) × (g ≡ h)
+  pub palette : {list room f t u g h : Bytes} {r q : ℕ} → PalettesBy s (some table) v list room f r t g →
       Palettes s v list room f q u h → (r ≡ q) × (t ≡ u) × (g ≡ h)

@@ -5,9 +5,10 @@ use figures_sound::Figured;
 use figures_sound::figures_sound;
 use terms::Form;
 ghost use mathlib.Core.Path.{_≡_};
+ghost use mathlib.Core.List.{_++_};
 ghost use lib.ListN.{length};
+ghost use Rattle.terms.specs.Fields.{le};
 ghost use Rattle.figures_sound.specs.Figures.{figuredSays, Tells};
-ghost use Rattle.contracts.specs.Figures.{totalsBytes};
 ghost use Rattle.contracts.specs.Figures as export;
 
 // The figures of a range of versions, where check accepts the store; refused, nothing is written.
@@ -24,7 +25,7 @@ pub fn figures(store: &[u8], first: u32, last: u32, room: &mut [u8]) -> Figured
 // Distinct records and the sum of records over versions fill 8 bytes.
 fn put_totals(totals: &mut [u8], distinct: u32, records: u32)
     requires { ⌜ length (now totals) ≡ 8 ⌝ }
-    ensures { λ _. ⌜ now (totals .exit) ≡ totalsBytes distinct records ⌝ }
+    ensures { λ _. ⌜ now (totals .exit) ≡ le 4 distinct ++ le 4 records ⌝ }
 {
     put_u32(totals, 0, distinct);
     put_u32(totals, 4, records);

@@ -8,7 +8,7 @@ use Rattle.meaning.specs.Calls.{Answer, refused, accepted}
 use Rattle.quarter.specs.Figures.{Quarter, figures}
 use Rattle.promises.specs.Calls.{Does}
 use Rattle.meaning.specs.Answers.{roomAfter}
-use Rattle.contracts.specs.Figures.{eachBytes}
+use Rattle.figures_write.specs.Parts.{eachBytes}
 use Rattle.figures_sound.specs.declared.Figured as declared
 use Rattle.figures_sound.specs.declared.Figured.the-variants.{Refused, Told}
 

@@ -22,8 +22,7 @@ use Rattle.quarter.proofs.Theorems.{RangeRight, range-right, living-counts}
 use Rattle.figures_count.specs.Count.{figuresSay}
 use Rattle.figures_count.specs.declared.Figures as declared
 use Rattle.figures_block.specs.Block.{Counts}
-use Rattle.contracts.specs.Figures.{eachBytes}
-use Rattle.figures_write.specs.Parts.{Range, Writes}
+use Rattle.figures_write.specs.Parts.{eachBytes, Range, Writes}
 
 -- four numbers of four bytes
 pub figures-put : (c : declared.Figures) (f f₁ f₂ f₃ f₄ : Bytes) → length f ≡ 16 → f₁ ≡ written 0 (le 4 (c .leaves)) f → f₂ ≡ written 4 (le 4 (c .inners)) f₁ →

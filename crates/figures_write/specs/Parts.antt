@@ -2,12 +2,17 @@
 use Prim.Native.Nat.{ℕ, suc, _*_, _-_}
 use mathlib.Core.Path.{_≡_}
 use mathlib.Core.Bool.{true}
+use mathlib.Core.List.{List, map}
 use lib.ListN.{length}
 use Rattle.terms.specs.Bits.{Bytes}
+use Rattle.terms.specs.Fields.{flat}
 use Rattle.layout.specs.Stores.{storeOf}
 use Rattle.promises.specs.Calls.{SoundBytes}
-use Rattle.quarter.specs.Figures.{rangeRight, figuresSize, versions, figuresOver, recordsOver}
-use Rattle.contracts.specs.Figures.{eachBytes}
+use Rattle.quarter.specs.Figures.{Figures, figuresBytes, rangeRight, figuresSize, versions, figuresOver, recordsOver}
+
+-- The numbers of the versions, one after the other.
+abbrev pub eachBytes : List Figures → Bytes
+eachBytes fs = flat (map figuresBytes fs)
 
 -- A sound store, a right range, and a part with room for its numbers.
 pub record Range (first last : ℕ) (s part : Bytes) : Type 0 where

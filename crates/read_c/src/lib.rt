@@ -4,6 +4,7 @@ use read_told::get_by;
 use read_told::root_by;
 use refusal_numbers::NOT_32_BYTES;
 use refusal_numbers::WRONG_SIZE;
+ghost use mathlib.Core.Option.{some};
 ghost use Rattle.contracts.specs.Reads.{ReadsRoot, ReadsRootBy, ReadsKey, ReadsKeyBy};
 
 // The root of a version, by scans.
@@ -22,7 +23,7 @@ pub fn grants_get(store: &[u8], version: u32, key: &[u8], found: &mut [u8; 33]) 
 
 // The root of a version, by a table lent with the store (2026-05).
 pub fn root_indexed(store: &[u8], index: &[u32], version: u32, root: &mut [u8; 32]) -> u64
-    ensures { λ r. ⌜ ReadsRootBy (now (store .entry)) (now (index .entry)) version (now (root .entry)) r (now (root .exit)) ⌝ }
+    ensures { λ r. ⌜ ReadsRootBy (now (store .entry)) (some (now (index .entry))) version (now (root .entry)) r (now (root .exit)) ⌝ }
 {
     if !as_many(store, index) {
         return WRONG_SIZE as u64;
@@ -38,7 +39,7 @@ pub fn get_indexed(
     key: &[u8],
     found: &mut [u8; 33],
 ) -> u64
-    ensures { λ r. ⌜ ReadsKeyBy (now (store .entry)) (now (index .entry)) version (now (key .entry)) (now (found .entry)) r (now (found .exit)) ⌝ }
+    ensures { λ r. ⌜ ReadsKeyBy (now (store .entry)) (some (now (index .entry))) version (now (key .entry)) (now (found .entry)) r (now (found .exit)) ⌝ }
 {
     if key.len() != 32 {
         return NOT_32_BYTES as u64;

@@ -9,11 +9,11 @@ ghost use mathlib.Core.List.{_∷_};
 ghost use lib.ListN.{length};
 ghost use Rattle.hash.specs.Hash.{hashBytes};
 ghost use Rattle.read.specs.Parts.{rootAnswerBy, keyAnswerBy};
-ghost use Rattle.read_told.specs.Export.{RootTold, KeyTold};
+ghost use Rattle.meaning.specs.Answers.{foundBytes, Exported};
 
 // The root of a version, by a table of any length.
 pub fn root_by(store: &[u8], index: &[u32], version: u32, root: &mut [u8; 32]) -> u64
-    ensures { λ r. ⌜ RootTold (rootAnswerBy (now (store .entry)) (now (index .entry)) version) (now (root .entry)) r (now (root .exit)) ⌝ }
+    ensures { λ r. ⌜ Exported (rootAnswerBy (now (store .entry)) (now (index .entry)) version) (λ x. x) (now (root .entry)) r (now (root .exit)) ⌝ }
 {
     let read = read::root(store, index, version);
     match read {
@@ -36,7 +36,7 @@ fn put_found(found: &mut [u8], present: u8, value: Hash)
 
 // A key in a version, by a table of any length: 1 and its value, or 0 and 32 zero bytes where it is absent.
 pub fn get_by(store: &[u8], index: &[u32], version: u32, key: &[u8], found: &mut [u8; 33]) -> u64
-    ensures { λ r. ⌜ KeyTold (keyAnswerBy (now (store .entry)) (now (index .entry)) version (now (key .entry))) (now (found .entry)) r (now (found .exit)) ⌝ }
+    ensures { λ r. ⌜ Exported (keyAnswerBy (now (store .entry)) (now (index .entry)) version (now (key .entry))) foundBytes (now (found .entry)) r (now (found .exit)) ⌝ }
 {
     let read = read::get(store, index, version, key);
     match read {

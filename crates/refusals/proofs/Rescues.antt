@@ -8,11 +8,11 @@ use lib.ListN.{length}
 use Rattle.terms.specs.declared.Form.the-variants.{Counted as counted}
 use Rattle.terms.specs.Bits.{Bytes}
 use Rattle.meaning.specs.Calls.{Answer}
-use Rattle.meaning.specs.Answers.{numberOf}
+use Rattle.meaning.specs.Answers.{numberOf, exports-refusal, exports-answer}
 use Rattle.layout.specs.Sizes.{roomOf}
 use Rattle.layout.specs.Headers.{sizeRight}
 use Rattle.layout.proofs.Headers.{size-says, size-right-of}
-use Rattle.rescue_bytes.specs.Rescues.{SameSize, Report, Rescues, wrong-size, out-of-order, no-version, rescues, RescueExports, exports-refusal, exports-report}
+use Rattle.rescue_bytes.specs.Rescues.{SameSize, Report, Rescues, wrong-size, out-of-order, no-version, rescues, RescueExports}
 use Rattle.refusals.specs.Tables.{HasSlots, WrongSize, rescueRows}
 use Rattle.refusals.proofs.Exactly.{First}
 
@@ -38,4 +38,4 @@ module _ (s old : Bytes) where
   pub rescue-first : (oldest latest : ℕ) {f : Bytes} {r : ℕ} {t g : Bytes} → RescueExports oldest latest s old f r t g →
       First (rescueRows s old oldest latest) r
   rescue-first oldest latest (exports-refusal w) = rescue-case oldest latest _ w
-  rescue-first oldest latest (exports-report w) = rescue-case oldest latest _ w
+  rescue-first oldest latest (exports-answer w) = rescue-case oldest latest _ w

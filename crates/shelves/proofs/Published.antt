@@ -28,7 +28,8 @@ use Rattle.layout.specs.Stores.{storeOf, storeBytes}
 use Rattle.layout.proofs.Headers.{size-says}
 use Rattle.contracts.specs.Format.{formatAnswer, formatBytes}
 use Rattle.batch.proofs.Batches.{asked-one}
-use Rattle.promises.specs.Calls.{SoundBytes, accepts, exports-refusal, exports-answer}
+use Rattle.meaning.specs.Answers.{exports-refusal, exports-answer}
+use Rattle.promises.specs.Calls.{SoundBytes, accepts}
 use Rattle.shelf_grants.specs.Contents.{Parts, gathered, allGrants, Among, InPlace, rootOf, listed, listGrants, newRoots, shelfRoot}
 use Rattle.shelf_grants.proofs.Gathered.{gathered-same}
 use Rattle.shelf_grants.proofs.Listed.{placed-batch, shelf-root-of-parts, new-roots-make-the-list}

@@ -20,7 +20,8 @@ use Rattle.meaning.specs.Calls.{Answer, refused, accepted}
 use Rattle.meaning.specs.Reading.{Verdict, present, absent, answerOf}
 use Rattle.meaning.specs.Proving.{HoldsGrant}
 use Rattle.meaning.specs.Checking.{checked}
-use Rattle.meaning.specs.Answers.{numberOf, foundBytes, foundAfter}
+use Rattle.meaning.specs.Answers.{foundBytes}
+use Rattle.meaning.proofs.Told.{exports-left}
 use Rattle.histories.proofs.Theorems.{sound-tree-of-grants}
 use Rattle.checker.specs.Holding.{Holds}
 use Rattle.checker.proofs.Theorems.{accepted-exactly-if-holds}
@@ -115,9 +116,7 @@ said-present {y} (g ∷ gs) e =
 -- what the check leaves where an answer is told
 shelf-left : {root k y f : Bytes} {b r : ℕ} {g : Bytes} {a : Verdict} → ShelfVerifies root b k y f r g → ShelfTold root b k y (accepted a) →
     (r ≡ 0) × (g ≡ foundBytes a)
-shelf-left {root} {k} {y} {f} {b} {a = a} x t =
-    let e = one-shelf-told root b k y (x .verdict) (accepted a) (x .told) t in
-    (x .answer ∙ ap (λ c. numberOf c) e, x .found ∙ ap (λ c. foundAfter c f) e)
+shelf-left {root} {k} {y} {b = b} x t = exports-left (one-shelf-told root b k y) x t
 
 -- a proof that is given holds
 module _ {s : Bytes} (w : SoundBytes s) {v : ℕ} (kept : Kept (storeOf s) v) {k : Bytes} (whole : Whole32 k) (some : HoldsGrant (storeOf s) v)

@@ -4,10 +4,8 @@ use native.Mathlib.Omega.{arith}
 use mathlib.Core.Path.{ap, sym, _∙_}
 use Rattle.terms.specs.Bits.{Byte, All}
 use Rattle.terms.proofs.Lists.{all-of}
-use Rattle.meaning.specs.Calls.{Answer}
-use Rattle.meaning.specs.Reading.{Verdict}
 use Rattle.verify.specs.Says.{says}
-use Rattle.meaning.specs.Answers.{numberOf, foundAfter}
+use Rattle.meaning.proofs.Told.{exported-refusal, exported-answer}
 use Rattle.verify_rules.proofs.Told.{verifies}
 use Rattle.verify_call.proofs.Boundary.{zeros-found}
 use borrow.Author.Needs.{needs}
@@ -44,15 +42,14 @@ returns c =
     let after-answer = c .before in
     let after-verify = after-answer .before .before in
     let e = ap says (sym (after-answer .answer .given .1)) ∙ after-verify .verify .ensures in
-    verifies (given-bytes after-verify) (ap numberOf e) (ap (λ (v : Answer Verdict). foundAfter v (start-from-verify after-verify .args .found .now)) e)
+    verifies (given-bytes after-verify) (exported-refusal e)
 
 returns-2 : tie.Need-returns-2
 returns-2 c =
     let after-answer2 = c .before .before .before in
     let after-verify = after-answer2 .before .before in
     let e = ap says (sym (after-answer2 .answer2 .given .1)) ∙ after-verify .verify .ensures in
-    verifies (given-bytes after-verify) (ap numberOf e)
-    (c .put-present .ensures ∙ ap (λ (v : Answer Verdict). foundAfter v (start-from-verify after-verify .args .found .now)) e)
+    verifies (given-bytes after-verify) (exported-answer e (c .put-present .ensures))
 
 returns-3 : tie.Need-returns-3
 returns-3 c =
@@ -60,8 +57,7 @@ returns-3 c =
     let after-verify = after-enum-told .before .before in
     let e = ap says (sym (after-enum-told .enum-told .given .1)) ∙ after-verify .verify .ensures in
     let f = start-from-verify after-verify .args .found .now in
-    verifies (given-bytes after-verify) (ap numberOf e)
-    (c .clear .ensures ∙ zeros-found f (search needs) ∙ ap (λ (v : Answer Verdict). foundAfter v f) e)
+    verifies (given-bytes after-verify) (exported-answer e (c .clear .ensures ∙ zeros-found f (search needs)))
 
 pub grants-verify-spec : {M : Type 1} → statement M
 grants-verify-spec =
