@@ -21,7 +21,8 @@ use Rattle.meaning.specs.Sound.{Sound}
 use Rattle.meaning.specs.Calls.{Answer, refused, accepted, Result, Applied, apply, prune}
 use Rattle.meaning.specs.Answers.{numberOf, toldOf}
 use Rattle.meaning.specs.Reading.{readRoot}
-use Rattle.meaning.specs.Desk.{Row, applies, prunes, reads, RowHolds, table, gaps, notAbove, A, B, C, D, a, b, c, d, s₁, g₅, g₉}
+use Rattle.meaning.specs.Desk.{Row, applies, prunes, reads, table, four, s₁}
+use Rattle.meaning.specs.DeskGaps.{RowHolds, gaps, notAbove, g₅, g₉}
 use Rattle.meaning.proofs.Desk.{desk, desk-gaps, not-above}
 use Rattle.histories.proofs.Theorems.{formatted-is-sound, prune-keeps-sound, apply-keeps-sound, refused-apply-writes-nothing, refused-prune-writes-nothing}
 use Rattle.nodehash.specs.Node.{leafHash, innerHash}
@@ -271,7 +272,7 @@ not-above-over-bytes =
 
 -- So writing nothing fails at M1: the bytes that the contract leaves are not those that were lent.
 pub writing-nothing-fails-at-M1 : {f t g : Bytes} {r : ℕ} →
-    Applies 1 (asksBytes (insert A a ∷ insert B b ∷ insert C c ∷ insert D d ∷ [])) (storeBytes (formatted 20)) f r t g →
+    Applies 1 (asksBytes four) (storeBytes (formatted 20)) f r t g →
     t ≡ storeBytes (formatted 20) → ⊥
 unfolding formatted
 writing-nothing-fails-at-M1 {f} {t} {g} {r} w e =
