@@ -53,12 +53,11 @@ use Rattle.meaning.specs.Counting.{grantAt}
 use Rattle.meaning.specs.Answers.{foundBytes, numberOf, toldOf}
 use Rattle.demands.specs.Calls.{Called, formats, applies, prunes, Calls, none-yet, then-called, Life, rescues-into, moves-over, looks, Begins, by-format, by-rescue, as-found, by-over, by-back, takenOver, formats-both, applies-both, prunes-both}
 use Rattle.index_rules.specs.Tables.{FormatsBoth, wrong-size, both-fresh, not-told, refuses-both, accepts-both, ExportsBoth, both-refused, both-answered}
-use Rattle.demands.specs.Claims.{grantsOfVersion, AfterHistory}
+use Rattle.demands.specs.Claims.{grantsOfVersion, ReadsFor, AfterHistory}
 use Rattle.demands.proofs.Hashes.{leaf-hash-whole, inner-hash-whole}
 use Rattle.demands.proofs.Stored.{stored-is, stored-sound, formatted-form, prune-form, apply-form}
 use Rattle.demands.proofs.Given.{told-short}
-use Rattle.demands.proofs.Showing.{root-of-tree, key-of-grants, sound-is-shown, fourteen-exactly-if-empty}
-use Rattle.demands.proofs.Numbered.{sound-is-numbered}
+use Rattle.demands.proofs.Reading.{sound-reads-for}
 use Rattle.demands.proofs.Refusals.{never-0, apply-refusals, prune-refusals, refused-over-writes-nothing}
 
 -- what is kept of bytes of a form
@@ -211,42 +210,11 @@ module _ {t : Bytes} (w : SoundBytes t) {es : List Entry} (h : Holds leafHash in
       one : {x y : List Grant} → some x ≡ some y → x ≡ y
       one e = cc
 
-  held-root : {f g : Bytes} {r : ℕ} → ReadsRoot t v f r g → (r ≡ 0) × (g ≡ hash leafHash innerHash (treeOf gs))
-  held-root x =
-      let e = root-of-tree w kept x in (e .0, e .1 ∙ ap (hash leafHash innerHash) (h .gives v kept .2 ∙ ap treeOf same-grants))
-
-  held-key : {k f g : Bytes} {r : ℕ} → Whole32 k → ReadsKey t v k f r g → (r ≡ 0) × (g ≡ foundBytes (answerOf k gs))
-  held-key {k} whole x =
-      let e = key-of-grants w kept whole x in (e .0, e .1 ∙ ap (λ y. foundBytes (answerOf k y)) (h .gives v kept .3 ∙ same-grants))
-
   its-grants : grantsOfVersion t v ≡ gs
   its-grants = h .gives v kept .3 ∙ same-grants
 
-  held-count : {f g : Bytes} {r : ℕ} → Counts t v f r g → (r ≡ 0) × (g ≡ le 8 (length gs))
-  held-count x = let e = sound-is-numbered w v kept .number x in (e .0, e .1 ∙ ap (λ y. le 8 (length y)) its-grants)
-
-  held-at : {i : ℕ} {f g : Bytes} {r : ℕ} → ReadsAt t v i f r g → (r ≡ numberOf (grantAt gs i)) × (g ≡ toldOf grantBytes (grantAt gs i) f)
-  held-at {i} {f} x =
-      let e = sound-is-numbered w v kept .position x in
-      (e .0 ∙ ap (λ y. numberOf (grantAt y i)) its-grants, e .1 ∙ ap (λ y. toldOf grantBytes (grantAt y i) f) its-grants)
-
-  held-shown : {k room f u g f₁ root f₂ found : Bytes} {r r₁ r₂ : ℕ} → (gs ≡ [] → ⊥) → Whole32 k → 17080 ≤ length room → Proves t v k room f r u g →
-      ReadsRoot t v f₁ r₁ root → Verifies root k (take (num g) u) f₂ r₂ found →
-      (r ≡ 0) × (r₁ ≡ 0) × (r₂ ≡ 0) × (found ≡ foundBytes (answerOf k gs))
-  held-shown {k} {room} {f} {u} {g} granted whole long x y z =
-      let s = sound-is-shown w v kept k whole (λ e. granted (sym its-grants ∙ e)) in
-      let e = s .room x long in
-      let c = s .checked (subst (λ n. Proves t v k room f n u g) e x) y z in
-      (e, c .0, c .1, c .2 ∙ ap (λ y. foundBytes (answerOf k y)) its-grants)
-
-  held-empty : {k room f u g : Bytes} {r : ℕ} → Whole32 k → Proves t v k room f r u g → (r ≡ 14) ↔ (gs ≡ [])
-  held-empty {k} whole x =
-      let e = fourteen-exactly-if-empty w v kept k whole x in (λ n. sym its-grants ∙ e .0 n, λ n. e .1 (its-grants ∙ n))
-
--- the root of no grants
-no-grants-zeros : hash leafHash innerHash (treeOf []) ≡ zeros
-unfolding treeOf grantsAt
-no-grants-zeros = refl
+  held-reads : ReadsFor t v gs
+  held-reads = subst (ReadsFor t v) its-grants (sound-reads-for w v kept)
 
 -- a store before the first call
 pub formatted-keeps : {before t : Bytes} → Formats before 0 t → (sizeRight counted (length before) ≡ true) × Keeping t (entry 0 [] ∷ [])
@@ -280,13 +248,7 @@ store-after-history {start} {t = t} life =
       bytes = k .bytes;
       holds = h;
       lifetimes = records-stand-in-their-lifetimes leafHash innerHash (storeOf t) _ h;
-      reads-root = λ a b. held-root (sound-bytes k) h a b;
-      reads-key = λ a b. held-key (sound-bytes k) h a b;
-      counts = λ a b. held-count (sound-bytes k) h a b;
-      reads-at = λ a b. held-at (sound-bytes k) h a b;
-      shows = λ a b. held-shown (sound-bytes k) h a b;
-      shows-nothing = λ a b. held-empty (sound-bytes k) h a b;
-      zero-root = λ a b x. let e = held-root (sound-bytes k) h a b x in (e .0, e .1 ∙ no-grants-zeros);
+      reads = λ a b. held-reads (sound-bytes k) h a b;
       paths = paths-have-at-most-256-steps leafHash innerHash (storeOf t) (k .keeps .sound);
       proofs = λ w. told-short w;
     }
