@@ -34,7 +34,7 @@ use Rattle.promises.proofs.Calls.{one-export}
 use Rattle.contracts.specs.Reads.{rootAnswer, rootBytes}
 use Rattle.contracts.specs.Apply.{told}
 use Rattle.contracts.specs.Contracts.{Applies}
-use Rattle.demands.specs.Desk.{RowOverBytes, DeskOverBytes}
+use Rattle.demands.specs.Desk.{RowOverBytes}
 use Rattle.demands.proofs.Hashes.{leaf-hash-whole, inner-hash-whole}
 use Rattle.demands.proofs.Stored.{stored-is, stored-sound, formatted-form, prune-form, apply-form}
 
@@ -182,7 +182,7 @@ m1 : Whole (s₁ leafHash innerHash)
 m1 = sound-after (rowAt 0) (desk leafHash innerHash .0) (s20, refl, refl, refl)
 
 -- Each row of the desk's table is what the contracts say of the bytes.
-pub desk-over-bytes : DeskOverBytes
+pub desk-over-bytes : All RowOverBytes (table leafHash innerHash)
 desk-over-bytes =
     let h = desk leafHash innerHash in
     let fresh = formatted-is-sound leafHash innerHash in

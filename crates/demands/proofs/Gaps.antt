@@ -15,8 +15,8 @@ use Rattle.terms.specs.Records.{Ask, Store}
 use Rattle.meaning.specs.Store.{formatted, rootOf}
 use Rattle.meaning.specs.Sound.{Sound, Kept}
 use Rattle.meaning.specs.Calls.{refused, accepted, Result, apply}
-use Rattle.meaning.specs.History.{Call, formatting, applying, pruning, taking, Entry, entry}
-use Rattle.meaning.specs.Course.{CallForm, after, run, held}
+use Rattle.meaning.specs.History.{Call, formatting, applying, pruning, taking, Entry, entry, held}
+use Rattle.meaning.specs.Course.{CallForm, after, run}
 use Rattle.histories.specs.Claims.{NoGap}
 use Rattle.histories.specs.Gaps.{NoGaps, rootIn01}
 use Rattle.histories.proofs.Histories.{keeps-calls}

@@ -21,8 +21,8 @@ use Rattle.meaning.specs.Store.{formatted}
 use Rattle.meaning.specs.Sound.{Kept}
 use Rattle.meaning.specs.Calls.{refused, accepted, Result}
 use Rattle.meaning.specs.Reading.{answerOf}
-use Rattle.meaning.specs.History.{Call, formatting, applying, pruning, Entry, entry, noted, ledger, grantsOf, Holds}
-use Rattle.meaning.specs.Course.{CallForm, held}
+use Rattle.meaning.specs.History.{Call, formatting, applying, pruning, Entry, entry, noted, ledger, grantsOf, Holds, entriesFrom, held}
+use Rattle.meaning.specs.Course.{CallForm}
 use Rattle.histories.proofs.Histories.{Keeps, keeps-holds, keeps-held, keeps-formatted, keeps-calls}
 use Rattle.histories.proofs.Theorems.{records-stand-in-their-lifetimes, paths-have-at-most-256-steps}
 use Rattle.nodehash.specs.Node.{leafHash, innerHash}
@@ -35,9 +35,9 @@ use Rattle.layout.proofs.Stores.{store-back}
 use Rattle.batch.specs.Asked.{Asks}
 use Rattle.contracts.specs.Format.{formatAnswer, formatBytes}
 use Rattle.promises.specs.Calls.{SoundBytes, wrong-header, not-sound, refuses, accepts, Exports, exports-refusal, exports-answer}
+use Rattle.rescue_rules.specs.Rescue.{sourceTree}
 use Rattle.rescue_bytes.specs.Rescues as rescue
 use Rattle.rescue_bytes.specs.Rescues.{slotsIn, Report, reportBytes}
-use Rattle.rescue_bytes.specs.Claims.{runLedger}
 use Rattle.rescue_bytes.proofs.Outcomes as rescued
 use Rattle.rescue_bytes.proofs.Outcomes.{refused-leaves, accepted-report}
 use Rattle.rescue_bytes.proofs.Worth.{worth}
@@ -134,7 +134,7 @@ rescue-taken {latest = latest} {source} {t = t} r n h w =
     let first : field 0 4 (reportBytes r) ≡ r .first = first-told r refl (omega (arith, x .high)) in
     record {
       bytes = x .bytes;
-      keeps = subst (λ f. Keeps leafHash innerHash (storeOf t) (runLedger (slotsIn source) f (latest - f))) (sym first) (rescued-keeps h n w);
+      keeps = subst (λ f. Keeps leafHash innerHash (storeOf t) (entriesFrom (sourceTree (slotsIn source)) f (latest - f))) (sym first) (rescued-keeps h n w);
     }
 
 rescue-into : {oldest latest : ℕ} {source s f : Bytes} {r : ℕ} {t g : Bytes} (es : List Entry) → latest ≤ top32 → All Byte source →

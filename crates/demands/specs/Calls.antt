@@ -9,12 +9,11 @@ use Rattle.terms.specs.declared.Form.the-variants.{Plain as plain, Counted as c
 use Rattle.terms.specs.Bits.{Bytes, Byte, All}
 use Rattle.terms.specs.Fields.{field}
 use Rattle.terms.specs.Form.{top32}
-use Rattle.meaning.specs.History.{Call, formatting, applying, pruning, taking, looking, Entry, entry, ledger}
-use Rattle.meaning.specs.Course.{held}
+use Rattle.meaning.specs.History.{Call, formatting, applying, pruning, taking, looking, Entry, entry, ledger, entriesFrom, held}
 use Rattle.histories.specs.Claims.{NoGap}
 use Rattle.layout.specs.Stores.{storeIn, storeOf}
+use Rattle.rescue_rules.specs.Rescue.{sourceTree}
 use Rattle.rescue_bytes.specs.Rescues.{slotsIn}
-use Rattle.rescue_bytes.specs.Claims.{runLedger}
 use Rattle.move_rules.specs.Claims.{SoundIn}
 use Rattle.contracts.specs.Contracts.{Formats, Applies, Prunes, Rescues, MovesOver, MovesBack}
 use Rattle.contracts.specs.Contracts.{FormatsIndexed, AppliesIndexed, PrunesIndexed}
@@ -22,7 +21,7 @@ use Rattle.contracts.specs.Contracts.{FormatsIndexed, AppliesIndexed, PrunesInd
 -- What a rescued store takes over: the grants of its versions, from the first that was reported to latest, by the
 -- source's trees.
 abbrev pub takenOver : Bytes → ℕ → Bytes → List Entry
-takenOver source latest g = runLedger (slotsIn source) (field 0 4 g) (latest - field 0 4 g)
+takenOver source latest g = entriesFrom (sourceTree (slotsIn source)) (field 0 4 g) (latest - field 0 4 g)
 
 -- A public call with any arguments, lent the bytes s whole and as the store, leaves the bytes t. A history notes of it
 -- what was asked and whether it was accepted, that is, answered with 0.

@@ -6,7 +6,7 @@ use mathlib.Core.Bool.{Bool, true, false}
 use mathlib.Core.List.{List, [], _∷_, map}
 use mathlib.Core.Option.{some}
 use lib.ListN.{length, take}
-use Rattle.terms.specs.declared.Form.the-variants.{Plain as plain, Counted as counted}
+use Rattle.terms.specs.declared.Form.the-variants.{Counted as counted}
 use Rattle.terms.specs.Bits.{Bytes, Whole32, Place, All, before}
 use Rattle.terms.specs.Fields.{le, num, field, slice, zeroBytes}
 use Rattle.terms.specs.Records.{Grant, Ask, Record, Proof, zeros}
@@ -31,7 +31,6 @@ use Rattle.promises.specs.Calls.{SoundBytes}
 use Rattle.rescue_rules.specs.Rescue.{sourceTree}
 use Rattle.rescue_bytes.specs.Rescues.{slotsIn, Report, reportBytes}
 use Rattle.rescue_bytes.specs.Claims.{Worth, AsItWas}
-use Rattle.move_rules.specs.Claims.{Moved}
 use Rattle.contracts.specs.Apply.{told}
 use Rattle.meaning.specs.Counting.{grantAt}
 use Rattle.meaning.specs.Answers.{foundBytes, numberOf, toldOf, roomAfter}
@@ -220,12 +219,3 @@ pub record GivenBack (first : ℕ) (s : Bytes) (r : ℕ) (t g : Bytes) : Type 0 
   pub told : g ≡ reportBytes report
   pub begins : report .first ≡ first
   pub as-it-was : AsItWas report
-
--- Document 02, 2026-10: the source s, of the old form, was moved over, or the source s back into it, and t are the
--- bytes that were left of the target: sound, with the same slots, trees, roots, reads, comparisons and proofs; moved
--- on, it is the source again, byte for byte.
-abbrev pub MovedOver : Bytes → Bytes → Type 0
-MovedOver s t = Moved plain s t
-
-abbrev pub MovedBack : Bytes → Bytes → Type 0
-MovedBack s t = Moved counted s t

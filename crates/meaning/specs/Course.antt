@@ -53,12 +53,3 @@ module _ (leafHash innerHash : Bytes → Bytes → Bytes) where
   abbrev pub history : List Call → Store → List (Call × Bool)
   history [] st = []
   history (c ∷ calls) st = (c, took c st) ∷ history calls (after c st)
-
--- What a store holds by itself: the grants of its kept versions, the newest first, here of the versions o + n down to
--- o. A history that starts at a sound store starts with this.
-abbrev pub heldFrom : Store → ℕ → ℕ → List Entry
-heldFrom st o zero = entry o (grantsIn (treeAtVersion st o)) ∷ []
-heldFrom st o (suc n) = entry (o + suc n) (grantsIn (treeAtVersion st (o + suc n))) ∷ heldFrom st o n
-
-unfoldable pub held : Store → List Entry
-held st = heldFrom st (st .oldest) (st .latest - st .oldest)
