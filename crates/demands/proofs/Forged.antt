@@ -36,6 +36,7 @@ use Rattle.forgery.specs.Finding.{True, Finding, nothing, twoEqual, oneZero, Am
 use Rattle.finding_rules.specs.Call.{HoldsAt, FoundIn, not-kept, no-grant, not-in-form, not-holding, holding, findingBytes}
 use Rattle.finding_rules.specs.Claims.{FoundOut}
 use Rattle.finding_rules.proofs.Hashes.{leaf-is, inner-is, holds-alike}
+use Rattle.forgery.proofs.Theorems.{found-so, only-found}
 use Rattle.finding_rules.proofs.Told.{one-found}
 use Rattle.finding_rules.proofs.Theorems.{holding-is-found-out}
 use Rattle.contracts.specs.Finds.{Answers, wrong-key, wrong-store, sound-store}
@@ -134,7 +135,7 @@ module _ {s : Bytes} {v : ℕ} {k x g : Bytes} where
       by-proof h l (no-grant i e) z t = absurd (omega arith)
       by-proof h l (not-in-form i e n) z t = absurd (omega arith)
       by-proof h l (not-holding i e q n) z t = absurd (omega arith)
-      by-proof h l (holding {a = a} i e q d) z t = costs h l a i e q d t
+      by-proof h l (holding {p = p} {a} i e q d so lie) z t = costs h l a i e q d (t ∙ ap findingBytes (only-found sha256 (storeOf s) v p (so, lie)))
 
       go : {a : Answer Finding} → Answers s v k x a → 0 ≡ numberOf a → g ≡ toldOf findingBytes a f → Cost s v k x g
       go (wrong-key n) z t = absurd (omega arith)
@@ -166,7 +167,8 @@ module _ {s : Bytes} {v : ℕ} {k x : Bytes} (w : SoundBytes s) (kept : Kept (st
   answered c (wrong-store {m} l d n) = absurd (n (one-answer s m 0 d (sound (w .capacity) (w .oldest) (w .latest) (w .headed) (w .sound))))
   answered {answer} c (sound-store {a} l h d) =
       let p = c .proof in
-      let its = holding kept granted (c .is-proof) (holds-alike (storeOf s) v k p answer .1 (c .holds)) in
+      let so = found-so sha256 (storeOf s) v p in
+      let its = holding kept granted (c .is-proof) (holds-alike (storeOf s) v k p answer .1 (c .holds)) (so .0) (so .1) in
       ap numberOf (one-found sha256 (storeOf s) v k x a (accepted (finding sha256 (storeOf s) v p)) d its)
 
   -- the check has one answer
