@@ -19,7 +19,8 @@ use Rattle.nodehash.specs.Node.{leafHash, innerHash}
 use Rattle.layout.specs.Stores.{storeOf}
 use Rattle.promises.specs.Calls.{SoundBytes, Does, wrong-header, not-sound, refuses, accepts}
 use Rattle.promises.proofs.Calls.{one-outcome}
-use Rattle.quarter.specs.Figures.{Figures, figuresOf, figuresBytes, figuresSize, rangeRight, versionsFrom, versions, figuresOver, Quarter, quarterOf, figures}
+use Rattle.quarter.specs.Figures.{Figures, figuresOf, figuresBytes, figuresSize, rangeRight, versionsFrom, versions, Quarter, quarterOf, figures}
+use Rattle.quarter.specs.Living.{figuresOver}
 use Rattle.quarter.proofs.Theorems.{leaves-are-grants}
 use Rattle.quarter.proofs.Small.{figures-are-small, distinct-is-small, records-are-small}
 use Rattle.quarter.proofs.Told.{leaves-told, inners-told, longest-told, sum-told, versions-long, version-told, distinct-told, records-told, no-grant-no-node, nothing-told}

@@ -6,7 +6,8 @@ use lib.ListN.{length}
 use Rattle.terms.specs.Bits.{Bytes}
 use Rattle.layout.specs.Stores.{storeOf}
 use Rattle.promises.specs.Calls.{SoundBytes}
-use Rattle.quarter.specs.Figures.{rangeRight, figuresSize, versions, figuresOver, recordsOver}
+use Rattle.quarter.specs.Figures.{rangeRight, figuresSize, versions, recordsOver}
+use Rattle.quarter.specs.Living.{figuresOver}
 use Rattle.contracts.specs.Figures.{eachBytes}
 
 -- A sound store, a right range, and a part with room for its numbers.
