@@ -10,15 +10,12 @@ use lib.ListN.{length}
 use lib.Dec.{eqb, ltb}
 use Rattle.terms.specs.declared.Form.the-variants.{Counted as counted}
 use Rattle.terms.specs.Bits.{Bytes}
-use Rattle.terms.specs.Fields.{le}
 use Rattle.terms.specs.Records.{Proof, Store}
-use Rattle.meaning.specs.Tree.{VTree, hash, unversioned, grantsIn}
+use Rattle.meaning.specs.Tree.{VTree, grantsIn}
 use Rattle.meaning.specs.Store.{treeAtVersion}
 use Rattle.meaning.specs.Sound.{Kept}
 use Rattle.meaning.specs.Calls.{Answer, refused, accepted, Result, isKept}
-use Rattle.meaning.specs.Reading.{answerOf}
-use Rattle.meaning.specs.Counting.{grantAt}
-use Rattle.meaning.specs.Answers.{numberOf, toldOf, foundBytes, roomAfter}
+use Rattle.meaning.specs.Answers.{numberOf, roomAfter}
 use Rattle.meaning.specs.Proving.{proof, fitted, prove}
 use Rattle.shown.proofs.Theorems.{kept-test, same-tree-same-proofs}
 use Rattle.changed.specs.Changes.{Item, changed, items, itemSize, listBytes}
@@ -36,7 +33,6 @@ use Rattle.contracts.specs.Palettes.{paletteAnswer, proofsBytes}
 use Rattle.contracts.specs.Palettes as palettes
 use Rattle.contracts.specs.Changes as listed
 use Rattle.contracts.specs.Changes.{countBytes}
-use Rattle.contracts.specs.Numbers.{grantBytes}
 use Rattle.demands.specs.Claims.{treeOfVersion, grantsOfVersion, ReadsFor, ReadsAs, ComparesAs}
 use Rattle.demands.proofs.Reading.{sound-reads-for}
 

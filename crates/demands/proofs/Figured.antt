@@ -170,4 +170,4 @@ accepted-figures-are-counts first last {s} {room} {f} {t} {g} w = go (w .answer)
 -- A version between two publishings has the figures of the earlier one.
 pub between-as-the-earlier : {number : ℕ} {batch s t g : Bytes} → NextVersion number batch s t g → (v : ℕ) → latestOf s ≤ v → v ≤ number - 1 →
     figuresOf (treeOfVersion t v) ≡ figuresOf (treeOfVersion s (latestOf s))
-between-as-the-earlier w v a b = ap figuresOf (w .after .between v a (omega (arith, w .above, w .latest)))
+between-as-the-earlier w v a b = ap figuresOf (w .after .between v a (omega (arith, w .after .above, w .after .latest)))

@@ -4,23 +4,20 @@ use Prim.Native.Nat.{ℕ, _-_, _≤_}
 use native.Mathlib.Omega.{arith}
 use mathlib.Core.Path.{_≡_, refl, ap, sym, _∙_, subst}
 use mathlib.Core.Bool.{Bool, true, false, cond}
-use mathlib.Core.Logic.{_↔_}
 use mathlib.Core.List.{List, [], _∷_}
 use mathlib.Core.Option.{Option, none, some}
-use lib.ListN.{length, take}
+use lib.ListN.{length}
 use lib.Dec.{eqb}
 use borrow.Author.Tests.{eq-eqb, ne-eqb, eqb-true, eqb-false}
 use Rattle.terms.specs.declared.Form.{Form}
 use Rattle.terms.specs.declared.Form.the-variants.{Plain as plain, Counted as counted}
-use Rattle.terms.specs.Bits.{Bytes, Byte, All, Whole32}
-use Rattle.terms.specs.Fields.{le, num, field}
-use Rattle.terms.specs.Records.{Grant, Ask, Store, zeros}
+use Rattle.terms.specs.Bits.{Bytes, Byte, All}
+use Rattle.terms.specs.Fields.{field}
+use Rattle.terms.specs.Records.{Grant, Ask, Store}
 use Rattle.terms.specs.Form.{top32}
-use Rattle.meaning.specs.Tree.{grantsAt, treeOf, hash}
 use Rattle.meaning.specs.Store.{formatted}
 use Rattle.meaning.specs.Sound.{Kept}
 use Rattle.meaning.specs.Calls.{refused, accepted, Result}
-use Rattle.meaning.specs.Reading.{answerOf}
 use Rattle.meaning.specs.History.{Call, formatting, applying, pruning, Entry, entry, noted, ledger, grantsOf, Holds, entriesFrom, held}
 use Rattle.meaning.specs.Course.{CallForm}
 use Rattle.histories.proofs.Histories.{Keeps, keeps-holds, keeps-held, keeps-formatted, keeps-calls}
@@ -43,14 +40,11 @@ use Rattle.rescue_bytes.proofs.Outcomes.{refused-leaves, accepted-report}
 use Rattle.rescue_bytes.proofs.Worth.{worth}
 use Rattle.rescue_bytes.proofs.Ledger.{rescued-keeps}
 use Rattle.rescue_bytes.proofs.Report.{first-told}
-use Rattle.contracts.specs.Numbers.{grantBytes}
 use Rattle.move_rules.specs.Moves.{other, Moves}
 use Rattle.move_rules.proofs.Outcomes.{moved-was-sound}
 use Rattle.move_rules.proofs.Theorems.{accepted-move-is-worth}
 use Rattle.move_rules.proofs.Ledger.{moved-keeps}
-use Rattle.contracts.specs.Contracts.{Formats, ReadsRoot, ReadsKey, Proves, Rescues, MovesOver, Verifies, Counts, ReadsAt}
-use Rattle.meaning.specs.Counting.{grantAt}
-use Rattle.meaning.specs.Answers.{foundBytes, numberOf, toldOf}
+use Rattle.contracts.specs.Contracts.{Formats, Rescues, MovesOver}
 use Rattle.demands.specs.Calls.{Called, formats, applies, prunes, Calls, none-yet, then-called, Life, rescues-into, moves-over, looks, Begins, by-format, by-rescue, as-found, by-over, by-back, takenOver, formats-both, applies-both, prunes-both}
 use Rattle.index_rules.specs.Tables.{FormatsBoth, wrong-size, both-fresh, not-told, refuses-both, accepts-both, ExportsBoth, both-refused, both-answered}
 use Rattle.demands.specs.Claims.{grantsOfVersion, ReadsFor, AfterHistory}

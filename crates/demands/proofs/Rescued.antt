@@ -6,12 +6,9 @@ use mathlib.Core.Path.{_≡_, refl, ap, sym, _∙_, subst}
 use lib.ListN.{length}
 use Rattle.terms.specs.Bits.{Bytes, Byte, All}
 use Rattle.terms.specs.Form.{top32}
-use Rattle.meaning.specs.Tree.{hash, unversioned, grantsIn}
+use Rattle.meaning.specs.Tree.{grantsIn}
 use Rattle.meaning.specs.Sound.{Kept}
 use Rattle.meaning.specs.Calls.{Answer, refused, accepted}
-use Rattle.meaning.specs.Reading.{answerOf}
-use Rattle.meaning.specs.Answers.{foundBytes}
-use Rattle.nodehash.specs.Node.{leafHash, innerHash}
 use Rattle.layout.specs.Stores.{storeOf}
 use Rattle.promises.specs.Calls.{SoundBytes}
 use Rattle.rescue_bytes.specs.Rescues as rescue

@@ -21,7 +21,7 @@ use Rattle.meaning.specs.Proving.{HoldsGrant, proof, proofLength, fitted, prove
 use Rattle.meaning.specs.Checking.{checked}
 use Rattle.shown.proofs.Walks.{present-absent}
 use Rattle.shown.proofs.Verdicts.{accepted-same, Agrees}
-use Rattle.shown.proofs.Theorems.{proof-agrees-with-read, proofs-have-17080-bytes, given-with-room, nine-without-room, root-read-is-hash, key-read-is-answer, shown, empty-root-is-zeros, empty-is-fourteen, fourteen-exactly-without-grant}
+use Rattle.shown.proofs.Theorems.{proof-agrees-with-read, proofs-have-17080-bytes, given-with-room, nine-without-room, root-read-is-hash, key-read-is-answer, shown, empty-is-fourteen, fourteen-exactly-without-grant}
 use Rattle.nodehash.specs.Node.{leafHash, innerHash}
 use Rattle.proofrecords.specs.ProofBytes.{presenceKind, absenceKind, proofBytes, ProofForm}
 use Rattle.layout.specs.Stores.{storeOf}

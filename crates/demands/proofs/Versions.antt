@@ -6,7 +6,7 @@ use mathlib.Core.Path.{_≡_, refl, ap, sym, _∙_, subst}
 use mathlib.Core.List.{List, [], _∷_, _++_, append-nil}
 use mathlib.Core.Option.{Option, none, some}
 use lib.ListN.{length, getD}
-use Rattle.terms.specs.Bits.{Bytes, Whole32}
+use Rattle.terms.specs.Bits.{Bytes}
 use Rattle.terms.specs.Fields.{le, num, field, slice, flat}
 use Rattle.terms.specs.Records.{Ask, Slot, free, used, spoiled, Store}
 use Rattle.terms.specs.Form.{top32}
@@ -15,7 +15,6 @@ use Rattle.meaning.specs.Tree.{withBatch, treeOf, hash, unversioned, nextTree}
 use Rattle.meaning.specs.Store.{freeSlots, newRecords}
 use Rattle.meaning.specs.Sound.{Kept}
 use Rattle.meaning.specs.Calls.{Answer, accepted, refuse, Applied, apply}
-use Rattle.meaning.specs.Reading.{answerOf}
 use Rattle.histories.specs.Claims.{AfterApply}
 use Rattle.histories.proofs.Calls.{recordsNeeded, apply-cases}
 use Rattle.histories.proofs.Theorems.{sound-tree-of-grants, apply-keeps-sound}
@@ -24,8 +23,7 @@ use Rattle.layout.specs.Stores.{storeOf, storeBytes}
 use Rattle.batch.specs.Asked.{AskedBy, Asks}
 use Rattle.promises.specs.Calls.{SoundBytes, accepts, Exports, exports-refusal, exports-answer}
 use Rattle.contracts.specs.Apply.{answerBytes, told}
-use Rattle.meaning.specs.Answers.{foundBytes}
-use Rattle.contracts.specs.Contracts.{Applies, ReadsRoot, ReadsKey}
+use Rattle.contracts.specs.Contracts.{Applies}
 use Rattle.demands.specs.Claims.{treeOfVersion, grantsOfVersion, latestOf, ReadsFor, ReadsAs, ComparesAs, NextVersion}
 use Rattle.demands.proofs.Hashes.{leaf-hash-whole, inner-hash-whole, hash-whole}
 use Rattle.demands.proofs.Stored.{stored-is, stored-sound, apply-form}
@@ -175,9 +173,6 @@ module _ {number : ℕ} {batch s t g : Bytes} (small : number ≤ top32) (m : Ma
     answered = m .told-as;
     after = after;
     version = version ∙ after .latest;
-    latest = after .latest;
-    above = omega (arith, after .above, after .latest);
-    grants = after .grants;
     tree = tree;
     reads = reads;
     root = root ∙ ap (hash leafHash innerHash) tree;

@@ -1,7 +1,7 @@
 -- Demand 3: any sequence of public calls on one store, refused ones included. Each call is its contract, and the bytes
 -- it leaves are those that the next one is lent. Assumes nothing.
 use Prim.Native.Nat.{ℕ, _-_, _≤_}
-use mathlib.Core.Bool.{Bool, true, false}
+use mathlib.Core.Bool.{Bool, false, cond}
 use mathlib.Core.List.{List, [], _∷_}
 use lib.Dec.{eqb}
 use Rattle.terms.specs.declared.Form.{Form}
@@ -56,16 +56,11 @@ pub data Calls : Bytes → List (Call × Bool) → Bytes → Type 0 where
   then-called : {s t u : Bytes} {e : Call × Bool} {history : List (Call × Bool)} → Called s e t → Calls t history u →
       Calls s (e ∷ history) u
 
--- What a call did to the store: a refused one only looked.
-abbrev pub doneBy : Call → Bool → Call
-doneBy c true = c
-doneBy c false = looking
-
 -- None of them leaves a gap: each batch that was accepted was given the latest version of the bytes it was lent + 1,
 -- and no rescue and no move into the store was accepted.
 abbrev pub WithoutGaps : {s t : Bytes} {history : List (Call × Bool)} → Calls s history t → Type 0
 WithoutGaps none-yet = Unit {0}
-WithoutGaps {s} (then-called {e = e} c calls) = NoGap (doneBy (e .0) (e .1)) (storeOf s) × WithoutGaps calls
+WithoutGaps {s} (then-called {e = e} c calls) = cond (e .1) (NoGap (e .0) (storeOf s)) (Unit {0}) × WithoutGaps calls
 
 -- How a store of a form begins, and the grants by version that it begins with. A new one: format accepted some bytes,
 -- and there is the empty version 0; or a rescue into some bytes was accepted, and its history counts from the run's

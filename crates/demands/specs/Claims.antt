@@ -30,7 +30,7 @@ use Rattle.batch.specs.Asked.{AskedBy}
 use Rattle.promises.specs.Calls.{SoundBytes}
 use Rattle.rescue_rules.specs.Rescue.{sourceTree}
 use Rattle.rescue_bytes.specs.Rescues.{slotsIn, Report, reportBytes}
-use Rattle.rescue_bytes.specs.Claims.{Worth, AsItWas}
+use Rattle.rescue_bytes.specs.Claims.{Worth}
 use Rattle.contracts.specs.Apply.{told}
 use Rattle.meaning.specs.Counting.{grantAt}
 use Rattle.meaning.specs.Answers.{foundBytes, numberOf, toldOf, roomAfter}
@@ -142,11 +142,8 @@ pub record NextVersion (number : ℕ) (batch s t g : Bytes) : Type 0 where
   pub answer : Applied
   pub answered : g ≡ told answer
   pub after : AfterApply leafHash innerHash number asks (storeOf s) answer (storeOf t)
-  -- the new version has the given number, which is above latest, and its grants are the old ones with the batch
+  -- the version told is the given number, and what is read of it are the old grants with the batch
   pub version : field 0 4 g ≡ number
-  pub latest : latestOf t ≡ number
-  pub above : latestOf s < number
-  pub grants : grantsOfVersion t (latestOf t) ≡ grantsWith asks s
   pub tree : unversioned (treeOfVersion t (latestOf t)) ≡ treeOf (grantsWith asks s)
   pub reads : ReadsFor t number (grantsWith asks s)
   -- the root is that of those grants, and the count that of the new records
@@ -218,4 +215,4 @@ pub record GivenBack (first : ℕ) (s : Bytes) (r : ℕ) (t g : Bytes) : Type 0 
   pub report : Report
   pub told : g ≡ reportBytes report
   pub begins : report .first ≡ first
-  pub as-it-was : AsItWas report
+  pub as-it-was : (report .numbers .other ≡ 0) × (report .numbers .out ≡ 0)

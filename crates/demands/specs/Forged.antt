@@ -3,11 +3,12 @@
 use Prim.Native.Nat.{ℕ}
 use mathlib.Core.Path.{_≡_}
 use mathlib.Core.Logic.{_⊎_}
-use mathlib.Core.List.{List}
+use mathlib.Core.List.{List, _++_}
 use lib.ListN.{length, getD}
 use Rattle.terms.specs.Bits.{Bytes}
 use Rattle.terms.specs.Fields.{slice, zeroBytes}
 use Rattle.terms.specs.Records.{Proof, zeros}
+use Rattle.meaning.specs.Tree.{unversioned}
 use Rattle.meaning.specs.Sound.{Kept}
 use Rattle.meaning.specs.Reading.{Verdict, answerOf}
 use Rattle.meaning.specs.Proving.{HoldsGrant}
@@ -16,9 +17,9 @@ use Rattle.layout.specs.Stores.{storeOf}
 use Rattle.promises.specs.Calls.{SoundBytes}
 use Rattle.refusals.specs.Rows.{rootOfVersion}
 use Rattle.proofrecords.specs.ProofBytes.{ProofIs}
+use Rattle.forgery.specs.Messages.{treeMessages, checkedMessages}
 use Rattle.forgery.specs.Finding.{True, Among}
-use Rattle.finding_rules.specs.Claims.{theMessages}
-use Rattle.demands.specs.Claims.{grantsOfVersion, Accepts}
+use Rattle.demands.specs.Claims.{treeOfVersion, grantsOfVersion, Accepts}
 
 -- 131 bytes name a finding among some messages: two different ones with equal SHA-256, or one whose SHA-256 is 32 zero
 -- bytes.
@@ -34,7 +35,7 @@ NamesNone g = g ≡ zeroBytes 131
 
 -- The messages of the version's nodes, and those hashed while checking a proof.
 abbrev pub messagesOf : Bytes → ℕ → Proof → List Bytes
-messagesOf s v p = theMessages sha256 (storeOf s) v p
+messagesOf s v p = treeMessages sha256 (unversioned (treeOfVersion s v)) ++ checkedMessages sha256 p
 
 -- The call was accepted of the bytes x, as a proof for the key k in version v of the bytes s; g is what it told.
 pub record Cost (s : Bytes) (v : ℕ) (k x g : Bytes) : Type 0 where

@@ -5,16 +5,16 @@ use native.Mathlib.Omega.{arith}
 use mathlib.Core.Path.{_≡_, refl, ap, ap₂, sym, _∙_, subst}
 use mathlib.Core.Bool.{Bool, true, false, cond, _&&_}
 use mathlib.Core.List.{List}
-use lib.ListN.{length, getD}
+use lib.ListN.{length}
 use lib.Dec.{leb, ltb}
 use Rattle.terms.specs.declared.Form.{Form}
 use Rattle.terms.specs.declared.Form.the-variants.{Plain as plain, Counted as counted}
 use Rattle.terms.specs.Bits.{Bytes, Byte, All}
-use Rattle.terms.specs.Records.{Tally, Record, Slot, free, used, spoiled, Store}
+use Rattle.terms.specs.Records.{free, Store}
 use Rattle.terms.specs.Form.{FormedAs}
 use Rattle.terms.proofs.Lists.{all-at}
 use Rattle.meaning.specs.Tree.{VTree, grantsIn}
-use Rattle.meaning.specs.Store.{treeAtVersion, onRecord}
+use Rattle.meaning.specs.Store.{treeAtVersion}
 use Rattle.meaning.specs.Sound.{At, Sound}
 use Rattle.meaning.specs.Calls.{Answer, refused, accepted, refuse, isKept}
 use Rattle.changed.specs.Changes.{Item, changed, items, itemSize}

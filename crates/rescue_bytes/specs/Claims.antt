@@ -3,12 +3,11 @@ use Prim.Native.Nat.{ℕ, _+_, _≤_, _<_}
 use mathlib.Core.Path.{_≡_}
 use mathlib.Core.Logic.{_↔_}
 use mathlib.Core.Bool.{false}
-use mathlib.Core.List.{List, [], _∷_}
 use mathlib.Core.Option.{some}
 use lib.ListN.{length, getD}
 use Rattle.terms.specs.declared.Form.the-variants.{Counted as counted}
 use Rattle.terms.specs.Bits.{Bytes}
-use Rattle.terms.specs.Records.{Record, Slot, free, used, Store}
+use Rattle.terms.specs.Records.{Record, free, used, Store}
 use Rattle.meaning.specs.Store.{isNode, freeSlots, marked, rootOf, treeAtVersion}
 use Rattle.meaning.specs.Sound.{At, Kept, Sound}
 use Rattle.nodehash.specs.Node.{leafHash, innerHash}
