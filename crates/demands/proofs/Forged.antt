@@ -42,7 +42,7 @@ use Rattle.finding_rules.proofs.Theorems.{holding-is-found-out}
 use Rattle.contracts.specs.Finds.{Answers, wrong-key, wrong-store, sound-store}
 use Rattle.contracts.specs.Contracts.{ReadsRoot, Verifies, Finds}
 use Rattle.demands.specs.Claims.{grantsOfVersion, Accepts}
-use Rattle.demands.specs.Forged.{NamesFinding, two-equal, one-zero, NamesNone, messagesOf, Cost, Deceived}
+use Rattle.demands.specs.Forged.{NamesFinding, two-equal, one-zero, messagesOf, Cost, Deceived}
 use Rattle.demands.proofs.Hashes.{digest-whole, hash-whole}
 use Rattle.demands.proofs.Accepting.{accepted-exactly-if-it-holds}
 use Rattle.demands.proofs.Showing.{root-of-tree}
@@ -72,11 +72,11 @@ module _ (messages : List Bytes) (long : (m : Bytes) → Among m messages → le
       let one : slice 1 65 g ≡ m = ap (slice 1 65) e ∙ first-part 2 m (zeroBytes 65) (long m a) in
       one-zero (ap (λ x. getD x 0 0) e) (subst (λ x. Among x messages) (sym one) a) (ap sha256 one ∙ zero)
 
-told-none : (f : Finding) (g : Bytes) → f ≡ nothing → g ≡ findingBytes f → NamesNone g
+told-none : (f : Finding) (g : Bytes) → f ≡ nothing → g ≡ findingBytes f → g ≡ zeroBytes 131
 unfolding findingBytes zeroBytes
 told-none f g z e = e ∙ ap findingBytes z
 
-none-told : (f : Finding) (g : Bytes) → NamesNone g → g ≡ findingBytes f → f ≡ nothing
+none-told : (f : Finding) (g : Bytes) → g ≡ zeroBytes 131 → g ≡ findingBytes f → f ≡ nothing
 unfolding findingBytes zeroBytes
 none-told nothing g n e = refl
 none-told (twoEqual m k) g n e =
@@ -122,7 +122,7 @@ module _ {s : Bytes} {v : ℕ} {k x g : Bytes} where
       }
     where
       either : {a : Finding} → FoundOut sha256 (storeOf s) v k p answer a → (a ≡ nothing) ⊎ (a ≡ nothing → ⊥) → g ≡ findingBytes a →
-          NamesFinding (messagesOf s v p) g ⊎ NamesNone g
+          NamesFinding (messagesOf s v p) g ⊎ (g ≡ zeroBytes 131)
       either {a} o (inl n) t = inr (told-none a g n t)
       either {a} o (inr n) t = inl (told (messagesOf s v p) (o .of-65-bytes) a g (o .named-is-a-finding n) t)
 

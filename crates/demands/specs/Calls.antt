@@ -1,5 +1,4 @@
--- Demand 3: any sequence of public calls on one store, refused ones included. Each call is its contract, and the bytes
--- it leaves are those that the next one is lent. Assumes nothing.
+-- Demand 3: any sequence of public calls on one store, refused ones included, each by its contract. Assumes nothing.
 use Prim.Native.Nat.{ℕ, _-_, _≤_}
 use mathlib.Core.Bool.{Bool, false, cond}
 use mathlib.Core.List.{List, [], _∷_}

@@ -1,5 +1,4 @@
--- Document 01, 'The desk's example', over the bytes: what the contracts of apply, prune and the root read say of each
--- row of the table. Assumes nothing.
+-- Document 01, 'The desk's example', over the bytes: each row by the contract of its call. Assumes nothing.
 use Prim.Native.Nat.{ℕ}
 use mathlib.Core.Path.{_≡_}
 use mathlib.Core.Logic.{_↔_}

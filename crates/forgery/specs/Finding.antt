@@ -1,5 +1,4 @@
--- Document 02, request 2026-12: what a proof says, what a finding is, and which finding is named where a proof says
--- something false. Assumes nothing.
+-- Document 02, 2026-12: what a proof says, what a finding is, and which one the search names. Assumes nothing.
 use Prim.Native.Nat.{ℕ}
 use mathlib.Core.Path.{_≡_}
 use mathlib.Core.Logic.{_⊎_}

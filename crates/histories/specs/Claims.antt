@@ -1,5 +1,4 @@
--- What is claimed of apply and prune: when they refuse, and of the store after they accept; what it is to read alike;
--- when a number leaves no gap. Assumes nothing.
+-- What is claimed of apply and prune, refused or accepted, and of numbers without a gap. Assumes nothing.
 use Prim.Native.Nat.{ℕ, suc, _+_, _<_, _≤_}
 use mathlib.Core.Path.{_≡_}
 use mathlib.Core.Bool.{true, false}

@@ -1,6 +1,5 @@
--- Document 01, 'The desk's example': M1 to M12 without M10 as one table, for any two hash functions, each batch with
--- the number latest + 1. A row has the store before, the call, its answer and the store after; hashes are names.
--- Assumes nothing.
+-- Document 01, 'The desk's example': M1 to M12 without M10 as one table, each batch with the number latest + 1; hashes
+-- are names, of any two hash functions. Assumes nothing.
 use Prim.Native.Nat.{ℕ}
 use mathlib.Core.List.{List, [], _∷_, _++_, map}
 use lib.ListN.{replicate, take, drop}

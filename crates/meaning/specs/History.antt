@@ -1,5 +1,4 @@
--- Demand 3: histories. The calls on a store, and the grants that a history gives to each version, told from the calls
--- and from which of them were accepted. Assumes nothing.
+-- Demand 3: the grants that a history of calls, each accepted or not, gives to each version. Assumes nothing.
 use Prim.Native.Nat.{ℕ, zero, suc, _+_, _-_}
 use mathlib.Core.Path.{_≡_}
 use mathlib.Core.Bool.{Bool, cond}

@@ -20,8 +20,8 @@ use Rattle.meaning.specs.Calls.{Answer, refused, accepted, refuse, isKept}
 use Rattle.changed.specs.Changes.{Item, changed, items, itemSize}
 use Rattle.changed.specs.Visits.{visits}
 use Rattle.changed.specs.Compare.{compare, changesOf, visitsOf}
-use Rattle.moved.specs.Moving.{uncounted, countsIn, over, back}
-use Rattle.moved.specs.Plain.{Plain}
+use Rattle.moved.specs.Moving.{countsIn, over, back}
+use Rattle.moved.specs.Plain.{uncounted, Plain}
 use Rattle.moved.proofs.Recounted.{length-anew}
 use Rattle.moved.proofs.Theorems.{over-is-sound, back-is-sound, there-and-back, back-and-there, over-tree, back-tree, over-proof, back-proof, over-key-read, back-key-read, over-root-read, back-root-read}
 use Rattle.nodehash.specs.Node.{leafHash, innerHash}

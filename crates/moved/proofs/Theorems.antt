@@ -18,8 +18,8 @@ use Rattle.meaning.specs.Proving.{proof}
 use Rattle.meaning.specs.History.{Entry, entry, Holds, entriesFrom, held}
 use Rattle.local.proofs.LocalIsGlobal.{local-is-global}
 use Rattle.local.proofs.Standing.{record-counts}
-use Rattle.moved.specs.Moving.{counting, recounted, uncounted, countsIn, over, back}
-use Rattle.moved.specs.Plain.{Plain}
+use Rattle.moved.specs.Moving.{counting, recounted, countsIn, over, back}
+use Rattle.moved.specs.Plain.{uncounted, Plain}
 use Rattle.moved.proofs.Recounted.{tree-anew, each-anew, version-tree}
 use Rattle.moved.proofs.Reading.{key-read-anew, proof-anew, root-read-anew}
 use Rattle.moved.proofs.Sound.{local-over, local-back}

@@ -19,17 +19,13 @@ recounted g s = map (onRecord (λ r. used (counting (g r) r))) s
 unfoldable pub countsIn : List Slot → Record → Tally
 countsIn s r = countsOf (treeFrom (256 - length (r .place)) s (r .version) (r .place))
 
--- In the plain form there are none.
-abbrev pub uncounted : Record → Tally
-uncounted r = noTally
-
 -- A store counted anew, in a form.
 abbrev pub recountedIn : Form → (Record → Tally) → Store → Store
 recountedIn f g st = record { form = f; oldest = st .oldest; latest = st .latest; slots = recounted g (st .slots) }
 
--- Over: into the counted form. Back: into the plain form.
+-- Over: into the counted form. Back: into the plain form, which has none.
 unfoldable pub over : Store → Store
 over st = recountedIn counted (countsIn (st .slots)) st
 
 unfoldable pub back : Store → Store
-back st = recountedIn plain uncounted st
+back st = recountedIn plain (λ r. noTally) st

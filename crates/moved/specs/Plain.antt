@@ -3,10 +3,14 @@ use Prim.Native.Nat.{ℕ}
 use mathlib.Core.Path.{_≡_}
 use Rattle.terms.specs.declared.Form.the-variants.{Plain as plain}
 use Rattle.terms.specs.Bits.{Bytes}
-use Rattle.terms.specs.Records.{Tally, Record, Slot, free, used, spoiled, Store}
+use Rattle.terms.specs.Records.{Tally, noTally, Record, Slot, free, used, spoiled, Store}
 use Rattle.terms.specs.Form.{FormedAs}
 use Rattle.meaning.specs.Sound.{At}
 use Rattle.moved.specs.Moving.{counting}
+
+-- In the plain form there are no counts.
+abbrev pub uncounted : Record → Tally
+uncounted r = noTally
 
 -- Two slots that hold the same, but for counts.
 pub data SameBut : Slot → Slot → Type 0 where
