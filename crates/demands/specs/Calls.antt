@@ -8,7 +8,8 @@ use Rattle.terms.specs.declared.Form.the-variants.{Plain as plain, Counted as c
 use Rattle.terms.specs.Bits.{Bytes, Byte, All}
 use Rattle.terms.specs.Fields.{field}
 use Rattle.terms.specs.Form.{top32}
-use Rattle.meaning.specs.History.{Call, formatting, applying, pruning, taking, looking, Entry, entry, ledger, entriesFrom, held}
+use Rattle.meaning.specs.History.{Call, formatting, applying, pruning, taking, looking}
+use Rattle.meaning.specs.History.{Entry, entry, ledger, entriesFrom, held}
 use Rattle.histories.specs.Claims.{NoGap}
 use Rattle.layout.specs.Stores.{storeIn, storeOf}
 use Rattle.rescue_rules.specs.Rescue.{sourceTree}
