@@ -22,7 +22,8 @@ use Rattle.meaning.specs.Calls.{Answer, refused, accepted, Result, Applied, app
 use Rattle.meaning.specs.Answers.{numberOf, toldOf, Exports, exports-refusal, exports-answer}
 use Rattle.meaning.proofs.Told.{exported-as}
 use Rattle.meaning.specs.Reading.{readRoot}
-use Rattle.meaning.specs.Desk.{Row, applies, prunes, reads, RowHolds, table, gaps, notAbove, A, B, C, D, a, b, c, d, s₁, g₅, g₉}
+use Rattle.meaning.specs.Desk.{Row, applies, prunes, reads, table, four, s₁}
+use Rattle.meaning.specs.DeskGaps.{RowHolds, gaps, notAbove, g₅, g₉}
 use Rattle.meaning.proofs.Desk.{desk, desk-gaps, not-above}
 use Rattle.histories.proofs.Theorems.{formatted-is-sound, prune-keeps-sound, apply-keeps-sound, refused-apply-writes-nothing, refused-prune-writes-nothing}
 use Rattle.nodehash.specs.Node.{leafHash, innerHash}
@@ -34,7 +35,7 @@ use Rattle.promises.proofs.Calls.{one-export}
 use Rattle.contracts.specs.Reads.{rootAnswer}
 use Rattle.contracts.specs.Apply.{told}
 use Rattle.contracts.specs.Contracts.{Applies}
-use Rattle.demands.specs.Desk.{RowOverBytes, DeskOverBytes}
+use Rattle.demands.specs.Desk.{RowOverBytes}
 use Rattle.demands.proofs.Hashes.{leaf-hash-whole, inner-hash-whole}
 use Rattle.demands.proofs.Stored.{stored-is, stored-sound, formatted-form, prune-form, apply-form}
 
@@ -179,7 +180,7 @@ m1 : Whole (s₁ leafHash innerHash)
 m1 = sound-after (rowAt 0) (desk leafHash innerHash .0) (s20, refl, refl, refl)
 
 -- Each row of the desk's table is what the contracts say of the bytes.
-pub desk-over-bytes : DeskOverBytes
+pub desk-over-bytes : All RowOverBytes (table leafHash innerHash)
 desk-over-bytes =
     let h = desk leafHash innerHash in
     let fresh = formatted-is-sound leafHash innerHash in
@@ -269,7 +270,7 @@ not-above-over-bytes =
 
 -- So writing nothing fails at M1: the bytes that the contract leaves are not those that were lent.
 pub writing-nothing-fails-at-M1 : {f t g : Bytes} {r : ℕ} →
-    Applies 1 (asksBytes (insert A a ∷ insert B b ∷ insert C c ∷ insert D d ∷ [])) (storeBytes (formatted 20)) f r t g →
+    Applies 1 (asksBytes four) (storeBytes (formatted 20)) f r t g →
     t ≡ storeBytes (formatted 20) → ⊥
 unfolding formatted
 writing-nothing-fails-at-M1 {f} {t} {g} {r} w e =

@@ -20,7 +20,8 @@ use Rattle.nodehash.specs.Node.{leafHash, innerHash}
 use Rattle.layout.specs.Stores.{storeOf}
 use Rattle.promises.specs.Calls.{SoundBytes, Does, wrong-header, not-sound, refuses, accepts}
 use Rattle.promises.proofs.Calls.{one-outcome}
-use Rattle.quarter.specs.Figures.{Figures, figuresOf, figuresBytes, figuresSize, rangeRight, versionsFrom, versions, figuresOver, Quarter, quarterOf, figures}
+use Rattle.quarter.specs.Figures.{Figures, figuresOf, figuresBytes, figuresSize, rangeRight, versionsFrom, versions, Quarter, quarterOf, figures}
+use Rattle.quarter.specs.Living.{figuresOver}
 use Rattle.quarter.proofs.Theorems.{leaves-are-grants}
 use Rattle.quarter.proofs.Small.{figures-are-small, distinct-is-small, records-are-small}
 use Rattle.quarter.proofs.Told.{leaves-told, inners-told, longest-told, sum-told, versions-long, version-told, distinct-told, records-told, no-grant-no-node, nothing-told}
@@ -167,4 +168,4 @@ accepted-figures-are-counts first last {s} {room} {f} {t} {g} w = go (w .answer)
 -- A version between two publishings has the figures of the earlier one.
 pub between-as-the-earlier : {number : ℕ} {batch s t g : Bytes} → NextVersion number batch s t g → (v : ℕ) → latestOf s ≤ v → v ≤ number - 1 →
     figuresOf (treeOfVersion t v) ≡ figuresOf (treeOfVersion s (latestOf s))
-between-as-the-earlier w v a b = ap figuresOf (w .after .between v a (omega (arith, w .above, w .latest)))
+between-as-the-earlier w v a b = ap figuresOf (w .after .between v a (omega (arith, w .after .above, w .after .latest)))

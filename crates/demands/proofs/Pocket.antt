@@ -29,7 +29,7 @@ use Rattle.promises.proofs.Calls.{sound-form}
 use Rattle.promises.specs.Headed.{byHeader}
 use Rattle.contracts.specs.Proves.{proveAnswer}
 use Rattle.pocket.specs.Pocket.{Outside, small, inProfile, pocketProve}
-use Rattle.pocket.proofs.Theorems.{inside-shows-short, outside-shows-long, pocket-proofs-have-2296-bytes}
+use Rattle.pocket.proofs.Theorems.{not-both-sides, pocket-proofs-have-2296-bytes}
 use Rattle.contracts.specs.Pocket.{pocketAnswer}
 use Rattle.verify_rules.specs.Verify.{Judged, Told, not-32-bytes, not-in-form, in-form}
 use Rattle.verify_rules.specs.Pocket as told
@@ -100,7 +100,7 @@ not-outside p h = go (small p) refl
   where
     go : (b : Bool) → small p ≡ b → b ≡ true
     go true e = refl
-    go false e = absurd (h (outside-shows-long p e))
+    go false e = absurd (h e)
 
 -- The check beside the full one.
 module _ (root k x : Bytes) where
@@ -197,7 +197,7 @@ module _ (s : Bytes) (v : ℕ) (k : Bytes) where
       go false x c d f z = absurd (omega arith)
       go true (refusal n) c d f z = f n refl (sym z)
       go true (header a b l) false d f z = absurd (omega arith)
-      go true (header a b l) true d f z = inside-shows-short p d o
+      go true (header a b l) true d f z = not-both-sides p d o
 
   prover-short : {room f t g : Bytes} → PocketProves s v k room f 0 t g → num g ≤ 2296
   prover-short w =
@@ -241,7 +241,7 @@ module _ {s : Bytes} (w : SoundBytes s) (v : ℕ) (kept : Kept (storeOf s) v) (k
       (there is, back is)
     where
       there : r ≡ numberOf (fitted (length room) (cond (small proved) (accepted proved) (refused 19))) → r ≡ 19 → ProvedOutside s v k
-      there is e = (proved, is-proved, outside-shows-long proved (fitted-19 (length room) (small proved) (sym is ∙ e)))
+      there is e = (proved, is-proved, (fitted-19 (length room) (small proved) (sym is ∙ e)))
 
       back : r ≡ numberOf (fitted (length room) (cond (small proved) (accepted proved) (refused 19))) → ProvedOutside s v k → r ≡ 19
       back is (p, e, o) = go (small proved) refl is
@@ -251,7 +251,7 @@ module _ {s : Bytes} (w : SoundBytes s) (v : ℕ) (kept : Kept (storeOf s) v) (k
 
           go : (b : Bool) → small proved ≡ b → r ≡ numberOf (fitted (length room) (cond b (accepted proved) (refused 19))) → r ≡ 19
           go false f z = z
-          go true f z = absurd (inside-shows-short proved f (subst Outside same o))
+          go true f z = absurd (not-both-sides proved f (subst Outside same o))
 
   with-room : {room f t g : Bytes} {r : ℕ} → (ProvedOutside s v k → ⊥) → 2296 ≤ length room → PocketProves s v k room f r t g → r ≡ 0
   with-room h long x =

@@ -21,7 +21,7 @@ use Rattle.meaning.specs.Proving.{HoldsGrant, proof, proofLength, fitted, prove
 use Rattle.meaning.specs.Checking.{checked}
 use Rattle.shown.proofs.Walks.{present-absent}
 use Rattle.shown.proofs.Verdicts.{accepted-same, Agrees}
-use Rattle.shown.proofs.Theorems.{proof-agrees-with-read, proofs-have-17080-bytes, given-with-room, nine-without-room, root-read-is-hash, key-read-is-answer, shown, empty-root-is-zeros, empty-is-fourteen, fourteen-exactly-without-grant}
+use Rattle.shown.proofs.Theorems.{proof-agrees-with-read, proofs-have-17080-bytes, given-with-room, nine-without-room, root-read-is-hash, key-read-is-answer, shown, empty-is-fourteen, fourteen-exactly-without-grant}
 use Rattle.nodehash.specs.Node.{leafHash, innerHash}
 use Rattle.proofrecords.specs.ProofBytes.{presenceKind, absenceKind, proofBytes, ProofForm}
 use Rattle.layout.specs.Stores.{storeOf}
@@ -35,8 +35,7 @@ use Rattle.verify_rules.proofs.Told.{judged-exactly, one-verdict}
 use Rattle.meaning.specs.Answers.{numberOf, toldOf, foundBytes}
 use Rattle.meaning.proofs.Told.{exported-left, exports-left}
 use Rattle.contracts.specs.Contracts.{ReadsRoot, ReadsKey, Proves, Verifies}
-use Rattle.demands.specs.Claims.{treeOfVersion, grantsOfVersion, Shown, NothingToShow}
-use Rattle.demands.proofs.Refusals.{refused-prove-writes-nothing}
+use Rattle.demands.specs.Claims.{treeOfVersion, grantsOfVersion, Shown}
 use Rattle.demands.proofs.Hashes.{hash-whole}
 use Rattle.demands.proofs.Forms.{proof-form}
 use Rattle.demands.proofs.Given.{kindOf, its-proof, its-tests, kind-told, front-is}
@@ -107,19 +106,6 @@ module _ {s : Bytes} (w : SoundBytes s) (v : ℕ) (kept : Kept (storeOf s) v) (k
           fourteen-exactly-without-grant leafHash innerHash (storeOf s) (w .sound) v kept k whole .0
           (go (proof (storeOf s) v k) refl (sym (ap (λ a. numberOf a) (proved-into room)) ∙ sym (x .exported .number) ∙ e))
 
-  pub sound-has-nothing-to-show : grantsOfVersion s v ≡ [] → NothingToShow s v k
-  sound-has-nothing-to-show e = record {
-    reads-root = λ x.
-        let a = root-of-tree w kept x in (
-          a .0,
-          a .1 ∙ accepted-same _ _ (sym (root-read-is-hash leafHash innerHash (storeOf s) (w .sound) v kept)
-              ∙ empty-root-is-zeros leafHash innerHash (storeOf s) (w .sound) v kept k whole e),
-        );
-    reads-key = λ x. let a = key-of-grants w kept whole x in (a .0, a .1 ∙ ap (λ gs. foundBytes (answerOf k gs)) e);
-    refused = λ x.
-        let n = empty-refused e x in let u = refused-prove-writes-nothing x (λ z. omega arith) in (n, u .0, u .1);
-  }
-
 module _ {s : Bytes} (w : SoundBytes s) (v : ℕ) (kept : Kept (storeOf s) v) (k : Bytes) (whole : Whole32 k) (some : HoldsGrant (storeOf s) v) where
   its : (p : Proof) × (proof (storeOf s) v k ≡ accepted p) ×
       (checked leafHash innerHash (hash leafHash innerHash (unversioned (treeOfVersion s v))) k p ≡ accepted (answerOf k (grantsOfVersion s v)))
@@ -181,9 +167,8 @@ module _ {s : Bytes} (w : SoundBytes s) (v : ℕ) (kept : Kept (storeOf s) v) (k
         (a .0, b .0, b .1)
 
   -- Given room, for every version that holds a grant, the prover shows a grant exactly if the key is in the version, else its absence; and the checker accepts it.
-  pub sound-is-shown : Shown s v k
+  pub sound-is-shown : Shown s v k (answerOf k (grantsOfVersion s v))
   sound-is-shown = record {
-    reads-key = key-of-grants w kept whole;
     proved = its .0;
     is-proved = its .1;
     given = λ x. given x;

@@ -1,5 +1,4 @@
--- Document 02, request 2026-14: what the pocket prover and the pocket check are beside the full ones, in the words of
--- their contracts. Assumes nothing.
+-- Document 02, 2026-14: the pocket prover and check beside the full ones, over the contracts. Assumes nothing.
 use Prim.Native.Nat.{ℕ, _≤_}
 use mathlib.Core.Path.{_≡_}
 use mathlib.Core.Logic.{_↔_}

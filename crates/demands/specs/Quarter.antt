@@ -1,5 +1,4 @@
--- Document 02, request 2026-14: what the figures of a range are that were given, in the words of the contract. Assumes
--- nothing.
+-- Document 02, 2026-14: what the figures of a range are that were given, over the contract. Assumes nothing.
 use Prim.Native.Nat.{ℕ, _+_, _*_, _-_, _≤_}
 use mathlib.Core.Path.{_≡_}
 use mathlib.Core.List.{[]}

@@ -16,8 +16,8 @@ use Rattle.fields.specs.Written.{written}
 use Rattle.fields.proofs.Written.{fields-fill}
 use Rattle.layout.specs.Stores.{storeOf}
 use Rattle.promises.specs.Calls.{SoundBytes}
-use Rattle.quarter.specs.Figures.{Figures, figuresOf, figuresBytes, leaves, inners, rangeRight, versionsFrom, versions, figuresOver, recordsOver}
-use Rattle.quarter.specs.Living.{livingFigures}
+use Rattle.quarter.specs.Figures.{Figures, figuresOf, figuresBytes, leaves, inners, rangeRight, versionsFrom, versions, recordsOver}
+use Rattle.quarter.specs.Living.{livingFigures, figuresOver}
 use Rattle.quarter.proofs.Theorems.{RangeRight, range-right, living-counts}
 use Rattle.figures_count.specs.Count.{figuresSay}
 use Rattle.figures_count.specs.declared.Figures as declared

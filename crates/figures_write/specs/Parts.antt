@@ -8,7 +8,8 @@ use Rattle.terms.specs.Bits.{Bytes}
 use Rattle.terms.specs.Fields.{flat}
 use Rattle.layout.specs.Stores.{storeOf}
 use Rattle.promises.specs.Calls.{SoundBytes}
-use Rattle.quarter.specs.Figures.{Figures, figuresBytes, rangeRight, figuresSize, versions, figuresOver, recordsOver}
+use Rattle.quarter.specs.Figures.{Figures, figuresBytes, rangeRight, figuresSize, versions, recordsOver}
+use Rattle.quarter.specs.Living.{figuresOver}
 
 -- The numbers of the versions, one after the other.
 abbrev pub eachBytes : List Figures → Bytes

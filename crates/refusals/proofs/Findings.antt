@@ -28,7 +28,7 @@ module _ (s : Bytes) (v : ℕ) (k x : Bytes) where
   finding-first (not-in-form i g n) = inr (λ m. m i, inr (g, inl (n, refl)))
   finding-first (not-holding {p} i g w n) =
       inr (λ m. m i, inr (g, inr (λ f. f p w, inl ((p, w, λ a h. n a (holds-alike (storeOf s) v k p a .1 h)), refl))))
-  finding-first (holding {p} {a} i g w h) =
+  finding-first (holding {p} {a} i g w h t l) =
       inr (
         λ m. m i,
         inr (

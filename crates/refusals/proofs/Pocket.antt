@@ -16,7 +16,7 @@ use Rattle.proofrecords.specs.ProofBytes.{ProofIs}
 use Rattle.proofrecords.proofs.Proofs.{one-proof-is}
 use Rattle.layout.specs.Stores.{storeOf}
 use Rattle.pocket.specs.Pocket.{Outside, small, inProfile, pocketProve}
-use Rattle.pocket.proofs.Theorems.{inside-shows-short, outside-shows-long}
+use Rattle.pocket.proofs.Theorems.{not-both-sides}
 use Rattle.verify_rules.specs.Pocket.{PocketJudged, outside, inside}
 use Rattle.refusals.specs.Exactly.{Table}
 use Rattle.ways.specs.Ways.{ProofStopped}
@@ -54,9 +54,9 @@ module _ (s : Bytes) (formed : Formed (storeOf s)) (v : ℕ) (k room : Bytes) wh
   pocket-given p e = go (small p) refl
     where
       go : (b : Bool) → small p ≡ b → First later (numberOf (fitted (length room) (cond b (accepted p) (refused 19))))
-      go false f = inl ((p, e, outside-shows-long p f), refl)
+      go false f = inl ((p, e, f), refl)
       go true f =
-          inr (λ o. inside-shows-short p f (subst Outside (same-proof s formed v k (sym (o .1) ∙ e)) (o .2)), fits-first s formed v k room p e)
+          inr (λ o. not-both-sides p f (subst Outside (same-proof s formed v k (sym (o .1) ∙ e)) (o .2)), fits-first s formed v k room p e)
 
   pub pocket-stopped : Stopped (provingRows s v) later (ProofStopped (storeOf s) v k) (numberOf (pocketProve (storeOf s) v k (length room)))
   unfolding pocketProve

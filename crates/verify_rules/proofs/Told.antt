@@ -22,7 +22,7 @@ use Rattle.nodehash.specs.Node.{leafHash, innerHash}
 use Rattle.proofrecords.specs.ProofBytes.{proofIn}
 use Rattle.proofrecords.proofs.Proofs.{proof-is, no-proof-is, one-proof-is}
 use Rattle.pocket.specs.Pocket.{small}
-use Rattle.pocket.proofs.Theorems.{inside-they-agree, outside-is-refused, inside-shows-short, outside-shows-long}
+use Rattle.pocket.proofs.Theorems.{inside-they-agree, outside-is-refused, not-both-sides}
 use Rattle.verify_rules.specs.Verify.{Judged, holding, not-holding, Sizes32, Told, not-32-bytes, not-in-form, in-form, Verifies}
 use Rattle.verify_rules.specs.Pocket.{PocketJudged, outside, inside, PocketVerifies}
 use Rattle.verify_rules.specs.Reading.{judged, verified, pocketJudged, pocketVerified}
@@ -89,20 +89,20 @@ module _ (root k : Bytes) (p : Proof) where
       go : (b : Bool) → small p ≡ b → PocketJudged root k p (pocketJudged root k (some p))
       go true e =
           subst (PocketJudged root k p) (sym (inside-they-agree leafHash innerHash root k p e))
-          (inside (inside-shows-short p e) (judged-so (checked leafHash innerHash root k p) refl))
-      go false e = subst (PocketJudged root k p) (sym (outside-is-refused leafHash innerHash root k p e)) (outside (outside-shows-long p e))
+          (inside (not-both-sides p e) (judged-so (checked leafHash innerHash root k p) refl))
+      go false e = subst (PocketJudged root k p) (sym (outside-is-refused leafHash innerHash root k p e)) (outside e)
 
   so-pocket-judged : (a : Answer Verdict) → PocketJudged root k p a → a ≡ pocketJudged root k (some p)
   so-pocket-judged _ (outside o) = go (small p) refl
     where
       go : (b : Bool) → small p ≡ b → refused 19 ≡ pocketJudged root k (some p)
-      go true e = absurd (inside-shows-short p e o)
+      go true e = absurd (not-both-sides p e o)
       go false e = sym (outside-is-refused leafHash innerHash root k p e)
   so-pocket-judged a (inside n h) = go (small p) refl
     where
       go : (b : Bool) → small p ≡ b → a ≡ pocketJudged root k (some p)
       go true e = so-judged a h ∙ sym (inside-they-agree leafHash innerHash root k p e)
-      go false e = absurd (n (outside-shows-long p e))
+      go false e = absurd (n e)
 
 module _ (root k x : Bytes) where
   -- One answer alone is told by the full check, and it is what is read;
