@@ -3,13 +3,13 @@ use Prim.Native.Nat.{ℕ, _≤_, _^_, _<_}
 use native.Mathlib.Omega.{arith}
 use mathlib.Core.Path.{_≡_, refl, ap, sym, _∙_, subst}
 use mathlib.Core.Bool.{Bool, true, false, cond}
-use mathlib.Core.List.{_++_}
+use mathlib.Core.List.{List, _++_}
 use mathlib.Core.Option.{Option, none, some}
 use lib.ListN.{length, take, drop, length-append}
 use lib.Seq.{take-at}
 use lib.Dec.{eqb}
 use borrow.Author.Tests.{eqb-true, eqb-false}
-use Rattle.terms.specs.Bits.{Bytes, Byte, All}
+use Rattle.terms.specs.Bits.{Bytes}
 use Rattle.terms.specs.Fields.{le, num}
 use Rattle.terms.specs.Records.{Presence, Proof, presence, absence}
 use Rattle.terms.proofs.Fields.{num-le, length-le}
@@ -22,13 +22,13 @@ use Rattle.sha256.specs.Sha256.{sha256}
 use Rattle.nodehash.specs.Node.{leafHash, innerHash}
 use Rattle.proofrecords.specs.ProofBytes.{proofBytes, NeighbourForm, ProofForm, neighbourBytes, ProofIs}
 use Rattle.proofrecords.proofs.Proofs.{length-presence, length-absence}
-use Rattle.messages.specs.Message.{messageBytes, mostBytes, RawPresence, RawProof, ownProof}
-use Rattle.messages.specs.Lending.{Lent, LentBytes, rawProof, recordOf, lentIn}
-use Rattle.messages.specs.Spots.{spotsIn, Stand}
-use Rattle.messages.proofs.Lending.{own-form}
-use Rattle.message_rules.specs.Contracts.{spotsBytes}
+use Rattle.messages.specs.Message.{messageBytes, mostBytes, ownProof}
+use Rattle.messages.specs.Raws.{RawPresence, RawProof}
+use Rattle.messages.proofs.Back.{message-at-most}
+use Rattle.message_rules.specs.Contracts.{Encodes, recordOf, Lends, answerBytes}
+use Rattle.message_rules.proofs.Ties.{encodes-raw}
 use Rattle.demands.proofs.Hashes.{digest-whole}
-use Rattle.message_words.proofs.Theorems.{Message, written-message, ReadBack, read-message}
+use Rattle.message_words.proofs.Theorems.{Message, written-message, ReadBack, read-message, read-back, written-again, stands-there}
 pub use Rattle.message_words.proofs.Theorems.{one-write, one-read, refused-write-writes-nothing, refused-read-writes-nothing}
 use Rattle.partner.specs.Ours.{askedKey, verdictOf, partnerAccepts}
 use Rattle.partner.proofs.Agreement.{message-is-encoded}
@@ -43,9 +43,11 @@ use Rattle.demands.specs.Tables.{writeMessageRows, readMessageRows}
 use Rattle.demands.specs.Messages.{PartnerAgrees, MessageGiven, MessageTaken, LedAlike}
 
 -- 10, 15, 9 exactly, and 10, 9.
-pub write-message-exactly : {x : Bytes} {lent : Lent} {room f t g : Bytes} {r : ℕ} → WritesMessage x lent room f r t g → Exactly (writeMessageRows x lent room) r
-write-message-exactly {x} {lent} {room} {r = r} w =
-    exactly (writeMessageRows x lent room) r refl (subst (First (writeMessageRows x lent room)) (sym (w .answer)) (write-first x lent room (w .said) (w .exactly)))
+pub write-message-exactly : {x asked : Bytes} {leaves : List Bytes} {room f t g : Bytes} {r : ℕ} → WritesMessage x asked leaves room f r t g →
+    Exactly (writeMessageRows x asked leaves room) r
+write-message-exactly {x} {asked} {leaves} {room} {r = r} w =
+    exactly (writeMessageRows x asked leaves room) r refl
+    (subst (First (writeMessageRows x asked leaves room)) (sym (w .answer)) (write-first x asked leaves room (w .said) (w .raw) (w .exactly) (w .lent)))
 
 pub read-message-exactly : {m room f t g : Bytes} {r : ℕ} → ReadsMessage m room f r t g → Exactly (readMessageRows m room) r
 read-message-exactly {m} {room} {r = r} w =
@@ -115,23 +117,27 @@ partner-agrees x m q h is own = record {
         only (partnerAccepts sha256 root q) (verdictOf sha256 q) (a .n) (a .not-0) (sym (ap (λ o. numberOf o) (same w)) ∙ z)
 
 -- What was written is a message that reading gives back.
-pub message-is-given : {x : Bytes} {lent : Lent} {room f t g : Bytes} → All Byte x → LentBytes lent → WritesMessage x lent room f 0 t g → MessageGiven x lent t g
-message-is-given {x} {lent} {room} {f} {t} {g} b lb w =
-    let k = written-message lb w in
-    let q = rawProof lent (k .proof) in
-    let long : num g ≡ length (k .m) = ap num (k .told-is) ∙ num-le 4 (length (k .m)) (omega (arith, k .at-most, most q)) in
-    let same : take (num g) t ≡ k .m = ap (take (num g)) (k .room-is) ∙ take-at (k .m) (drop (length (k .m)) room) (num g) (sym long) in
+pub message-is-given : {x asked : Bytes} {leaves : List Bytes} {room f t g : Bytes} → WritesMessage x asked leaves room f 0 t g → MessageGiven x asked leaves t g
+message-is-given {x} {asked} {leaves} {room} {f} {t} {g} w =
+    let k = written-message w in
+    let q = k .proof in
+    let m = messageBytes q in
+    let e = k .lends .encodes in
+    let short : length m ≤ mostBytes q = message-at-most q (encodes-raw e) in
+    let long : num g ≡ length m = ap num (k .told-is) ∙ num-le 4 (length m) (omega (arith, short, most q)) in
+    let same : m ≡ take (num g) t = sym (ap (take (num g)) (k .room-is) ∙ take-at m (drop (length m) room) (num g) (sym long)) in
+    let there : Encodes x (take (num g) t) q = subst (λ y. Encodes x y q) same e in
     record {
-      proof = k .proof;
-      encodes = record { raw = k .raw; is = k .is ∙ sym same };
-      at-most = omega (arith, long, k .at-most);
-      given-back = λ {room = room₁} {f = f₁} {t₁} {g₁} {r} fits v. k .given-back fits (subst (λ m. ReadsMessage m room₁ f₁ r t₁ g₁) same v);
-      stands = subst (λ m. Stand m (spotsIn q) (lentIn q)) (sym same) (k .stands);
+      proof = q;
+      encodes = there;
+      lends = k .lends;
+      at-most = omega (arith, long, short);
+      given-back = λ {room = room₁} {f = f₁} {t₁} {g₁} {r} fits v. read-back there fits v;
+      stands = stands-there there;
       accepted = λ {room = room₁} {f = f₁} {t₁} {g₁} {root} {k = key} {f₂} {g₂} {r} {r₂} fits v.
-          let e = k .given-back fits (subst (λ m. ReadsMessage m room₁ f₁ r t₁ g₁) same v) in
-          let is : take (length x) t₁ ≡ x = ap (take (length x)) (e .1) ∙ take-at x (drop (length x) room₁) (length x) refl in
+          let is : take (length x) t₁ ≡ x = ap (take (length x)) (read-back there fits v .1) ∙ take-at x (drop (length x) room₁) (length x) refl in
           (subst (λ y. Verifies root key y f₂ r₂ g₂) is, subst (λ y. Verifies root key y f₂ r₂ g₂) (sym is));
-      partner = partner-agrees x (take (num g) t) q (k .raw) (k .is ∙ sym same) (subst (ProofIs x) (sym (k .own)) (k .proof-is));
+      partner = partner-agrees x (take (num g) t) q (encodes-raw there) (there .is) (there .own);
     }
 
 -- a record in form is short
@@ -144,23 +150,21 @@ few (presence p) h = omega (arith, length-presence p h, h .short)
 few (absence a) h = omega (arith, length-absence a (h .0) (h .1) (h .2), few-beside (a .leftward) (h .1), few-beside (a .rightward) (h .2))
 
 -- What was read is a message, and our own record of it makes it again.
-pub message-is-taken : {m room f t g : Bytes} → All Byte m → ReadsMessage m room f 0 t g → MessageTaken m t g
-message-is-taken {m} {room} {f} {t} {g} b w =
-    let k = read-message b w in
+pub message-is-taken : {m room f t g : Bytes} → ReadsMessage m room f 0 t g → MessageTaken m t g
+message-is-taken {m} {room} {f} {t} {g} w =
+    let k = read-message w in
     let q = k .proof in
-    let x = recordOf sha256 q in
-    let form = own-form sha256 digest-whole q (k .encodes .raw) in
-    let first : take 4 g ≡ le 4 (length x) =
-    ap (take 4) (k .told-is) ∙ take-at (le 4 (length x)) (spotsBytes (spotsIn q)) 4 (length-le 4 (length x)) in
-    let long : num (take 4 g) ≡ length x = ap num first ∙ num-le 4 (length x) (omega (arith, few (ownProof sha256 q) form)) in
+    let x = recordOf q in
+    let first : take 4 g ≡ le 4 (length x) = ap (take 4) (k .told-is) ∙ take-at (le 4 (length x)) _ 4 (length-le 4 (length x)) in
+    let long : num (take 4 g) ≡ length x = ap num first ∙ num-le 4 (length x) (omega (arith, few (ownProof sha256 q) (k .encodes .own .form))) in
     let same : take (num (take 4 g)) t ≡ x =
     ap (take (num (take 4 g))) (k .room-is) ∙ take-at x (drop (length x) room) (num (take 4 g)) (sym long) in
+    let there : Encodes (take (num (take 4 g)) t) m q = subst (λ y. Encodes y m q) (sym same) (k .encodes) in
     record {
       proof = q;
-      encodes = k .encodes;
-      record-is = same;
-      written-so = k .written-so;
-      partner = partner-agrees (take (num (take 4 g)) t) m q (k .encodes .raw) (k .encodes .is) (record { bytes = same; form = form });
+      encodes = there;
+      written-so = λ {room = room₁} {f = f₁} {t₁} {g₁} {r} fits v. written-again (k .encodes) fits v;
+      partner = partner-agrees (take (num (take 4 g)) t) m q (encodes-raw there) (there .is) (there .own);
     }
 
 -- A partner's verifier is led as ours is.

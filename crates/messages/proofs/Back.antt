@@ -16,7 +16,9 @@ use Rattle.terms.proofs.Tests.{and-left, and-right, same-bytes, bytes-same}
 use Rattle.terms.proofs.Fields.{all-of-tests}
 use Rattle.proofrecords.specs.ProofBytes.{flagsOf}
 use Rattle.messages.specs.Wire.{varintIn, varint, numberTag, bytesTag, messageField, bytesField, numberField}
-use Rattle.messages.specs.Message.{leafOp, path, existence, neighbourField, nonexistence, messageBytes, mostBytes, Raw, RawPresence, RawNeighbour, RawProof}
+use Rattle.messages.specs.Message.{leafOp, path, existence, neighbourField, nonexistence, messageBytes, mostBytes}
+use Rattle.messages.specs.Parts.{Raw}
+use Rattle.messages.specs.Raws.{RawPresence, RawNeighbour, RawProof}
 use Rattle.messages.specs.Reading.{onward, onlyIf, Front, fieldFrom, pathIn, lengthRight, existenceIn, neighbourFrom, somebody, nonexistenceIn, fieldAlone, messageIn}
 use Rattle.messages.proofs.Wires.{onward-some, only-if-some, Near, Short, field-is, field-back, FieldSaid, field-said, bytes-field-is, length-field, no-bytes}
 use Rattle.messages.proofs.Steps.{path-back, PathSaid, path-said, length-path}

@@ -17,7 +17,9 @@ use Rattle.proofrecords.specs.ProofBytes.{proofBytes, flagsOf, PresenceForm, Ne
 use Rattle.meaning.specs.Calls.{Answer, refused, accepted}
 use Rattle.meaning.specs.Reading.{Verdict}
 use Rattle.meaning.specs.Checking.{checked}
-use Rattle.messages.specs.Message.{messageBytes, Raw, RawPresence, RawNeighbour, RawProof, ownPresence, ownNeighbour, ownProof}
+use Rattle.messages.specs.Message.{messageBytes, ownPresence, ownNeighbour, ownProof}
+use Rattle.messages.specs.Parts.{Raw}
+use Rattle.messages.specs.Raws.{RawPresence, RawNeighbour, RawProof}
 use Rattle.messages.specs.Reading.{lengthRight, messageIn}
 use Rattle.messages.specs.Lending.{Leaf, Lent, rightLeaf, rawPresence, rawNeighbour, rawProof, unlent, hashesTo, leafFits, leavesFit, lentFits, fitted, writtenFrom, recordOf, readFrom, read, LentBytes, noLeaf, leafOf, leavesOf, lentIn}
 use Rattle.messages.proofs.Back.{length-right, right-length, message-back, message-said}
@@ -26,11 +28,11 @@ clash : {A B : Type 0} {n : ℕ} {a : B} → refused n ≡ accepted a → A
 clash e = let z : _≡_ {A = ℕ} 0 1 = cc in absurd (omega arith)
 
 module _ (sha : Bytes → Bytes) where
-  hashes-said : (most : ℕ) (x h : Bytes) → All Byte x → hashesTo sha most x h ≡ true → Raw most x × (sha x ≡ h)
+  pub hashes-said : (most : ℕ) (x h : Bytes) → All Byte x → hashesTo sha most x h ≡ true → Raw most x × (sha x ≡ h)
   unfolding hashesTo
   hashes-said most x h b e = let t = all-of-tests _ e in (right-length most x b (t .0), same-bytes (sha x) h (t .1 .0))
 
-  hashes-back : (most : ℕ) (x : Bytes) → Raw most x → hashesTo sha most x (sha x) ≡ true
+  pub hashes-back : (most : ℕ) (x : Bytes) → Raw most x → hashesTo sha most x (sha x) ≡ true
   unfolding hashesTo allOf
   hashes-back most x h = rw (length-right most x h, bytes-same (sha x))
 
@@ -45,7 +47,7 @@ module _ (sha : Bytes → Bytes) where
         ap₂ (λ u v. record { key = u; value = v; steps = p .steps }) (k .1) (x .1),
       )
 
-  leaf-back : (p : Presence) → RawPresence p → leafFits sha (leafOf p) (ownPresence sha p) ≡ true
+  pub leaf-back : (p : Presence) → RawPresence p → leafFits sha (leafOf p) (ownPresence sha p) ≡ true
   unfolding leafFits allOf
   leaf-back p h = rw (hashes-back 256 (p .key) (h .key-raw), hashes-back 4096 (p .value) (h .value-raw))
 
@@ -105,7 +107,7 @@ module _ (sha : Bytes → Bytes) where
   leaves-raw asked none (some r) = (refl, refl)
   leaves-raw asked (some l) (some r) = (refl, refl)
 
-  lent-back : (q : Proof) → RawProof q → (lentFits sha (lentIn q) (ownProof sha q) ≡ true) × (rawProof (lentIn q) (ownProof sha q) ≡ q)
+  pub lent-back : (q : Proof) → RawProof q → (lentFits sha (lentIn q) (ownProof sha q) ≡ true) × (rawProof (lentIn q) (ownProof sha q) ≡ q)
   unfolding unlent allOf
   lent-back (presence p) h = (rw (hashes-back 256 (p .key) (h .key-raw), leaf-back p h), refl)
   lent-back (absence a) h =
@@ -123,7 +125,7 @@ module _ (sha : Bytes → Bytes) where
   own-neighbour-form w none h = tt
   own-neighbour-form w (some p) h = own-presence-form w p h
 
-  own-flags : (l r : Option Presence) → flagsOf (ownNeighbour sha l) (ownNeighbour sha r) ≡ flagsOf l r
+  pub own-flags : (l r : Option Presence) → flagsOf (ownNeighbour sha l) (ownNeighbour sha r) ≡ flagsOf l r
   own-flags none none = refl
   own-flags (some l) none = refl
   own-flags none (some r) = refl

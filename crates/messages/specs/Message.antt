@@ -1,15 +1,13 @@
 -- Document 02, request 2026-02: the protobuf CommitmentProof, presence or absence, by ICS 23's published proto file
 -- (cosmos.ics23.v1). What a message says is a proof of ours in which keys and values are raw; fields stand in number
 -- order. Assumes nothing.
-use Prim.Native.Nat.{ℕ, _≤_}
+use Prim.Native.Nat.{ℕ}
 use mathlib.Core.Bool.{true, false}
 use mathlib.Core.List.{List, [], _∷_, _++_}
 use mathlib.Core.Option.{Option, none, some}
-use lib.ListN.{length}
-use Rattle.terms.specs.Bits.{Bytes, Byte, All, Side}
+use Rattle.terms.specs.Bits.{Bytes, Side}
 use Rattle.terms.specs.Fields.{flat}
 use Rattle.terms.specs.Records.{Step, Presence, Absence, Proof, presence, absence}
-use Rattle.proofrecords.specs.ProofBytes.{StepForm, mostSteps, flagsOf}
 use Rattle.messages.specs.Wire.{numberField, bytesField, messageField}
 
 -- Operation codes: HashOp SHA256 is 1; LengthOp NO_PREFIX is 0.
@@ -74,37 +72,6 @@ messageBytes (absence a) = messageField 2 (nonexistence a)
 abbrev pub mostBytes : Proof → ℕ
 mostBytes (presence p) = 14868
 mostBytes (absence a) = 29999
-
--- A raw key has 1 to 256 bytes, a raw value 1 to 4,096.
-abbrev pub mostKey : ℕ
-mostKey = 256
-
-abbrev pub mostValue : ℕ
-mostValue = 4096
-
-pub record Raw (most : ℕ) (x : Bytes) : Type 0 where
-  pub some-byte : 1 ≤ length x
-  pub short : length x ≤ most
-  pub bytes : All Byte x
-
--- What a message may say: raw lengths as above, else as our own records.
-pub record RawPresence (p : Presence) : Type 0 where
-  pub key-raw : Raw mostKey (p .key)
-  pub value-raw : Raw mostValue (p .value)
-  pub short : length (p .steps) ≤ mostSteps
-  pub steps32 : All StepForm (p .steps)
-
-abbrev pub RawNeighbour : Option Presence → Type 0
-RawNeighbour none = Unit {0}
-RawNeighbour (some p) = RawPresence p
-
-abbrev pub RawProof : Proof → Type 0
-RawProof (presence p) = RawPresence p
-RawProof (absence a) =
-    Raw mostKey (a .key)
-    × RawNeighbour (a .leftward)
-    × RawNeighbour (a .rightward)
-    × (1 ≤ flagsOf (a .leftward) (a .rightward))
 
 -- Our own record of what a message says: keys and values hashed.
 module _ (sha : Bytes → Bytes) where

@@ -17,7 +17,8 @@ use Rattle.terms.proofs.Tests.{and-left, and-right, and-true, and-assoc, same-b
 use Rattle.terms.proofs.Lists.{all-append}
 use Rattle.proofrecords.specs.ProofBytes.{StepForm, mostSteps}
 use Rattle.meaning.specs.Checking.{keepsTo, outermost, sameStep, partFromTop, pathsPart, parentHash, climb, leadsTo, neighbourHolds, absenceHolds, checked}
-use Rattle.messages.specs.Message.{prefixOf, suffixOf, leafOp, innerOp, path, existence, nonexistence, neighbourField, messageBytes, RawPresence, RawNeighbour, RawProof, ownPresence, ownNeighbour, ownProof}
+use Rattle.messages.specs.Message.{prefixOf, suffixOf, leafOp, innerOp, path, existence, nonexistence, neighbourField, messageBytes, ownPresence, ownNeighbour, ownProof}
+use Rattle.messages.specs.Raws.{RawPresence, RawNeighbour, RawProof}
 use Rattle.messages.specs.Reading.{onward, onlyIf}
 use Rattle.partner.specs.Values.{LeafOp, InnerOp, Existence, Commitment}
 use Rattle.partner.specs.Verifying.{startsWith, position, Padding, hasPadding, sameOp, leftStep, isRoot, leafRight, innerRight, pathRight, depthRight, fits, padding, firstBranch, branchOf, emptyBelow, leftEmpty, rightEmpty, isLeftMost, isRightMost, neighboursFromTop, isLeftNeighbour, hashed, prehashed, lengthed, prepared, leafApplied, innerApplied, sized, pathApplied, calculated, existenceHolds, forComparison, keyBefore, neighbourVerified, nonExistenceHolds, verifyMembership, verifyNonMembership}

@@ -16,7 +16,8 @@ use Rattle.meaning.specs.Reading.{Verdict, present, absent}
 use Rattle.meaning.specs.Checking.{leadsTo, absenceHolds, checked}
 use Rattle.checker.specs.Holding.{Leads, Holds, shown, only-left, only-right, both}
 use Rattle.checker.proofs.Theorems.{accepted-exactly-if-holds}
-use Rattle.messages.specs.Message.{messageBytes, RawPresence, RawProof, ownPresence, ownNeighbour, ownProof}
+use Rattle.messages.specs.Message.{messageBytes, ownPresence, ownNeighbour, ownProof}
+use Rattle.messages.specs.Raws.{RawPresence, RawProof}
 use Rattle.messages.specs.Reading.{messageIn}
 use Rattle.messages.proofs.Back.{message-exactly}
 use Rattle.partner.specs.Verifying.{fits, isRoot, calculated, existenceHolds, neighbourVerified, verifyMembership, verifyNonMembership}

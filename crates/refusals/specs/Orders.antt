@@ -51,7 +51,6 @@ use Rattle.refusals.specs.Rows.{
   NoMessage,
   RecordTooLong,
 }
-use Rattle.messages.specs.Lending.{Lent}
 use Rattle.refusals.specs.Rows.{HoldsNoGrant, rootOfVersion}
 use Rattle.refusals.specs.Rows.{TooManyBits, ShelfOffForm, ShelfDoesNotHold}
 
@@ -152,8 +151,9 @@ abbrev pub shelfRows : Bytes → ℕ → Bytes → Bytes → Table
 shelfRows root b k x = (21, TooManyBits b) ∷ (10, ShelfOffForm x) ∷ (11, ShelfDoesNotHold root b k x) ∷ []
 
 -- Document 02, 2026-02: 'Writing tests 10, 15, 9, reading 10, 9.'
-abbrev pub messageRows : Bytes → Lent → Bytes → Table
-messageRows x lent room = (10, ProofOffForm x) ∷ (15, NotRaw x lent) ∷ (9, MessageTooLong x lent room) ∷ []
+abbrev pub messageRows : Bytes → Bytes → List Bytes → Bytes → Table
+messageRows x asked leaves room =
+    (10, ProofOffForm x) ∷ (15, NotRaw x asked leaves) ∷ (9, MessageTooLong x asked leaves room) ∷ []
 
 abbrev pub readingRows : Bytes → Bytes → Table
 readingRows m room = (10, NoMessage m) ∷ (9, RecordTooLong m room) ∷ []

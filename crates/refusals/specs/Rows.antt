@@ -32,8 +32,7 @@ use Rattle.pocket.specs.Pocket.{Outside}
 use Rattle.nodehash.specs.Node.{leafHash, innerHash}
 use Rattle.sha256.specs.Sha256.{sha256}
 use Rattle.messages.specs.Message.{messageBytes}
-use Rattle.messages.specs.Lending.{Lent, lentFits, rawProof, recordOf}
-use Rattle.message_rules.specs.Contracts.{Encodes}
+use Rattle.message_rules.specs.Contracts.{Encodes, recordOf, Lends}
 use Rattle.proofrecords.specs.ProofBytes.{ProofIs}
 use Rattle.layout.specs.Sizes.{headerSize, headerKind, mostSlots, kindAt, capacityAt, oldestAt, latestAt, slotSize}
 use Rattle.layout.specs.Stores.{storeIn, storeOf}
@@ -255,17 +254,17 @@ ShelfDoesNotHold root b k x =
 
 -- 15 (document 02, 2026-02), of a proof in form: a raw key or value has another length or doesn't hash to what the
 -- proof holds, or a leaf too many is lent.
-abbrev pub NotRaw : Bytes → Lent → Type 0
-NotRaw x lent = (p : Proof) × ProofIs x p × (lentFits sha256 lent p ≡ true → ⊥)
+abbrev pub NotRaw : Bytes → Bytes → List Bytes → Type 0
+NotRaw x asked leaves = (p : Proof) × ProofIs x p × ((q : Proof) → Lends x asked leaves q → ⊥)
 
 -- 9 of writing a message: it is longer than the room.
-abbrev pub MessageTooLong : Bytes → Lent → Bytes → Type 0
-MessageTooLong x lent room = (p : Proof) × ProofIs x p × (length room < length (messageBytes (rawProof lent p)))
+abbrev pub MessageTooLong : Bytes → Bytes → List Bytes → Bytes → Type 0
+MessageTooLong x asked leaves room = (q : Proof) × Lends x asked leaves q × (length room < length (messageBytes q))
 
 -- 10 of reading a message: the bytes are the message of no proof.
 abbrev pub NoMessage : Bytes → Type 0
-NoMessage m = (q : Proof) → Encodes m q → ⊥
+NoMessage m = (q : Proof) → Encodes (recordOf q) m q → ⊥
 
 -- 9 of reading it: our own record of what it says is longer than the room.
 abbrev pub RecordTooLong : Bytes → Bytes → Type 0
-RecordTooLong m room = (q : Proof) × Encodes m q × (length room < length (recordOf sha256 q))
+RecordTooLong m room = (q : Proof) × Encodes (recordOf q) m q × (length room < length (recordOf q))
