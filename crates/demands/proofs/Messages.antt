@@ -1,6 +1,7 @@
 -- Writing and reading a message, over the contracts: one outcome, numbers exactly by the table, and document 02's words. Assumes nothing.
 use Prim.Native.Nat.{ℕ, _≤_, _^_, _<_}
 use native.Mathlib.Omega.{arith}
+use mathlib.Core.Logic.{_↔_}
 use mathlib.Core.Path.{_≡_, refl, ap, sym, _∙_, subst}
 use mathlib.Core.Bool.{Bool, true, false, cond}
 use mathlib.Core.List.{List, _++_}
@@ -16,22 +17,23 @@ use Rattle.terms.proofs.Fields.{num-le, length-le}
 use Rattle.terms.proofs.Tests.{same-bytes, bytes-same}
 use Rattle.meaning.specs.Calls.{Answer, refused, accepted}
 use Rattle.meaning.specs.Reading.{Verdict}
-use Rattle.meaning.specs.Checking.{leadsTo}
+use Rattle.checker.specs.Holding.{Leads}
 use Rattle.meaning.specs.Answers.{numberOf, foundAfter}
 use Rattle.sha256.specs.Sha256.{sha256}
 use Rattle.nodehash.specs.Node.{leafHash, innerHash}
 use Rattle.proofrecords.specs.ProofBytes.{proofBytes, NeighbourForm, ProofForm, neighbourBytes, ProofIs}
 use Rattle.proofrecords.proofs.Proofs.{length-presence, length-absence}
-use Rattle.messages.specs.Message.{messageBytes, mostBytes, ownProof}
-use Rattle.messages.specs.Raws.{RawPresence, RawProof}
+use Rattle.messages.specs.Message.{existenceOf, messageBytes, mostBytes, ownPresence, ownProof}
+use Rattle.messages.specs.Parts.{askedIn}
+use Rattle.messages.specs.Raws.{RawProof}
 use Rattle.messages.proofs.Back.{message-at-most}
 use Rattle.message_rules.specs.Contracts.{Encodes, recordOf, Lends, answerBytes}
 use Rattle.message_rules.proofs.Ties.{encodes-raw}
 use Rattle.demands.proofs.Hashes.{digest-whole}
 use Rattle.message_words.proofs.Theorems.{Message, written-message, ReadBack, read-message, read-back, written-again, stands-there}
 pub use Rattle.message_words.proofs.Theorems.{one-write, one-read, refused-write-writes-nothing, refused-read-writes-nothing}
-use Rattle.partner.specs.Ours.{askedKey, verdictOf, partnerAccepts}
-use Rattle.partner.proofs.Agreement.{message-is-encoded}
+use Rattle.partner.specs.Verifying.{calculated}
+use Rattle.partner.specs.Ours.{ourSpec, partnerAccepts, verdictOf}
 use Rattle.partner.proofs.Theorems.{checked-by-partner, accepted-root-32, led-as-ours}
 use Rattle.verify_rules.specs.Verify.{Judged, Told, not-32-bytes, in-form}
 use Rattle.verify_rules.proofs.Told.{judged-exactly, one-verdict}
@@ -40,7 +42,7 @@ use Rattle.refusals.proofs.Exactly.{First, exactly}
 use Rattle.refusals.proofs.Messages.{write-first, read-first}
 use Rattle.contracts.specs.Contracts.{Verifies, WritesMessage, ReadsMessage}
 use Rattle.demands.specs.Tables.{writeMessageRows, readMessageRows}
-use Rattle.demands.specs.Messages.{PartnerAgrees, MessageGiven, MessageTaken, LedAlike}
+use Rattle.demands.specs.Messages.{PartnerAgrees, MessageGiven, MessageTaken}
 
 -- 10, 15, 9 exactly, and 10, 9.
 pub write-message-exactly : {x asked : Bytes} {leaves : List Bytes} {room f t g : Bytes} {r : ℕ} → WritesMessage x asked leaves room f r t g →
@@ -61,7 +63,7 @@ most (absence a) = omega arith
 record Agreed (root x : Bytes) (q : Proof) : Type 0 where
   n : ℕ
   not-0 : 1 ≤ n
-  told : Told Judged root (sha256 (askedKey q)) x (cond (partnerAccepts sha256 root q) (accepted (verdictOf sha256 q)) (refused n))
+  told : Told Judged root (sha256 (askedIn q .bytes)) x (cond (partnerAccepts sha256 root q) (accepted (verdictOf sha256 q)) (refused n))
 
 agreed : (root x : Bytes) (q : Proof) → RawProof q → ProofIs x (ownProof sha256 q) → Agreed root x q
 unfolding leafHash innerHash
@@ -79,20 +81,19 @@ agreed root x q h is = go (eqb (length root) 32) refl
       n = 11;
       not-0 = omega arith;
       told =
-          in-form (eqb-true (length root) 32 t, sha32 (askedKey q)) is
-          (judged-exactly root (sha256 (askedKey q)) (ownProof sha256 q) _ .1 (sym (checked-by-partner sha256 sha32 root q h)));
+          in-form (eqb-true (length root) 32 t, sha32 (askedIn q .bytes)) is
+          (judged-exactly root (sha256 (askedIn q .bytes)) (ownProof sha256 q) _ .1 (sym (checked-by-partner sha256 sha32 root q h)));
     }
     go false t = record {
       n = 12;
       not-0 = omega arith;
       told =
-          subst (λ b. Told Judged root (sha256 (askedKey q)) x (cond b (accepted (verdictOf sha256 q)) (refused 12)))
+          subst (λ b. Told Judged root (sha256 (askedIn q .bytes)) x (cond b (accepted (verdictOf sha256 q)) (refused 12)))
           (sym (refuses (partnerAccepts sha256 root q) refl (eqb-false (length root) 32 t))) (not-32-bytes (λ s. eqb-false (length root) 32 t (s .0)));
     }
 
-partner-agrees : (x m : Bytes) (q : Proof) → RawProof q → messageBytes q ≡ m → ProofIs x (ownProof sha256 q) → PartnerAgrees x m q
-partner-agrees x m q h is own = record {
-  encoded = message-is-encoded q ∙ is;
+partner-agrees : (x : Bytes) (q : Proof) → RawProof q → ProofIs x (ownProof sha256 q) → PartnerAgrees x q
+partner-agrees x q h own = record {
   agrees = λ {root} {f} {g} {r} w. (λ t. w .answer ∙ ap (λ o. numberOf o) (taken w t), λ z. back w (sym (w .answer) ∙ z));
   found = λ {root} {f} {g} w. w .found ∙ ap (λ o. foundAfter o f) (taken w (back w (sym (w .answer))));
 }
@@ -100,10 +101,10 @@ partner-agrees x m q h is own = record {
     ours : Bytes → Answer Verdict
     ours root = cond (partnerAccepts sha256 root q) (accepted (verdictOf sha256 q)) (refused (agreed root x q h own .n))
 
-    same : {root f g : Bytes} {r : ℕ} (w : Verifies root (sha256 (askedKey q)) x f r g) → w .verdict ≡ ours root
-    same {root} w = one-verdict root (sha256 (askedKey q)) x (w .verdict) (ours root) (w .told) (agreed root x q h own .told)
+    same : {root f g : Bytes} {r : ℕ} (w : Verifies root (sha256 (askedIn q .bytes)) x f r g) → w .verdict ≡ ours root
+    same {root} w = one-verdict root (sha256 (askedIn q .bytes)) x (w .verdict) (ours root) (w .told) (agreed root x q h own .told)
 
-    taken : {root f g : Bytes} {r : ℕ} (w : Verifies root (sha256 (askedKey q)) x f r g) → partnerAccepts sha256 root q ≡ true →
+    taken : {root f g : Bytes} {r : ℕ} (w : Verifies root (sha256 (askedIn q .bytes)) x f r g) → partnerAccepts sha256 root q ≡ true →
         w .verdict ≡ accepted (verdictOf sha256 q)
     taken {root} w t = same w ∙ ap (λ b. cond b (accepted (verdictOf sha256 q)) (refused (agreed root x q h own .n))) t
 
@@ -111,7 +112,7 @@ partner-agrees x m q h is own = record {
     only true v n l z = refl
     only false v n l z = absurd (omega arith)
 
-    back : {root f g : Bytes} {r : ℕ} (w : Verifies root (sha256 (askedKey q)) x f r g) → numberOf (w .verdict) ≡ 0 → partnerAccepts sha256 root q ≡ true
+    back : {root f g : Bytes} {r : ℕ} (w : Verifies root (sha256 (askedIn q .bytes)) x f r g) → numberOf (w .verdict) ≡ 0 → partnerAccepts sha256 root q ≡ true
     back {root} w z =
         let a = agreed root x q h own in
         only (partnerAccepts sha256 root q) (verdictOf sha256 q) (a .n) (a .not-0) (sym (ap (λ o. numberOf o) (same w)) ∙ z)
@@ -137,7 +138,7 @@ message-is-given {x} {asked} {leaves} {room} {f} {t} {g} w =
       accepted = λ {room = room₁} {f = f₁} {t₁} {g₁} {root} {k = key} {f₂} {g₂} {r} {r₂} fits v.
           let is : take (length x) t₁ ≡ x = ap (take (length x)) (read-back there fits v .1) ∙ take-at x (drop (length x) room₁) (length x) refl in
           (subst (λ y. Verifies root key y f₂ r₂ g₂) is, subst (λ y. Verifies root key y f₂ r₂ g₂) (sym is));
-      partner = partner-agrees x (take (num g) t) q (encodes-raw there) (there .is) (there .own);
+      partner = partner-agrees x q (encodes-raw there) (there .own);
     }
 
 -- a record in form is short
@@ -164,10 +165,11 @@ message-is-taken {m} {room} {f} {t} {g} w =
       proof = q;
       encodes = there;
       written-so = λ {room = room₁} {f = f₁} {t₁} {g₁} {r} fits v. written-again (k .encodes) fits v;
-      partner = partner-agrees (take (num (take 4 g)) t) m q (encodes-raw there) (there .is) (there .own);
+      partner = partner-agrees (take (num (take 4 g)) t) q (encodes-raw there) (there .own);
     }
 
--- A partner's verifier is led as ours is.
-pub led-alike : (p : Presence) → RawPresence p → LedAlike p
-unfolding leafHash innerHash leadsTo
-led-alike p h = record { led = λ root. let e = led-as-ours sha256 (λ y. digest-whole y .0) root p h in (λ t. same-bytes _ root (sym e ∙ t), λ l. e ∙ rw l (bytes-same root)) }
+-- A partner's check is led to a root by an existence proof of a message exactly if our own record of it is.
+pub led-alike : {x m : Bytes} (p : Presence) → Encodes x m (presence p) → (root : Bytes) →
+    (calculated ourSpec sha256 (existenceOf p) ≡ some root) ↔ Leads leafHash innerHash root (sha256 (p .key)) (ownPresence sha256 p)
+unfolding leafHash innerHash
+led-alike p e root = led-as-ours sha256 (λ y. digest-whole y .0) root p (encodes-raw e)

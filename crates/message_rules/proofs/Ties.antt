@@ -18,9 +18,9 @@ use Rattle.sha256.proofs.Digests.{digest-whole}
 use Rattle.proofrecords.specs.ProofBytes.{proofBytes, ProofIs, ProofSaid}
 use Rattle.proofrecords.proofs.Proofs.{one-proof-is}
 use Rattle.messages.specs.Message.{existence, neighbourField, nonexistence, messageBytes, ownProof}
+use Rattle.messages.specs.Raws.{RawProof}
 use Rattle.messages.specs.Wire.{bytesField}
 use Rattle.messages.specs.Parts.{Part, inField, keyPart, valuePart, leafParts, twoLeaves}
-use Rattle.messages.specs.Raws.{RawProof}
 use Rattle.messages.specs.Lending.{Lent, hashesTo, leafFits, lentFits, rawProof, fitted as fittedBytes, writtenFrom, readFrom, LentBytes}
 use Rattle.messages.specs.Spots.{Spot, fieldHead, keySpot, valueSpot, leafSpots, spotsIn}
 use Rattle.messages.proofs.Lending.{hashes-said, lent-said, own-form}

@@ -17,9 +17,9 @@ use Rattle.proofrecords.specs.ProofBytes.{proofBytes, flagsOf, PresenceForm, Ne
 use Rattle.meaning.specs.Calls.{Answer, refused, accepted}
 use Rattle.meaning.specs.Reading.{Verdict}
 use Rattle.meaning.specs.Checking.{checked}
-use Rattle.messages.specs.Message.{messageBytes, ownPresence, ownNeighbour, ownProof}
+use Rattle.messages.specs.Message.{messageBytes, ownPresence, ownProof}
+use Rattle.messages.specs.Raws.{ownNeighbour, RawPresence, RawNeighbour, RawProof}
 use Rattle.messages.specs.Parts.{Raw}
-use Rattle.messages.specs.Raws.{RawPresence, RawNeighbour, RawProof}
 use Rattle.messages.specs.Reading.{lengthRight, messageIn}
 use Rattle.messages.specs.Lending.{Leaf, Lent, rightLeaf, rawPresence, rawNeighbour, rawProof, unlent, hashesTo, leafFits, leavesFit, lentFits, fitted, writtenFrom, recordOf, readFrom, read, LentBytes, noLeaf, leafOf, leavesOf, lentIn}
 use Rattle.messages.proofs.Back.{length-right, right-length, message-back, message-said}

@@ -14,9 +14,9 @@ use Rattle.terms.specs.Records.{Presence, Absence, Proof, presence, absence}
 use Rattle.terms.proofs.Fields.{all-of-tests}
 use Rattle.terms.proofs.Lists.{all-append}
 use Rattle.proofrecords.specs.ProofBytes.{flagsOf, NeighbourForm, ProofForm}
-use Rattle.messages.specs.Message.{neighbourField, nonexistence, ownPresence, ownNeighbour, ownProof}
+use Rattle.messages.specs.Message.{neighbourField, nonexistence, ownPresence, ownProof}
+use Rattle.messages.specs.Raws.{ownNeighbour, RawPresence, RawNeighbour, RawProof}
 use Rattle.messages.specs.Parts.{Part, Raw, leafParts, askedIn, leavesIn, twoLeaves}
-use Rattle.messages.specs.Raws.{RawPresence, RawNeighbour, RawProof}
 use Rattle.messages.specs.Lending.{Leaf, Lent, rawPresence, rawNeighbour, rightLeaf, rawProof, unlent, hashesTo, leafFits, leavesFit, lentFits, LentBytes, noLeaf, leafOf, leavesOf, lentIn}
 use Rattle.messages.proofs.Wires.{no-bytes}
 use Rattle.messages.proofs.Lending.{hashes-said, hashes-back, leaf-back, lent-back, own-flags}

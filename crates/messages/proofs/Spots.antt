@@ -11,9 +11,9 @@ use Rattle.terms.specs.Records.{Presence, Absence, Proof, presence, absence}
 use Rattle.terms.proofs.Lists.{all-append}
 use Rattle.terms.proofs.Fields.{slice-between}
 use Rattle.messages.specs.Wire.{varint, bytesTag, messageField, bytesField}
-use Rattle.messages.specs.Message.{leafOp, path, existence, neighbourField, nonexistence, messageBytes}
+use Rattle.messages.specs.Message.{existence, neighbourField, nonexistence, messageBytes}
+use Rattle.messages.specs.Raws.{leafOp, path, RawPresence, RawNeighbour, RawProof}
 use Rattle.messages.specs.Parts.{Raw, keyPart, valuePart, leafParts, askedIn, leavesIn, StandsIn}
-use Rattle.messages.specs.Raws.{RawPresence, RawNeighbour, RawProof}
 use Rattle.messages.specs.Spots.{fieldHead}
 use Rattle.messages.proofs.Wires.{bytes-field-is}
 use Rattle.messages.proofs.Back.{existence-is, nonexistence-is}
