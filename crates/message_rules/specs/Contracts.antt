@@ -23,6 +23,7 @@ pub record Encodes (x m : Bytes) (q : Proof) : Type 0 where
   pub raw : All (λ p. Raw (p .most) (p .bytes)) (askedIn q ∷ leavesIn q)
   pub is : messageBytes q ≡ m
 
+-- Our own record of what such a proof says.
 abbrev pub recordOf : Proof → Bytes
 recordOf q = proofBytes (ownProof sha256 q)
 

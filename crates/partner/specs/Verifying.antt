@@ -34,6 +34,7 @@ abbrev pub passes : {A : Type 0} → (A → Bool) → Option A → Bool
 passes test none = false
 passes test (some x) = test x
 
+-- Ops with equal prefixes and suffixes.
 unfoldable pub sameOp : InnerOp → InnerOp → Bool
 sameOp x y = sameBytes (x .prefix) (y .prefix) && sameBytes (x .suffix) (y .suffix)
 
@@ -43,10 +44,10 @@ position [] b = 0
 position (c ∷ order) b = cond (eqb c b) 0 (suc (position order b))
 
 module _ (spec : ProofSpec) where
+  -- How many bytes a child has, and which branch is the last.
   abbrev pub size : ℕ
   size = spec .childSize
 
-  -- The last branch, which is as many as there are others.
   abbrev pub last : ℕ
   last = length (spec .childOrder) - 1
 
