@@ -1,7 +1,8 @@
--- ICS 23: what a verifier is told of a kind of proofs, its ProofSpec; ExistenceProof.Verify and NonExistenceProof.Verify
--- for any ProofSpec, in the order of its specification. Of hash operations it knows SHA-256 alone and of length
--- operations NO_PREFIX: a proof with another is refused wherever the ProofSpec asks for these. Where the published
--- programs would read beyond the end of a path (IsLeftNeighbor on a path used up), this refuses. Assumes nothing.
+-- ICS 23: what a verifier is told of a kind of proofs, its ProofSpec; ExistenceProof.Verify and
+-- NonExistenceProof.Verify for any ProofSpec, in the order of its specification. Of hash operations it knows SHA-256
+-- alone and of length operations NO_PREFIX: a proof with another is refused wherever the ProofSpec asks for these.
+-- Where the published programs would read beyond the end of a path (IsLeftNeighbor on a path used up), this refuses.
+-- Assumes nothing.
 use Prim.Native.Nat.{ℕ, zero, suc, _+_, _*_, _-_, _%_}
 use mathlib.Core.Bool.{Bool, true, false, cond, not, _&&_, _||_}
 use mathlib.Core.List.{List, [], _∷_, _++_, map, reverse}
@@ -122,7 +123,7 @@ module _ (spec : ProofSpec) where
   isRightMost path = allOf (map (λ op. hasPadding op last || passes (rightEmpty op) (branchOf op)) path)
 
   -- IsLeftNeighbor, from the tops, which are the last ops: equal ones are taken off; of the two that remain on top the
-  -- right one's branch is next to the left one's, and below them the left path is rightmost and the right path leftmost.
+  -- right one's branch is the next, and below them the left path is rightmost and the right path leftmost.
   abbrev pub neighboursFromTop : List InnerOp → List InnerOp → Bool
   neighboursFromTop [] ys = false
   neighboursFromTop (x ∷ xs) [] = false
@@ -164,7 +165,8 @@ module _ (spec : ProofSpec) where
     -- ExistenceProof.Verify of a key with a value.
     unfoldable pub existenceHolds : Bytes → Existence → Bytes → Bytes → Bool
     existenceHolds root e k v =
-        allOf (fits e ∷ sameBytes k (e .key) ∷ sameBytes v (e .value) ∷ passes (λ r. sameBytes r root) (calculated e) ∷ [])
+        let led = passes (λ r. sameBytes r root) (calculated e) in
+        allOf (fits e ∷ sameBytes k (e .key) ∷ sameBytes v (e .value) ∷ led ∷ [])
 
     -- Keys are compared after hashing where the ProofSpec says so.
     unfoldable pub forComparison : Bytes → Bytes
