@@ -1,9 +1,9 @@
 // The public calls, for C, Rust and others to link. Each answers 0 where it is accepted, else document 01's number of refusal; a refused
 // call writes nothing, its answer included. A slice is passed as a pointer and a length, an array as a pointer alone.
 use terms::Form;
+ghost use mathlib.Core.List.{[], _∷_};
 ghost use mathlib.Core.Option.{some};
 ghost use Rattle.contracts.specs.Contracts.{Formats, Checks, Indexes, TellsIndex, FormatsIndexed, AppliesIndexed, PrunesIndexed, Applies, Prunes, ReadsRoot, ReadsKey, Counts, ReadsAt, Proves, Palettes, ReadsRootBy, ReadsKeyBy, CountsBy, ReadsAtBy, ProvesBy, PalettesBy, Changes, Rescues, MovesOver, MovesBack, Finds, Figures, PocketProves, Verifies, PocketVerifies, ShelfVerifies, VerifiesMany, WritesMessage, ReadsMessage, TellsVersion, Hashes};
-ghost use Rattle.message_rules.specs.Contracts.{lentOf};
 
 // Makes a fresh store of any bytes of the right length.
 #[no_mangle]
@@ -397,7 +397,7 @@ pub extern "C" fn grants_ics23_write(
     room: &mut [u8],
     length: &mut [u8; 4],
 ) -> u32
-    ensures { λ r. ⌜ WritesMessage (now (proof .entry)) (lentOf (now (asked .entry)) (now (key1 .entry)) (now (value1 .entry)) (now (key2 .entry)) (now (value2 .entry))) (now (room .entry)) (now (length .entry)) r (now (room .exit)) (now (length .exit)) ⌝ }
+    ensures { λ r. ⌜ WritesMessage (now (proof .entry)) (now (asked .entry)) (now (key1 .entry) ∷ now (value1 .entry) ∷ now (key2 .entry) ∷ now (value2 .entry) ∷ []) (now (room .entry)) (now (length .entry)) r (now (room .exit)) (now (length .exit)) ⌝ }
 {
     message_c::written_out(proof, asked, key1, value1, key2, value2, room, length)
 }

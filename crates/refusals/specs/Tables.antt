@@ -32,10 +32,8 @@ use Rattle.rescue_bytes.specs.Rescues.{NoRun}
 use Rattle.quarter.specs.Figures.{figuresSize, mostVersions}
 use Rattle.pocket.specs.Pocket.{Outside}
 use Rattle.nodehash.specs.Node.{leafHash, innerHash}
-use Rattle.sha256.specs.Sha256.{sha256}
 use Rattle.messages.specs.Message.{messageBytes}
-use Rattle.messages.specs.Lending.{Lent, lentFits, rawProof, recordOf}
-use Rattle.message_rules.specs.Contracts.{Encodes}
+use Rattle.message_rules.specs.Contracts.{Encodes, recordOf, Lends}
 use Rattle.proofrecords.specs.ProofBytes.{ProofIs}
 use Rattle.layout.specs.Sizes.{headerSize, headerKind, mostSlots, kindAt, capacityAt, oldestAt, latestAt, slotSize}
 use Rattle.layout.specs.Stores.{storeIn, storeOf}
@@ -162,20 +160,21 @@ changesRows s first second limit room =
     (9, length room < itemSize * length (items (changesOf (storeOf s) first second))) ∷ []
 
 -- Document 02, 2026-02: 'Writing tests 10, 15, 9, reading 10, 9.'
-abbrev pub writeMessageRows : Bytes → Lent → Bytes → Table
-writeMessageRows x lent room =
+abbrev pub writeMessageRows : Bytes → Bytes → List Bytes → Bytes → Table
+writeMessageRows x asked leaves room =
     (10, ProofOffForm x) ∷
-    -- a raw key or value has another length or doesn't hash to what the proof holds, or a leaf too many is lent
-    (15, (p : Proof) × ProofIs x p × (lentFits sha256 lent p ≡ true → ⊥)) ∷
+    -- what is lent makes no message: a raw key or value has another length or doesn't hash to what the proof holds, or
+    -- a leaf too many is lent
+    (15, (p : Proof) × ProofIs x p × ((q : Proof) → Lends x asked leaves q → ⊥)) ∷
     -- the message is longer than the room
-    (9, (p : Proof) × ProofIs x p × (length room < length (messageBytes (rawProof lent p)))) ∷ []
+    (9, (q : Proof) × Lends x asked leaves q × (length room < length (messageBytes q))) ∷ []
 
 abbrev pub readMessageRows : Bytes → Bytes → Table
 readMessageRows m room =
     -- the bytes are the message of no proof
-    (10, (q : Proof) → Encodes m q → ⊥) ∷
+    (10, (q : Proof) → Encodes (recordOf q) m q → ⊥) ∷
     -- our own record of what it says is longer than the room
-    (9, (q : Proof) × Encodes m q × (length room < length (recordOf sha256 q))) ∷ []
+    (9, (q : Proof) × Encodes (recordOf q) m q × (length room < length (recordOf q))) ∷ []
 
 -- 12 of a palette (document 02, 2026-04): the list isn't 0 to 256 whole keys.
 abbrev pub NotKeys : Bytes → Type 0
