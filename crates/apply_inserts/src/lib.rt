@@ -1,7 +1,7 @@
 // What grows at a place, document 01: the inserts of a run, and the leaf if it stays.
 use batch::grant;
-use batch_form::is_insert;
 use batch::record_count;
+use batch_form::is_insert;
 use hash::Hash;
 use hash::hash_at;
 use hash::put_hash;
