@@ -23,8 +23,7 @@ unfoldable pub keyAnswer : Bytes → Option (List ℕ) → ℕ → Bytes → Ans
 keyAnswer s by v k =
     cond (eqb (length k) 32) (byHeader (headerFor s by) (readKeyBy (lookingIn s by) (storeOf s) v k)) (refused 12)
 
--- Reading the root of version v of the bytes s, by scans or by a table, answers r; the array f for the root is left as
--- g.
+-- Reading the root of version v of the bytes s, by scans or by a table, answers r; the array f for it is left as g.
 pub record ReadsRootBy (s : Bytes) (by : Option (List ℕ)) (v : ℕ) (f : Bytes) (r : ℕ) (g : Bytes) : Type 0 where
   pub exported : Exported (rootAnswer s by v) (λ root. root) f r g
 

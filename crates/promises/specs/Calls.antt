@@ -1,5 +1,4 @@
--- Document 01, 'Numbers of refusal': what a call that tests soundness answers for any bytes, and the bytes it leaves.
--- Order: 1, 2; then 3; then the call's own, as the definition says them of a sound store. Assumes nothing.
+-- Document 01, 'Numbers of refusal': a call that tests soundness, over any bytes: 1, 2, 3, its own. Assumes nothing.
 use Prim.Native.Nat.{ℕ}
 use mathlib.Core.Path.{_≡_}
 use Rattle.terms.specs.declared.Form.the-variants.{Counted as counted}

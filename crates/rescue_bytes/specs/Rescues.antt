@@ -1,6 +1,5 @@
 -- Document 02, request 2026-08: what a rescue answers for any bytes of a source and of a target, and what it leaves of
--- the target. 'A size that is wrong or not equal gives 1, then oldest above latest 2. No version: 3.' Of the source its
--- slots alone are looked at. Assumes nothing.
+-- the target. Of the source its slots alone are looked at. Assumes nothing.
 use Prim.Native.Nat.{ℕ, _+_, _≤_, _<_}
 use mathlib.Core.Path.{_≡_}
 use mathlib.Core.Bool.{true}
