@@ -37,7 +37,7 @@ use Rattle.verify_rows.specs.Rows.{RootAndKeys, ToldOfRow, not-whole, not-piece
 use Rattle.forgery.specs.Finding.{Finding}
 use Rattle.contracts.specs.Finds.{Answers, wrong-key, wrong-store, sound-store}
 use Rattle.ways.specs.Ways as met
-use Rattle.ways.specs.Ways.{lost, Met, stop, AtRoot, RootStopped, KeyStopped, ProofStopped}
+use Rattle.ways.specs.Ways.{stoppedBy, Met, stop, AtRoot, RootStopped, KeyStopped, ProofStopped}
 use Rattle.ways.specs.Positions.{PositionStopped}
 use Rattle.refusals.specs.Exactly.{Table, Exactly, NoneOf, low, Names}
 use Rattle.refusals.specs.Tables.{Not32, NotKeys, StopsPalette, TooLong, formatRows, headerRows, soundRows, applyRows, pruneRows, testsOf, rootRows, getRows, atRows, proveRows, paletteRows, changesRows, verifyRows, verifyManyRows, rescueRows, moveRows, findingRows}
@@ -122,9 +122,9 @@ key-stopped {early = early} {later = later} {stops = stops} k a w = go (eqb (len
 
 -- No root's lookup is stopped by a lost record.
 pub never-lost : (s : Bytes) (v : ℕ) → RootStopped (storeOf s) v lostRecord → ⊥
-never-lost s v w = go (stop (lost lostRecord)) w refl
+never-lost s v w = go (stop (stoppedBy lostRecord)) w refl
   where
-    go : (m : Met) → AtRoot (storeOf s) v m → m ≡ stop (lost lostRecord) → ⊥
+    go : (m : Met) → AtRoot (storeOf s) v m → m ≡ stop (stoppedBy lostRecord) → ⊥
     go m (met.first e) f = let z : _≡_ {A = ℕ} 0 1 = cc in omega arith
     go m (met.second e n) f = let z : _≡_ {A = ℕ} 0 1 = cc in omega arith
     go m (met.third e n) f = let z : _≡_ {A = ℕ} 0 1 = cc in omega arith

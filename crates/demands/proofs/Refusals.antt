@@ -16,8 +16,8 @@ use Rattle.terms.specs.Records.{Ask, Proof, Store}
 use Rattle.terms.proofs.Tests.{and-right}
 use Rattle.meaning.specs.Calls.{Answer, refused, accepted, Result, isKept, apply, prune}
 use Rattle.meaning.specs.Sight.{scan}
-use Rattle.meaning.specs.Reading.{Trouble, lostRecord, spoiltRecord, strayLeaf, beside, refusalOf, End, broken, atLeaf, atGap, walk, seen}
-use Rattle.meaning.specs.Proving.{Sought, lostWay, nobody, somebody, neighbour, absenceFrom, absenceAt, proveEnd, proveSeen, proof, proofLength, fitted, prove}
+use Rattle.meaning.specs.Reading.{Trouble, lostRecord, spoiltRecord, strayLeaf, beside, refusalOf, End, walkStopped, atLeaf, atGap, walk, seen}
+use Rattle.meaning.specs.Proving.{Sought, searchStopped, nobody, somebody, neighbour, absenceFrom, absenceAt, proveEnd, proveSeen, proof, proofLength, fitted, prove}
 use Rattle.meaning.proofs.Empty.{proof-by-searches}
 use Rattle.histories.specs.Claims.{ApplyRefuses, not-in-form, not-ascending, not-above-latest, no-room}
 use Rattle.histories.proofs.Theorems.{apply-refuses-exactly, prune-refuses-exactly}
@@ -168,17 +168,17 @@ refused-nonzero : (m : ℕ) → (m ≡ 0 → ⊥) → NeverZero (refused m)
 refused-nonzero m h n e z = h (sym (with-number e) ∙ z)
 
 absence-nonzero : (k : Bytes) (x y : Sought) → NeverZero (absenceFrom k x y)
-absence-nonzero k (lostWay t) y n e = refused-nonzero (refusalOf t) (stopped-nonzero t) n e
-absence-nonzero k nobody (lostWay t) n e = refused-nonzero (refusalOf t) (stopped-nonzero t) n e
+absence-nonzero k (searchStopped t) y n e = refused-nonzero (refusalOf t) (stopped-nonzero t) n e
+absence-nonzero k nobody (searchStopped t) n e = refused-nonzero (refusalOf t) (stopped-nonzero t) n e
 absence-nonzero k nobody nobody n e = refused-nonzero 14 (λ z. omega arith) n e
 absence-nonzero k nobody (somebody q) n e = no-refusal e
-absence-nonzero k (somebody p) (lostWay t) n e = refused-nonzero (refusalOf t) (stopped-nonzero t) n e
+absence-nonzero k (somebody p) (searchStopped t) n e = refused-nonzero (refusalOf t) (stopped-nonzero t) n e
 absence-nonzero k (somebody p) nobody n e = no-refusal e
 absence-nonzero k (somebody p) (somebody q) n e = no-refusal e
 
 end-nonzero : (k : Bytes) (e : End) → NeverZero (proveEnd k e)
 unfolding absenceAt
-end-nonzero k (broken t) n h = refused-nonzero (refusalOf t) (stopped-nonzero t) n h
+end-nonzero k (walkStopped t) n h = refused-nonzero (refusalOf t) (stopped-nonzero t) n h
 end-nonzero k (atGap trail) n h = absence-nonzero k (neighbour left k (atGap trail)) (neighbour right k (atGap trail)) n h
 end-nonzero k (atLeaf l x trail) n h = go (sameBytes k l) _ h
   where

@@ -8,7 +8,7 @@ use lib.ListN.{length, getD, set}
 use Rattle.terms.specs.declared.Form.the-variants.{Counted as counted}
 use Rattle.terms.specs.Bits.{Bytes, Side, Place, longer}
 use Rattle.terms.specs.Records.{Step}
-use Rattle.meaning.specs.Reading.{Seen, lost, gap, seenAt, seen, Pass, walk}
+use Rattle.meaning.specs.Reading.{Seen, stoppedBy, gap, seenAt, seen, Pass, walk}
 use Rattle.meaning.specs.Proving.{stepUp, raisedBy, descend, Sought, nobody, sought, fromTrail}
 use Rattle.indexed.specs.Index.{byTable}
 use Rattle.layout.specs.Sizes.{roomOf}
@@ -27,7 +27,7 @@ use Rattle.prove_trails.specs.declared.Walked as declared-walked
 -- What each case of an answer says is seen at a place.
 abbrev pub shownAt : Bytes → List ℕ → Place → declared-seen.Seen → Seen
 shownAt s table p Gap = gap
-shownAt s table p (Stopped t) = lost (troubleSays t)
+shownAt s table p (Stopped t) = stoppedBy (troubleSays t)
 shownAt s table p (Leaf i) = leafAt i s
 shownAt s table p (Inner i) = forkAt i s table p
 

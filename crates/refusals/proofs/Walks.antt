@@ -15,8 +15,8 @@ use Rattle.meaning.specs.Sight.{Sight, matches, nothing, spoilt, rootSight, sca
 use Rattle.meaning.specs.Sound.{Kept}
 use Rattle.meaning.specs.Calls.{Answer, refused, accepted, isKept, refuse, prune}
 use Rattle.meaning.specs.Answers.{numberOf}
-use Rattle.meaning.specs.Reading.{Trouble, spoiltRecord, refusalOf, seen, End, broken, atLeaf, atGap, walk, readEnd, readKey, rootRead, readRoot}
-use Rattle.meaning.specs.Proving.{stepUp, presenceOf, Sought, lostWay, nobody, somebody, neighbour, absenceFrom, absenceAt, proveEnd, proveSeen, proof, proofLength, fitted, prove}
+use Rattle.meaning.specs.Reading.{Trouble, spoiltRecord, refusalOf, seen, End, walkStopped, atLeaf, atGap, walk, readEnd, readKey, rootRead, readRoot}
+use Rattle.meaning.specs.Proving.{stepUp, presenceOf, Sought, searchStopped, nobody, somebody, neighbour, absenceFrom, absenceAt, proveEnd, proveSeen, proof, proofLength, fitted, prove}
 use Rattle.meaning.proofs.Empty.{proof-by-searches}
 use Rattle.shown.proofs.Fourteen.{fourteen-exactly-without-root}
 use Rattle.histories.proofs.Calls.{prune-cases}
@@ -115,7 +115,7 @@ module _ (s : Bytes) (formed : Formed (storeOf s)) (v : ℕ) (k : Bytes) where
   get-stopped = by-kept s v (readEnd k (walk k 0 [] (seen (scan (storeOf s)) v))) (go (walk k 0 [] (seen (scan (storeOf s)) v)) refl)
     where
       go : (e : End) → walk k 0 [] (seen (scan (storeOf s)) v) ≡ e → Stopped [] [] (KeyStopped (storeOf s) v k) (numberOf (readEnd k e))
-      go (broken t) f =
+      go (walkStopped t) f =
           met tt t (key-stopped-exactly (storeOf s) formed v k t .0 f) (λ u p. let g = sym f ∙ key-stopped-exactly (storeOf s) formed v k u .1 p in cc) refl
       go (atLeaf l x trail) f = passed tt (λ t p. let g = sym f ∙ key-stopped-exactly (storeOf s) formed v k t .1 p in clash (cc)) refl
       go (atGap trail) f = passed tt (λ t p. let g = sym f ∙ key-stopped-exactly (storeOf s) formed v k t .1 p in clash (cc)) refl
@@ -125,17 +125,17 @@ module _ (s : Bytes) (formed : Formed (storeOf s)) (v : ℕ) (k : Bytes) where
   By n = ((t : Trouble) × (n ≡ refusalOf t)) ⊎ (n ≡ 14)
 
   absence-refused : (x y : Sought) {n : ℕ} → absenceFrom k x y ≡ refused n → By n
-  absence-refused (lostWay t) y e = inl (t, cc)
-  absence-refused nobody (lostWay t) e = inl (t, cc)
+  absence-refused (searchStopped t) y e = inl (t, cc)
+  absence-refused nobody (searchStopped t) e = inl (t, cc)
   absence-refused nobody nobody e = inr (cc)
   absence-refused nobody (somebody q) e = clash (cc)
-  absence-refused (somebody p) (lostWay t) e = inl (t, cc)
+  absence-refused (somebody p) (searchStopped t) e = inl (t, cc)
   absence-refused (somebody p) nobody e = clash (cc)
   absence-refused (somebody p) (somebody q) e = clash (cc)
 
   end-refused : (e : End) {n : ℕ} → proveEnd k e ≡ refused n → By n
   unfolding absenceAt
-  end-refused (broken t) h = inl (t, cc)
+  end-refused (walkStopped t) h = inl (t, cc)
   end-refused (atGap trail) h = absence-refused (neighbour left k (atGap trail)) (neighbour right k (atGap trail)) h
   end-refused (atLeaf l x trail) {n} h = go (sameBytes k l) h
     where

@@ -16,19 +16,19 @@ use Rattle.meaning.specs.Reading.{leafSeen, seenBody, seenAt}
 use Rattle.meaning.specs.Sight.{scan}
 use Rattle.meaning.specs.Reading.{Trouble, strayLeaf}
 use Rattle.meaning.specs.Reading as reading
-use Rattle.meaning.specs.Proving.{step, isGap, Descended, stuck, reached, raisedBy, descend, Sought, lostWay, sought, turnsAway, fromTrail}
-use Rattle.ways.specs.Ways.{to, Inner, Stop, lost, leaf, missing, Met, stop, found, AtChild, Way, ended, misplaced, at-leaf, onward, TurnedAway, DescentLost}
+use Rattle.meaning.specs.Proving.{step, isGap, Descended, descentStopped, reached, raisedBy, descend, Sought, searchStopped, sought, turnsAway, fromTrail}
+use Rattle.ways.specs.Ways.{to, Inner, Stop, stoppedBy, leaf, missing, Met, stop, found, AtChild, Way, ended, misplaced, at-leaf, onward, TurnedAway, DescentLost}
 use Rattle.ways.proofs.Walking.{Formed, Present, inner, inner-short, child-form, child-above, not-missing, missing-met, at-child, seenMet, child-seen, way-ends, passOf}
 
 module _ (st : Store) (formed : Formed st) where
   -- a gap is seen exactly where there is no child
   gap-by : (n : ℕ) (p : Place) (m : Met) → (m ≡ stop missing → ⊥) → isGap (seenMet st formed n p m) ≡ false
-  gap-by n p (stop (lost t)) h = refl
+  gap-by n p (stop (stoppedBy t)) h = refl
   gap-by n p (stop (leaf k x)) h = refl
   gap-by n p (stop missing) h = absurd (h refl)
   gap-by n p (found r) h = go (r .body) refl
     where
-      leafed : (k x : Bytes) (b : Bool) → isGap (cond b (leafSeen k x) (reading.lost strayLeaf)) ≡ false
+      leafed : (k x : Bytes) (b : Bool) → isGap (cond b (leafSeen k x) (reading.stoppedBy strayLeaf)) ≡ false
       leafed k x true = refl
       leafed k x false = refl
 
@@ -45,13 +45,13 @@ module _ (st : Store) (formed : Formed st) where
 
   -- what a descent finds, by the end of its way
   abbrev DescentSays : Met → Stop → Descended → Type 0
-  DescentSays m (lost t) o = o ≡ stuck t
+  DescentSays m (stoppedBy t) o = o ≡ descentStopped t
   DescentSays m (leaf k x) o = (q : Presence) × (o ≡ reached q)
   DescentSays m missing o = m ≡ stop missing
 
   raise : (m d : Met) (steps : List Step) (end : Stop) (o : Descended) → DescentSays d end o → (d ≡ stop missing → ⊥) →
       DescentSays m end (raisedBy steps o)
-  raise m d steps (lost t) o e h = ap (raisedBy steps) e
+  raise m d steps (stoppedBy t) o e h = ap (raisedBy steps) e
   raise m d steps (leaf k x) o e h = (_, ap (raisedBy steps) (e .1))
   raise m d steps missing o e h = absurd (h e)
 
@@ -68,7 +68,7 @@ module _ (st : Store) (formed : Formed st) where
   descent-is b before p c m passed end ended a n s = go end
     where
       go : (x : Stop) → DescentSays (stop x) x (descend b (seenMet st formed n p (stop x)))
-      go (lost t) = refl
+      go (stoppedBy t) = refl
       go (leaf k x) = (_, refl)
       go missing = refl
   descent-is b before p c m passed end (misplaced k x e f) a n s = rw (e, f)
@@ -98,9 +98,9 @@ module _ (st : Store) (formed : Formed st) where
 
   -- a descent into a present child is stopped exactly if its way is
   abbrev Stuck : Side → Place → Child → Trouble → Type 0
-  Stuck b p c t = (m : Met) × AtChild st p c m × (passed : List Inner) × Way st (to b) [] p m passed (lost t)
+  Stuck b p c t = (m : Met) × AtChild st p c m × (passed : List Inner) × Way st (to b) [] p m passed (stoppedBy t)
 
-  said-stuck : (b : Side) (p : Place) (c : Child) (n : ℕ) (t : Trouble) → length p + n ≡ 256 → Present c → descend b (seenAt n (scan st) p c) ≡ stuck t →
+  said-stuck : (b : Side) (p : Place) (c : Child) (n : ℕ) (t : Trouble) → length p + n ≡ 256 → Present c → descend b (seenAt n (scan st) p c) ≡ descentStopped t →
       Stuck b p c t
   said-stuck b p c n t s h e =
       let (m, a) = at-child st formed p c in
@@ -108,8 +108,8 @@ module _ (st : Store) (formed : Formed st) where
       go m a (w .0) (w .1) (w .2) (descent-is b [] p c m (w .0) (w .1) (w .2) a n s) (ap (descend b) (sym (child-seen st formed n p c m a)) ∙ e)
     where
       go : (m : Met) → AtChild st p c m → (passed : List Inner) (end : Stop) → Way st (to b) [] p m passed end →
-          DescentSays m end (descend b (seenMet st formed n p m)) → descend b (seenMet st formed n p m) ≡ stuck t → Stuck b p c t
-      go m a passed (lost u) w g f = let z = sym g ∙ f in let same : u ≡ t = cc in (m, a, passed, subst (λ d. Way st (to b) [] p m passed (lost d)) same w)
+          DescentSays m end (descend b (seenMet st formed n p m)) → descend b (seenMet st formed n p m) ≡ descentStopped t → Stuck b p c t
+      go m a passed (stoppedBy u) w g f = let z = sym g ∙ f in let same : u ≡ t = cc in (m, a, passed, subst (λ d. Way st (to b) [] p m passed (stoppedBy d)) same w)
       go m a passed (leaf k x) w g f = let i = sym f ∙ g .1 in let z : _≡_ {A = ℕ} 0 1 = cc in absurd (omega arith)
       go m a passed missing w g f = absurd (not-missing st formed p c m a h g)
 
@@ -144,8 +144,8 @@ module _ (st : Store) (formed : Formed st) where
       descend (not b)
       (seenAt (255 - length (i .place)) (scan st) (longer b (i .place)) (childOn b (i .left) (i .right)))
 
-  sought-lost : (steps : List Step) (o : Descended) (t : Trouble) → sought (raisedBy steps o) ≡ lostWay t → o ≡ stuck t
-  sought-lost steps (stuck u) t e = let same : u ≡ t = cc in ap stuck same
+  sought-lost : (steps : List Step) (o : Descended) (t : Trouble) → sought (raisedBy steps o) ≡ searchStopped t → o ≡ descentStopped t
+  sought-lost steps (descentStopped u) t e = let same : u ≡ t = cc in ap descentStopped same
   sought-lost steps (reached q) t e = let z : _≡_ {A = ℕ} 0 1 = cc in absurd (omega arith)
 
   -- the search from a trail
@@ -164,8 +164,8 @@ module _ (st : Store) (formed : Formed st) where
   }
 
   search-by : (b : Side) (k : Bytes) (u : Trouble) (i : Inner) (is : List Inner) (steps : List Step) (rest : Sought) → Short i →
-      (rest ≡ lostWay u → DescentLost st k is b u) → (t : Bool) → turnsAway b (passOf st formed k i) ≡ t →
-      cond t (sought (raisedBy steps (into b i))) rest ≡ lostWay u → DescentLost st k (i ∷ is) b u
+      (rest ≡ searchStopped u → DescentLost st k is b u) → (t : Bool) → turnsAway b (passOf st formed k i) ≡ t →
+      cond t (sought (raisedBy steps (into b i))) rest ≡ searchStopped u → DescentLost st k (i ∷ is) b u
   unfolding into
   search-by b k u i is steps rest s below true e f =
       let g = forked b k i s e in
@@ -176,7 +176,7 @@ module _ (st : Store) (formed : Formed st) where
       deeper-by b k u i is (λ g. absurd (true≢false (sym (forks b k i s g) ∙ e))) (below f)
 
   pub search-said : (b : Side) (k : Bytes) (t : Trouble) (passed : List Inner) → All Short passed →
-      fromTrail b (map (passOf st formed k) passed) ≡ lostWay t → DescentLost st k passed b t
+      fromTrail b (map (passOf st formed k) passed) ≡ searchStopped t → DescentLost st k passed b t
   unfolding into
   search-said b k t [] s e = let z : _≡_ {A = ℕ} 0 1 = cc in absurd (omega arith)
   search-said b k t (i ∷ is) s e =
@@ -184,7 +184,7 @@ module _ (st : Store) (formed : Formed st) where
       (turnsAway b (passOf st formed k i)) refl e
 
   lost-at : (b : Side) (k : Bytes) (t : Trouble) (deeper : List Inner) (i : Inner) (above : List Inner) → All Short (deeper ++ i ∷ above) → TurnedAway b k i →
-      All (λ j. TurnedAway b k j → ⊥) deeper → into b i ≡ stuck t → fromTrail b (map (passOf st formed k) (deeper ++ i ∷ above)) ≡ lostWay t
+      All (λ j. TurnedAway b k j → ⊥) deeper → into b i ≡ descentStopped t → fromTrail b (map (passOf st formed k) (deeper ++ i ∷ above)) ≡ searchStopped t
   unfolding into
   lost-at b k t [] i above s f g e = rw (forks b k i (s .0) f, e)
   lost-at b k t (j ∷ deeper) i above s f g e = rw (passes-by (turnsAway b (passOf st formed k j)) refl) (lost-at b k t deeper i above (s .1) f (g .1) e)
@@ -194,7 +194,7 @@ module _ (st : Store) (formed : Formed st) where
       passes-by false h = h
 
   pub said-search : (b : Side) (k : Bytes) (t : Trouble) (passed : List Inner) → All Short passed → DescentLost st k passed b t →
-      fromTrail b (map (passOf st formed k) passed) ≡ lostWay t
+      fromTrail b (map (passOf st formed k) passed) ≡ searchStopped t
   unfolding into
   said-search b k t passed s w =
       let i = w .at in
@@ -205,7 +205,7 @@ module _ (st : Store) (formed : Formed st) where
       rw (w .passed-are)
       (lost-at b k t (w .deeper) i (w .above) short (w .fork) (w .deepest)
       (ap (descend (not b)) (child-seen st formed n p c (w .met) (w .child))
-      ∙ descent-is (not b) [] p c (w .met) (w .descended) (lost t) (w .stopped) (w .child) n
+      ∙ descent-is (not b) [] p c (w .met) (w .descended) (stoppedBy t) (w .stopped) (w .child) n
       (omega (arith, length-longer b (i .place), short-of (w .deeper) i (w .above) short))))
     where
       short-of : (deeper : List Inner) (i : Inner) (above : List Inner) → All Short (deeper ++ i ∷ above) → Short i

@@ -21,7 +21,7 @@ use Rattle.meaning.specs.Reading.{lostRecord, beside, refusalOf}
 use Rattle.meaning.specs.Counting.{weightBy, weight, numberAt, atBody, atSight, descend, positionAt}
 use Rattle.meaning.proofs.Descent.{kidsAt, child-missing, child-sighted, goes-left, goes-right, leaf-misplaced, leaf-left-over, leaf-there}
 use Rattle.ways.specs.Ways as ways
-use Rattle.ways.specs.Ways.{Stop, lost, leaf, missing, Met, stop, found, AtRoot, AtChild}
+use Rattle.ways.specs.Ways.{Stop, stoppedBy, leaf, missing, Met, stop, found, AtRoot, AtChild}
 use Rattle.ways.specs.Positions as words
 use Rattle.ways.specs.Positions.{Turn, to-left, to-right, Lands, no-child, stopped, not-there, at-leaf, onward, Says, one-leaf, two-counts, Number, Position, not-below}
 use Rattle.ways.proofs.Spoilt.{metBy, node-met, root-meets, root-met}
@@ -57,12 +57,12 @@ turned p r i l m b j below e (to-right h) = goes-right p r l m i below e h
 module _ (st : Store) (formed : Formed st) where
   -- what is answered of what is met, n bits short of a key
   abbrev answered : ℕ → Place → Met → ℕ → Answer Grant
-  answered n p (stop (lost t)) i = refused (refusalOf t)
+  answered n p (stop (stoppedBy t)) i = refused (refusalOf t)
   answered n p (stop (leaf k x)) i = refused 3
   answered n p (stop missing) i = refused 3
   answered n p (found r) i = atBody p (r .body) (r .counts) i (kidsAt (scan st) n p)
 
-  sight-met : (n : ℕ) (p : Place) (x : Sight) (i : ℕ) → atSight p x i (kidsAt (scan st) n p) ≡ answered n p (metBy (lost lostRecord) x) i
+  sight-met : (n : ℕ) (p : Place) (x : Sight) (i : ℕ) → atSight p x i (kidsAt (scan st) n p) ≡ answered n p (metBy (stoppedBy lostRecord) x) i
   sight-met n p (matches r) i = refl
   sight-met n p nothing i = refl
   sight-met n p (sight.spoilt s) i = refl
@@ -72,7 +72,7 @@ module _ (st : Store) (formed : Formed st) where
   child-answers n p c m i (ways.child h w) =
       child-sighted (scan st) n p c i (nodeSight st (c .version) p) h refl
       ∙ sight-met n p (nodeSight st (c .version) p) i
-      ∙ ap (λ x. answered n p x i) (node-met st (c .version) (lost lostRecord) p m w)
+      ∙ ap (λ x. answered n p x i) (node-met st (c .version) (stoppedBy lostRecord) p m w)
 
   lands-is : (n : ℕ) (p : Place) (m : Met) (i : ℕ) (a : Answer Grant) → length p + n ≡ 256 → Above p m → Lands st p m i a → answered n p m i ≡ a
   lands-is n p m i a h s no-child = refl
@@ -88,7 +88,7 @@ module _ (st : Store) (formed : Formed st) where
 
   -- every descent ends; at a leaf a way does
   abbrev NoLeaf : Met → Type 0
-  NoLeaf (stop (lost t)) = Unit {0}
+  NoLeaf (stop (stoppedBy t)) = Unit {0}
   NoLeaf (stop (leaf k x)) = ⊥
   NoLeaf (stop missing) = Unit {0}
   NoLeaf (found r) = Unit {0}
@@ -118,7 +118,7 @@ module _ (st : Store) (formed : Formed st) where
 
   stop-ends : (p : Place) (i : ℕ) (x : Stop) → NoLeaf (stop x) → Ends p (stop x) i
   unfolding Ends
-  stop-ends p i (lost t) h = (refused (refusalOf t), stopped)
+  stop-ends p i (stoppedBy t) h = (refused (refusalOf t), stopped)
   stop-ends p i (leaf k x) h = absurd h
   stop-ends p i missing h = (refused 3, no-child)
 
@@ -142,7 +142,7 @@ module _ (st : Store) (formed : Formed st) where
   module _ (v : ℕ) where
     -- of what is met at the root
     abbrev numberMet : Met → Answer ℕ
-    numberMet (stop (lost t)) = refused (refusalOf t)
+    numberMet (stop (stoppedBy t)) = refused (refusalOf t)
     numberMet (stop (leaf k x)) = accepted 0
     numberMet (stop missing) = accepted 0
     numberMet (found r) = accepted (weight r)
@@ -157,7 +157,7 @@ module _ (st : Store) (formed : Formed st) where
 
     number-is : (a : Answer ℕ) → Number st v a → numberAt (rootSight st v) ≡ a
     number-is a (words.no-root w) = number-met (stop missing) w
-    number-is a (words.root-lost {t = t} w) = number-met (stop (lost t)) w
+    number-is a (words.root-lost {t = t} w) = number-met (stop (stoppedBy t)) w
     number-is a (words.of-root {r = r} {n = n} w s) = number-met (found r) w ∙ ap accepted (says-weight r n s)
 
     number-said : (x : Sight) → AtRoot st v (metBy missing x) → Number st v (numberAt x)
@@ -174,7 +174,7 @@ module _ (st : Store) (formed : Formed st) where
       below r = atBody [] (r .body) (r .counts) i (λ b d j. descend 255 (scan st) (b ∷ []) d j)
 
       abbrev positionMet : Met → Answer Grant
-      positionMet (stop (lost t)) = refused (refusalOf t)
+      positionMet (stop (stoppedBy t)) = refused (refusalOf t)
       positionMet (stop (leaf k x)) = refused 20
       positionMet (stop missing) = refused 20
       positionMet (found r) = cond (ltb i (weight r)) (below r) (refused 20)
@@ -206,7 +206,7 @@ module _ (st : Store) (formed : Formed st) where
           go (sight.spoilt s) e = let z : _≡_ {A = ℕ} 0 1 = cc in absurd (omega arith)
 
       position-is : (a : Answer Grant) → Position st v i a → positionAt (scan st) (rootSight st v) i ≡ a
-      position-is a (words.root-lost {t = t} w) = position-met (stop (lost t)) w
+      position-is a (words.root-lost {t = t} w) = position-met (stop (stoppedBy t)) w
       position-is a (not-below n w l) = past-root n w l
       position-is a (words.from-root {r = r} {n = n} w s l d) = below-root r a w (omega (arith, says-weight r n s)) d
 

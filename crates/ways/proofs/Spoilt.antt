@@ -20,7 +20,7 @@ use Rattle.meaning.specs.Store.{find, rootOf}
 use Rattle.meaning.specs.Sight.{Sight, matches, nothing, spoilt, agrees, livesBy, agreesRoot, lowestSpoilt, sighted, rootSight, nodeSight}
 use Rattle.meaning.proofs.Sights.{Spoilt, none-spoilt, spoilt-in, spoilt-is}
 use Rattle.meaning.specs.Reading.{spoiltRecord}
-use Rattle.ways.specs.Ways.{Agrees, AgreesRoot, SpoiltIn, Stop, lost, missing, Met, stop, found, Meets, first, second, third, AtRoot}
+use Rattle.ways.specs.Ways.{Agrees, AgreesRoot, SpoiltIn, Stop, stoppedBy, missing, Met, stop, found, Meets, first, second, third, AtRoot}
 
 agrees-by : (v : ℕ) (p : Place) (x : Bytes) → (agrees v p x ≡ true) ↔ Agrees v p x
 unfolding agrees allOf
@@ -111,7 +111,7 @@ module _ (st : Store) (test : Bytes → Bool) (agree : Bytes → Type 0) (by : (
 abbrev pub metBy : Stop → Sight → Met
 metBy end (matches r) = found r
 metBy end nothing = stop end
-metBy end (spoilt i) = stop (lost (spoiltRecord i))
+metBy end (spoilt i) = stop (stoppedBy (spoiltRecord i))
 
 meets-of : (st : Store) (test : Bytes → Bool) (agree : Bytes → Type 0) → ((x : Bytes) → (test x ≡ true) ↔ agree x) → (o : Option Record) (end : Stop) →
     Meets st o agree end (metBy end (sighted o (lowestSpoilt test 0 (st .slots))))
@@ -143,7 +143,7 @@ one-met st o agree end m n (second e w) (second f u) = refl
 one-met st o agree end m n (second e w) (third {i = i} f u) = absurd (w i u)
 one-met st o agree end m n (third e w) (first f) = clash f e
 one-met st o agree end m n (third {i = i} e w) (second f u) = absurd (u i w)
-one-met st o agree end m n (third {i = i} e w) (third {i = j} f u) = ap (λ k. stop (lost (spoiltRecord k))) (same-slot st agree i j w u)
+one-met st o agree end m n (third {i = i} e w) (third {i = j} f u) = ap (λ k. stop (stoppedBy (spoiltRecord k))) (same-slot st agree i j w u)
 
 -- of a node, and of a root
 module _ (st : Store) (v : ℕ) (end : Stop) where

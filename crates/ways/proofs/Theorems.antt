@@ -13,10 +13,10 @@ use Rattle.terms.proofs.Tests.{is-false, same-bytes, bytes-same}
 use Rattle.meaning.specs.Store.{rootOf, childOn}
 use Rattle.meaning.specs.Sight.{Sight, matches, nothing, spoilt, rootSight, scan}
 use Rattle.meaning.specs.Calls.{Answer, refused, accepted}
-use Rattle.meaning.specs.Reading.{Trouble, lostRecord, spoiltRecord, strayLeaf, beside, refusalOf, Seen, seen, seenBody, seenRoot, seenAt, End, broken, walk, rootRead}
-use Rattle.meaning.specs.Proving.{stepUp, presenceOf, Sought, lostWay, nobody, somebody, beyond, neighbour, fromTrail, absenceFrom, absenceAt, proveEnd}
+use Rattle.meaning.specs.Reading.{Trouble, lostRecord, spoiltRecord, strayLeaf, beside, refusalOf, Seen, seen, seenBody, seenRoot, seenAt, End, walkStopped, walk, rootRead}
+use Rattle.meaning.specs.Proving.{stepUp, presenceOf, Sought, searchStopped, nobody, somebody, beyond, neighbour, fromTrail, absenceFrom, absenceAt, proveEnd}
 use Rattle.meaning.proofs.Sights.{root-sighted}
-use Rattle.ways.specs.Ways.{byKey, Inner, Stop, lost, leaf, missing, Met, stop, found, AtRoot, AtChild, Way, ended, misplaced, at-leaf, onward, Walk, DescentLost, KeyStopped, SideStopped, ProofStopped, walk-stopped, left-stopped, right-stopped, RootStopped, EmptyVersion}
+use Rattle.ways.specs.Ways.{byKey, Inner, Stop, stoppedBy, leaf, missing, Met, stop, found, AtRoot, AtChild, Way, ended, misplaced, at-leaf, onward, Walk, DescentLost, KeyStopped, SideStopped, ProofStopped, walk-stopped, left-stopped, right-stopped, RootStopped, EmptyVersion}
 use Rattle.ways.proofs.Spoilt.{metBy, root-meets, root-met}
 use Rattle.ways.proofs.Walking.{Formed, inner, Above, inner-short, root-above, child-above, seenMet, root-seen, way-ends, passOf, endOf, walk-is}
 use Rattle.ways.proofs.Descending.{Short, search-said, said-search}
@@ -51,21 +51,21 @@ told t u e = one-trouble t u (cc)
 
 -- an absence is refused by the left search's trouble, else by the right one's
 absence-stopped : (k : Bytes) (x y : Sought) (t : Trouble) → absenceFrom k x y ≡ refused (refusalOf t) →
-    (x ≡ lostWay t) ⊎ (((u : Trouble) → x ≡ lostWay u → ⊥) × (y ≡ lostWay t))
-absence-stopped k (lostWay u) y t e = inl (ap lostWay (told u t e))
-absence-stopped k nobody (lostWay u) t e = inr (λ w f. clash (cc), ap lostWay (told u t e))
+    (x ≡ searchStopped t) ⊎ (((u : Trouble) → x ≡ searchStopped u → ⊥) × (y ≡ searchStopped t))
+absence-stopped k (searchStopped u) y t e = inl (ap searchStopped (told u t e))
+absence-stopped k nobody (searchStopped u) t e = inr (λ w f. clash (cc), ap searchStopped (told u t e))
 absence-stopped k nobody nobody t e = other-number t (cc)
 absence-stopped k nobody (somebody q) t e = clash (cc)
-absence-stopped k (somebody p) (lostWay u) t e = inr (λ w f. clash (cc), ap lostWay (told u t e))
+absence-stopped k (somebody p) (searchStopped u) t e = inr (λ w f. clash (cc), ap searchStopped (told u t e))
 absence-stopped k (somebody p) nobody t e = clash (cc)
 absence-stopped k (somebody p) (somebody q) t e = clash (cc)
 
-stopped-left : (k : Bytes) (x y : Sought) (t : Trouble) → x ≡ lostWay t → absenceFrom k x y ≡ refused (refusalOf t)
+stopped-left : (k : Bytes) (x y : Sought) (t : Trouble) → x ≡ searchStopped t → absenceFrom k x y ≡ refused (refusalOf t)
 stopped-left k x y t e = ap (λ z. absenceFrom k z y) e
 
-stopped-right : (k : Bytes) (x y : Sought) (t : Trouble) → ((u : Trouble) → x ≡ lostWay u → ⊥) → y ≡ lostWay t →
+stopped-right : (k : Bytes) (x y : Sought) (t : Trouble) → ((u : Trouble) → x ≡ searchStopped u → ⊥) → y ≡ searchStopped t →
     absenceFrom k x y ≡ refused (refusalOf t)
-stopped-right k (lostWay u) y t n e = absurd (n u refl)
+stopped-right k (searchStopped u) y t n e = absurd (n u refl)
 stopped-right k nobody y t n e = ap (absenceFrom k nobody) e
 stopped-right k (somebody p) y t n e = ap (absenceFrom k (somebody p)) e
 
@@ -83,14 +83,14 @@ module _ (st : Store) (v : ℕ) where
   -- A root read is stopped exactly if the root is spoilt.
   pub root-stopped-exactly : (leafHash innerHash : Bytes → Bytes → Bytes) (t : Trouble) →
       (rootRead leafHash innerHash (rootSight st v) ≡ refused (refusalOf t)) ↔ RootStopped st v t
-  root-stopped-exactly leafHash innerHash t = (there (rootSight st v) (root-meets st v), λ w. back (rootSight st v) (root-met st v (stop (lost t)) w))
+  root-stopped-exactly leafHash innerHash t = (there (rootSight st v) (root-meets st v), λ w. back (rootSight st v) (root-met st v (stop (stoppedBy t)) w))
     where
       there : (x : Sight) → AtRoot st v (metBy missing x) → rootRead leafHash innerHash x ≡ refused (refusalOf t) → RootStopped st v t
       there (matches r) w e = clash (cc)
       there nothing w e = clash (cc)
       there (spoilt i) w e = subst (RootStopped st v) (told (spoiltRecord i) t e) w
 
-      back : (x : Sight) → metBy missing x ≡ stop (lost t) → rootRead leafHash innerHash x ≡ refused (refusalOf t)
+      back : (x : Sight) → metBy missing x ≡ stop (stoppedBy t) → rootRead leafHash innerHash x ≡ refused (refusalOf t)
       back (matches r) e = clash (cc)
       back nothing e = clash (cc)
       back (spoilt i) e = let same : spoiltRecord i ≡ t = cc in ap (λ u. refused (refusalOf u)) same
@@ -123,25 +123,25 @@ module _ (st : Store) (formed : Formed st) (v : ℕ) (k : Bytes) where
       ap (walk k 0 []) (root-seen st formed v m a) ∙ walk-is st formed k [] [] m passed end w 256 0 refl refl (root-above m)
 
   -- A key read is stopped exactly as the walk is.
-  pub key-stopped-exactly : (t : Trouble) → (walk k 0 [] (seen (scan st) v) ≡ broken t) ↔ KeyStopped st v k t
+  pub key-stopped-exactly : (t : Trouble) → (walk k 0 [] (seen (scan st) v) ≡ walkStopped t) ↔ KeyStopped st v k t
   key-stopped-exactly t =
-      (λ e. let w = walks in go (w .0) (w .1) (w .2) (sym (walk-seen (w .0) (w .1) (w .2)) ∙ e), λ l. walk-seen (l .0) (lost t) (l .1))
+      (λ e. let w = walks in go (w .0) (w .1) (w .2) (sym (walk-seen (w .0) (w .1) (w .2)) ∙ e), λ l. walk-seen (l .0) (stoppedBy t) (l .1))
     where
-      go : (passed : List Inner) (end : Stop) → Walk st v k passed end → endOf st formed k passed end ≡ broken t → KeyStopped st v k t
-      go passed (lost u) w e = let z : u ≡ t = cc in (passed, subst (λ d. Walk st v k passed (lost d)) z w)
+      go : (passed : List Inner) (end : Stop) → Walk st v k passed end → endOf st formed k passed end ≡ walkStopped t → KeyStopped st v k t
+      go passed (stoppedBy u) w e = let z : u ≡ t = cc in (passed, subst (λ d. Walk st v k passed (stoppedBy d)) z w)
       go passed (leaf l x) w e = clash (cc)
       go passed missing w e = clash (cc)
 
   -- the neighbours where the walk ends, neither stopped nor at the key
   abbrev Ended : Stop → Type 0
-  Ended end = (u : Trouble) → end ≡ lost u → ⊥
+  Ended end = (u : Trouble) → end ≡ stoppedBy u → ⊥
 
   abbrev Absent : Stop → Type 0
   Absent end = (x : Bytes) → end ≡ leaf k x → ⊥
 
   side-said : (passed : List Inner) (end : Stop) → Walk st v k passed end → Ended end → Absent end → (b : Side) (t : Trouble) →
-      neighbour b k (endOf st formed k passed end) ≡ lostWay t → SideStopped st k passed end b t
-  side-said passed (lost u) w d n b t e = absurd (d u refl)
+      neighbour b k (endOf st formed k passed end) ≡ searchStopped t → SideStopped st k passed end b t
+  side-said passed (stoppedBy u) w d n b t e = absurd (d u refl)
   side-said passed missing w d n b t e = record {
     ended = d;
     absent = n;
@@ -150,7 +150,7 @@ module _ (st : Store) (formed : Formed st) (v : ℕ) (k : Bytes) where
   }
   side-said passed (leaf l x) w d n b t e = go (beyond b l k) refl e
     where
-      go : (c : Bool) → beyond b l k ≡ c → cond c (somebody (presenceOf l x (map stepUp (map (passOf st formed k) passed)))) (fromTrail b (map (passOf st formed k) passed)) ≡ lostWay t →
+      go : (c : Bool) → beyond b l k ≡ c → cond c (somebody (presenceOf l x (map stepUp (map (passOf st formed k) passed)))) (fromTrail b (map (passOf st formed k) passed)) ≡ searchStopped t →
           SideStopped st k passed (leaf l x) b t
       go true f g = clash (cc)
       go false f g = record {
@@ -161,8 +161,8 @@ module _ (st : Store) (formed : Formed st) (v : ℕ) (k : Bytes) where
       }
 
   said-side : (passed : List Inner) (end : Stop) → Walk st v k passed end → (b : Side) (t : Trouble) → SideStopped st k passed end b t →
-      neighbour b k (endOf st formed k passed end) ≡ lostWay t
-  said-side passed (lost u) w b t n = absurd (n .ended u refl)
+      neighbour b k (endOf st formed k passed end) ≡ searchStopped t
+  said-side passed (stoppedBy u) w b t n = absurd (n .ended u refl)
   said-side passed missing w b t n = said-search st formed b k t passed (walk-short passed missing w) (n .descent)
   said-side passed (leaf l x) w b t n =
       rw (n .other l x refl) (said-search st formed b k t passed (walk-short passed (leaf l x) w) (n .descent))
@@ -173,14 +173,14 @@ module _ (st : Store) (formed : Formed st) (v : ℕ) (k : Bytes) where
   absent-stopped passed end t w d n e =
       let z = endOf st formed k passed end in go (absence-stopped k (neighbour left k z) (neighbour right k z) t e)
     where
-      go : (neighbour left k (endOf st formed k passed end) ≡ lostWay t)
-          ⊎ (((u : Trouble) → neighbour left k (endOf st formed k passed end) ≡ lostWay u → ⊥) × (neighbour right k (endOf st formed k passed end) ≡ lostWay t)) →
+      go : (neighbour left k (endOf st formed k passed end) ≡ searchStopped t)
+          ⊎ (((u : Trouble) → neighbour left k (endOf st formed k passed end) ≡ searchStopped u → ⊥) × (neighbour right k (endOf st formed k passed end) ≡ searchStopped t)) →
           ProofStopped st v k t
       go (inl f) = left-stopped w (side-said passed end w d n left t f)
       go (inr (f, g)) = right-stopped w (λ u s. f u (said-side passed end w left u s)) (side-said passed end w d n right t g)
 
   end-stopped : (passed : List Inner) (end : Stop) (t : Trouble) → Walk st v k passed end → proveEnd k (endOf st formed k passed end) ≡ refused (refusalOf t) → ProofStopped st v k t
-  end-stopped passed (lost u) t w e = walk-stopped (passed, subst (λ d. Walk st v k passed (lost d)) (told u t e) w)
+  end-stopped passed (stoppedBy u) t w e = walk-stopped (passed, subst (λ d. Walk st v k passed (stoppedBy d)) (told u t e) w)
   end-stopped passed missing t w e = absent-stopped passed missing t w (λ u z. clash (cc)) (λ x z. clash (cc)) e
   end-stopped passed (leaf l x) t w e = go (sameBytes k l) refl e
     where
@@ -195,7 +195,7 @@ module _ (st : Store) (formed : Formed st) (v : ℕ) (k : Bytes) where
   -- and back
   absent-back : (passed : List Inner) (end : Stop) (t : Trouble) → Ended end → Absent end →
       absenceAt k (endOf st formed k passed end) ≡ refused (refusalOf t) → proveEnd k (endOf st formed k passed end) ≡ refused (refusalOf t)
-  absent-back passed (lost u) t d n e = absurd (d u refl)
+  absent-back passed (stoppedBy u) t d n e = absurd (d u refl)
   absent-back passed missing t d n e = e
   absent-back passed (leaf l x) t d n e = rw (is-false (sameBytes k l) (λ h. n x (ap (λ m. leaf m x) (sym (same-bytes k l h))))) e
 
@@ -210,7 +210,7 @@ module _ (st : Store) (formed : Formed st) (v : ℕ) (k : Bytes) where
           end-stopped (w .0) (w .1) t (w .2) (ap (proveEnd k) (sym (walk-seen (w .0) (w .1) (w .2))) ∙ e)
 
       back : ProofStopped st v k t → proveEnd k (walk k 0 [] (seen (scan st) v)) ≡ refused (refusalOf t)
-      back (walk-stopped l) = ap (proveEnd k) (walk-seen (l .0) (lost t) (l .1))
+      back (walk-stopped l) = ap (proveEnd k) (walk-seen (l .0) (stoppedBy t) (l .1))
       back (left-stopped {passed} {end} w s) =
           let z = endOf st formed k passed end in
           ap (proveEnd k) (walk-seen passed end w)

@@ -15,13 +15,13 @@ use Rattle.terms.specs.Form.{RecordForm, placeLimit}
 use Rattle.terms.proofs.Places.{length-longer}
 use Rattle.meaning.specs.Store.{find, childOn}
 use Rattle.meaning.specs.Sound.{At}
-use Rattle.meaning.specs.Reading.{Seen, gap, leafSeen, fork, seenBody, seenChild, seenRoot, seenAt, seen, Pass, End, broken, atLeaf, atGap, walk}
+use Rattle.meaning.specs.Reading.{Seen, gap, leafSeen, fork, seenBody, seenChild, seenRoot, seenAt, seen, Pass, End, walkStopped, atLeaf, atGap, walk}
 use Rattle.meaning.specs.Sight.{Sight, matches, nothing, spoilt, nodeSight, rootSight, scan}
 use Rattle.meaning.specs.Reading.{lostRecord, spoiltRecord, strayLeaf}
 use Rattle.meaning.specs.Reading as reading
 use Rattle.meaning.proofs.Finding.{found-at}
 use Rattle.ways.proofs.Spoilt.{metBy, node-meets, node-met, root-met}
-use Rattle.ways.specs.Ways.{byKey, Inner, Stop, lost, leaf, missing, Met, stop, found, first, second, third, AtRoot, AtChild, no-child, child, Way, ended, misplaced, at-leaf, onward}
+use Rattle.ways.specs.Ways.{byKey, Inner, Stop, stoppedBy, leaf, missing, Met, stop, found, first, second, third, AtRoot, AtChild, no-child, child, Way, ended, misplaced, at-leaf, onward}
 
 -- records are in form, as those of every store read from bytes are
 abbrev pub Formed : Store → Type 0
@@ -85,15 +85,15 @@ module _ (st : Store) (formed : Formed st) where
     where
       go : (b : Bool) → eqb (c .version) 0 ≡ b → (m : Met) × AtChild st p c m
       go true e = (stop missing, no-child (eqb-true (c .version) 0 e))
-      go false e = (metBy (lost lostRecord) (nodeSight st (c .version) p), child (eqb-false (c .version) 0 e) (node-meets st (c .version) (lost lostRecord) p))
+      go false e = (metBy (stoppedBy lostRecord) (nodeSight st (c .version) p), child (eqb-false (c .version) 0 e) (node-meets st (c .version) (stoppedBy lostRecord) p))
 
   -- what is seen of what is met, n bits short of a key
   abbrev kidsAt : ℕ → Place → Side → Child → Seen
-  kidsAt zero p = λ b d. reading.lost lostRecord
+  kidsAt zero p = λ b d. reading.stoppedBy lostRecord
   kidsAt (suc n) p = λ b d. seenAt n (scan st) (longer b p) d
 
   abbrev pub seenMet : ℕ → Place → Met → Seen
-  seenMet n p (stop (lost t)) = reading.lost t
+  seenMet n p (stop (stoppedBy t)) = reading.stoppedBy t
   seenMet n p (stop (leaf k x)) = leafSeen k x
   seenMet n p (stop missing) = gap
   seenMet n p (found r) = seenBody p (r .body) (kidsAt n p)
@@ -102,7 +102,7 @@ module _ (st : Store) (formed : Formed st) where
   seen-is zero p c = refl
   seen-is (suc n) p c = refl
 
-  sight-met : (n : ℕ) (p : Place) (x : Sight) → seenChild p x (kidsAt n p) ≡ seenMet n p (metBy (lost lostRecord) x)
+  sight-met : (n : ℕ) (p : Place) (x : Sight) → seenChild p x (kidsAt n p) ≡ seenMet n p (metBy (stoppedBy lostRecord) x)
   sight-met n p (matches r) = refl
   sight-met n p nothing = refl
   sight-met n p (spoilt i) = refl
@@ -111,7 +111,7 @@ module _ (st : Store) (formed : Formed st) where
   child-seen n p c m (no-child e) = seen-is n p c ∙ rw (eq-eqb (c .version) 0 e)
   child-seen n p c m (child h w) =
       seen-is n p c ∙ rw (ne-eqb (c .version) 0 h)
-      (sight-met n p (nodeSight st (c .version) p) ∙ ap (seenMet n p) (node-met st (c .version) (lost lostRecord) p m w))
+      (sight-met n p (nodeSight st (c .version) p) ∙ ap (seenMet n p) (node-met st (c .version) (stoppedBy lostRecord) p m w))
 
   pub root-seen : (v : ℕ) (m : Met) → AtRoot st v m → seen (scan st) v ≡ seenMet 256 [] m
   unfolding seen longer
@@ -132,7 +132,7 @@ module _ (st : Store) (formed : Formed st) where
     where
       at-begins : (k x : Bytes) → r .body ≡ leafBody k x → (b : Bool) → begins p k ≡ b → Ends rule before p (found r)
       at-begins k x e true f = (before, leaf k x, at-leaf k x e f)
-      at-begins k x e false f = (before, lost strayLeaf, misplaced k x e f)
+      at-begins k x e false f = (before, stoppedBy strayLeaf, misplaced k x e f)
 
       by-body : (b : Body) → r .body ≡ b → Ends rule before p (found r)
       by-body (leafBody k x) e = at-begins k x e (begins p k) refl
@@ -159,13 +159,13 @@ module _ (st : Store) (formed : Formed st) where
   }
 
   abbrev pub endOf : Bytes → List Inner → Stop → End
-  endOf k passed (lost t) = broken t
+  endOf k passed (stoppedBy t) = walkStopped t
   endOf k passed (leaf l x) = atLeaf l x (map (passOf k) passed)
   endOf k passed missing = atGap (map (passOf k) passed)
 
   -- the walk ends as the way says
   stop-is : (k : Bytes) (before : List Inner) (n : ℕ) (p : Place) (i : ℕ) (x : Stop) → walk k i (map (passOf k) before) (seenMet n p (stop x)) ≡ endOf k before x
-  stop-is k before n p i (lost t) = refl
+  stop-is k before n p i (stoppedBy t) = refl
   stop-is k before n p i (leaf l x) = refl
   stop-is k before n p i missing = refl
 

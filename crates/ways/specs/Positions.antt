@@ -11,7 +11,7 @@ use Rattle.terms.specs.Records.{Grant, grant, Child, leafBody, innerBody, Recor
 use Rattle.meaning.specs.Store.{childOn}
 use Rattle.meaning.specs.Calls.{Answer, refused, accepted}
 use Rattle.meaning.specs.Reading.{Trouble, refusalOf}
-use Rattle.ways.specs.Ways.{lost, missing, Met, stop, found, AtRoot, AtChild}
+use Rattle.ways.specs.Ways.{stoppedBy, missing, Met, stop, found, AtRoot, AtChild}
 
 -- By a record's counts position i goes to side b, and is position j there.
 pub data Turn (r : Record) (i : ℕ) : Side → ℕ → Type 0 where
@@ -21,7 +21,7 @@ pub data Turn (r : Record) (i : ℕ) : Side → ℕ → Type 0 where
 -- The descent from what is met at the place p, with position i, ends so.
 pub data Lands (st : Store) : Place → Met → ℕ → Answer Grant → Type 0 where
   no-child : {p : Place} {i : ℕ} → Lands st p (stop missing) i (refused 3)
-  stopped : {p : Place} {i : ℕ} {t : Trouble} → Lands st p (stop (lost t)) i (refused (refusalOf t))
+  stopped : {p : Place} {i : ℕ} {t : Trouble} → Lands st p (stop (stoppedBy t)) i (refused (refusalOf t))
   -- a leaf whose key doesn't begin with its place, or with a position left over
   not-there : {p : Place} {r : Record} {i : ℕ} (k x : Bytes) → r .body ≡ leafBody k x →
       (begins p k ≡ false) ⊎ (1 ≤ i) → Lands st p (found r) i (refused 3)
@@ -41,12 +41,12 @@ pub data Says (r : Record) : ℕ → Type 0 where
 -- The number of a kept version.
 pub data Number (st : Store) (v : ℕ) : Answer ℕ → Type 0 where
   no-root : AtRoot st v (stop missing) → Number st v (accepted 0)
-  root-lost : {t : Trouble} → AtRoot st v (stop (lost t)) → Number st v (refused (refusalOf t))
+  root-lost : {t : Trouble} → AtRoot st v (stop (stoppedBy t)) → Number st v (refused (refusalOf t))
   of-root : {r : Record} {n : ℕ} → AtRoot st v (found r) → Says r n → Number st v (accepted n)
 
 -- The grant at position i of a kept version.
 pub data Position (st : Store) (v i : ℕ) : Answer Grant → Type 0 where
-  root-lost : {t : Trouble} → AtRoot st v (stop (lost t)) → Position st v i (refused (refusalOf t))
+  root-lost : {t : Trouble} → AtRoot st v (stop (stoppedBy t)) → Position st v i (refused (refusalOf t))
   not-below : (n : ℕ) → Number st v (accepted n) → n ≤ i → Position st v i (refused 20)
   from-root : {r : Record} {n : ℕ} {a : Answer Grant} → AtRoot st v (found r) → Says r n → i < n →
       Lands st [] (found r) i a → Position st v i a

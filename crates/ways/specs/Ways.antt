@@ -37,7 +37,7 @@ pub record SpoiltIn (st : Store) (agree : Bytes → Type 0) (i : ℕ) : Type 0 w
 
 -- How a way ends: stopped, at a leaf with this key and value, or at a missing child.
 pub data Stop : Type 0 where
-  lost : Trouble → Stop
+  stoppedBy : Trouble → Stop
   leaf : Bytes → Bytes → Stop
   missing : Stop
 
@@ -51,7 +51,7 @@ pub data Met : Type 0 where
 pub data Meets (st : Store) (match : Option Record) (agree : Bytes → Type 0) (end : Stop) : Met → Type 0 where
   first : {r : Record} → match ≡ some r → Meets st match agree end (found r)
   second : match ≡ none → ((i : ℕ) → SpoiltIn st agree i → ⊥) → Meets st match agree end (stop end)
-  third : {i : ℕ} → match ≡ none → SpoiltIn st agree i → Meets st match agree end (stop (lost (spoiltRecord i)))
+  third : {i : ℕ} → match ≡ none → SpoiltIn st agree i → Meets st match agree end (stop (stoppedBy (spoiltRecord i)))
 
 -- What is met at the root of version v. No root found means an empty version, unless one is spoilt.
 abbrev pub AtRoot : Store → ℕ → Met → Type 0
@@ -61,7 +61,7 @@ AtRoot st v m = Meets st (rootOf st v) (AgreesRoot v) missing m
 pub data AtChild (st : Store) (p : Place) (c : Child) : Met → Type 0 where
   no-child : c .version ≡ 0 → AtChild st p c (stop missing)
   child : {m : Met} → (c .version ≡ 0 → ⊥) →
-      Meets st (find (c .version) p (st .slots)) (Agrees (c .version) p) (lost lostRecord) m → AtChild st p c m
+      Meets st (find (c .version) p (st .slots)) (Agrees (c .version) p) (stoppedBy lostRecord) m → AtChild st p c m
 
 -- Which way to go below an inner record, by its place and its children: the walk follows the key's bits.
 abbrev pub byKey : Bytes → Place → Child → Child → Side
@@ -84,7 +84,7 @@ pub data Way (st : Store) (rule : Place → Child → Child → Side) :
   ended : {before : List Inner} {p : Place} {end : Stop} → Way st rule before p (stop end) before end
   -- a found leaf whose key doesn't begin with its place
   misplaced : {before : List Inner} {p : Place} {r : Record} (k x : Bytes) → r .body ≡ leafBody k x →
-      begins p k ≡ false → Way st rule before p (found r) before (lost strayLeaf)
+      begins p k ≡ false → Way st rule before p (found r) before (stoppedBy strayLeaf)
   -- a found leaf whose key does
   at-leaf : {before : List Inner} {p : Place} {r : Record} (k x : Bytes) → r .body ≡ leafBody k x →
       begins p k ≡ true → Way st rule before p (found r) before (leaf k x)
@@ -116,24 +116,24 @@ pub record DescentLost (st : Store) (k : Bytes) (passed : List Inner) (b : Side)
   pub met : Met
   pub child : AtChild st (longer b (at .place)) (childOn b (at .left) (at .right)) met
   pub descended : List Inner
-  pub stopped : Way st (to (not b)) [] (longer b (at .place)) met descended (lost t)
+  pub stopped : Way st (to (not b)) [] (longer b (at .place)) met descended (stoppedBy t)
 
 -- Where the walk ends, neither stopped nor at a leaf with the key, the descent to the neighbour on side b is stopped by
 -- t; there is none where the leaf at the end is that neighbour.
 pub record SideStopped (st : Store) (k : Bytes) (passed : List Inner) (end : Stop) (b : Side) (t : Trouble) :
     Type 0 where
-  pub ended : (u : Trouble) → end ≡ lost u → ⊥
+  pub ended : (u : Trouble) → end ≡ stoppedBy u → ⊥
   pub absent : (x : Bytes) → end ≡ leaf k x → ⊥
   pub other : (l x : Bytes) → end ≡ leaf l x → beyond b l k ≡ false
   pub descent : DescentLost st k passed b t
 
 -- A root read is stopped by t: the root's lookup is.
 abbrev pub RootStopped : Store → ℕ → Trouble → Type 0
-RootStopped st v t = AtRoot st v (stop (lost t))
+RootStopped st v t = AtRoot st v (stop (stoppedBy t))
 
 -- A key read is stopped by t: the walk is.
 abbrev pub KeyStopped : Store → ℕ → Bytes → Trouble → Type 0
-KeyStopped st v k t = (passed : List Inner) × Walk st v k passed (lost t)
+KeyStopped st v k t = (passed : List Inner) × Walk st v k passed (stoppedBy t)
 
 -- Proving is stopped by t, the first that is met: the walk's; else, if it doesn't end at the key, the left descent's;
 -- else the right one's.
