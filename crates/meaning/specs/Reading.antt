@@ -46,7 +46,8 @@ seenChild p (spoilt i) kid = stoppedBy (spoiltRecord i)
 -- At a child, at a place which is n bits short of a key. Below the place of a whole key, which no inner record in form
 -- has, all is lost.
 abbrev pub seenAt : ℕ → Looking → Place → Child → Seen
-seenAt zero look p c = cond (eqb (c .version) 0) gap (seenChild p (look .node (c .version) p) (λ b d. stoppedBy lostRecord))
+seenAt zero look p c =
+    cond (eqb (c .version) 0) gap (seenChild p (look .node (c .version) p) (λ b d. stoppedBy lostRecord))
 seenAt (suc n) look p c =
     cond (eqb (c .version) 0) gap (seenChild p (look .node (c .version) p) (λ b d. seenAt n look (longer b p) d))
 
