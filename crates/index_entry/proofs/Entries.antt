@@ -18,8 +18,7 @@ use Rattle.layout.specs.Stores.{slotIn, slotNo, Has}
 use Rattle.store.proofs.Slots.{slot-long, slot-bytes, slot-within, slot-is}
 use Rattle.lookup.specs.Lookup.{isUsed}
 use Rattle.lifetime.specs.Lifetime.{covers}
-use Rattle.lookup.proofs.Matching.{version-is, retired-is, count-is}
-use Rattle.lookup_root.proofs.Rooting.{no-bits}
+use Rattle.lookup.proofs.Matching.{version-is, retired-is, count-is, no-bits}
 use Rattle.index_node.specs.Looks.{lookSays}
 use Rattle.index_node.specs.declared.Look.the-variants.{Small, Great, Meets}
 use Rattle.index_node.specs.declared.Look as declared
