@@ -1,8 +1,8 @@
--- `apply_leaf::alone` meets its contract, by what is asked. Assumes nothing.
-use Rattle.apply_leaf.proofs.Leaf.{alone-none, alone-same, alone-other, alone-gone}
+-- `apply_alone::alone` meets its contract, by what is asked. Assumes nothing.
+use Rattle.apply_alone.proofs.Asking.{alone-none, alone-same, alone-other, alone-gone}
 use borrow.Author.Needs.{needs}
-use Rattle.apply_leaf.proofs.alone.Statement.{statement}
-use Rattle.apply_leaf.proofs.alone.Tie as tie
+use Rattle.apply_alone.proofs.alone.Statement.{statement}
+use Rattle.apply_alone.proofs.alone.Tie as tie
 
 enum-told : tie.Need-enum-told
 enum-told c = search needs
