@@ -1,5 +1,5 @@
 -- Rows 10, 15 and 9 of writing a message, 10 and 9 of reading one: what the definitions answer is what the rows deserve. Assumes nothing.
-use Prim.Native.Nat.{ℕ, _<_}
+use Prim.Native.Nat.{_<_}
 use native.Mathlib.Omega.{arith}
 use mathlib.Core.Path.{_≡_, refl, sym, _∙_, subst}
 use mathlib.Core.Logic.{inl, inr}
@@ -10,7 +10,7 @@ use lib.Dec.{ltb}
 use borrow.Author.Tests.{ltb-true, ltb-false}
 use Rattle.terms.specs.Bits.{Bytes}
 use Rattle.terms.specs.Records.{Proof}
-use Rattle.meaning.specs.Calls.{Answer, refused, accepted}
+use Rattle.meaning.specs.Calls.{refused, accepted}
 use Rattle.meaning.specs.Answers.{numberOf}
 use Rattle.sha256.specs.Sha256.{sha256}
 use Rattle.proofrecords.specs.ProofBytes.{ProofIs, ProofSaid}
@@ -18,8 +18,7 @@ use Rattle.proofrecords.proofs.Proofs.{one-proof-is}
 use Rattle.messages.specs.Message.{messageBytes}
 use Rattle.messages.specs.Lending.{Lent, lentFits, rawProof, fitted, writtenFrom, recordOf, readFrom}
 use Rattle.messages.proofs.Back.{one-message}
-use Rattle.message_rules.specs.Contracts.{writtenInto, Encodes, Said, readInto}
-use Rattle.refusals.specs.Exactly.{Table}
+use Rattle.message_rules.specs.Contracts.{writtenInto, Said, readInto}
 use Rattle.refusals.specs.Tables.{writeMessageRows, readMessageRows}
 use Rattle.refusals.proofs.Parts.{Row}
 use Rattle.refusals.proofs.Exactly.{First}
