@@ -15,7 +15,7 @@ use Rattle.terms.specs.Bits.{Bytes, Byte, All}
 use Rattle.meaning.specs.Calls.{Answer, refused}
 use Rattle.meaning.specs.Answers.{numberOf, roomAfter}
 use Rattle.meaning.proofs.Told.{exported-kept, one-exported}
-use Rattle.meaning.specs.Reading.{Trouble, lostRecord, spoiltRecord, readKeyBy, readRootBy, readKey, readRoot}
+use Rattle.meaning.specs.Reading.{Trouble, spoiltRecord, readKeyBy, readRootBy, readKey, readRoot}
 use Rattle.meaning.specs.Proving.{proofBy, proveBy, proof, prove}
 use Rattle.meaning.specs.Counting.{readNumberBy, readPositionBy, readNumber, readPosition}
 use Rattle.palette_rules.specs.Palette.{wholeKeys, keysIn, paletteOf, palette}

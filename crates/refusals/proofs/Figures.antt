@@ -1,11 +1,11 @@
 -- Rows 8 and 9 of the figures: what a sound store answers is what they deserve. Assumes nothing.
-use Prim.Native.Nat.{ℕ, suc, _*_, _-_, _+_}
+use Prim.Native.Nat.{ℕ, suc, _*_, _-_}
 use native.Mathlib.Omega.{arith}
 use mathlib.Core.Path.{_≡_, refl, sym, _∙_}
 use mathlib.Core.Logic.{inl, inr}
 use mathlib.Core.Bool.{Bool, true, false, cond, true≢false}
 use lib.ListN.{length, drop}
-use lib.Dec.{ltb, leb}
+use lib.Dec.{ltb}
 use borrow.Author.Tests.{ltb-true, ltb-false, lt-ltb, le-leb}
 use Rattle.terms.specs.Bits.{Bytes}
 use Rattle.terms.specs.Records.{Store}

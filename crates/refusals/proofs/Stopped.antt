@@ -1,18 +1,18 @@
 -- A read that tests some rows first and then is stopped by the first trouble that it meets: its number is exact in the low half, and its slot in
 -- the high one. Assumes nothing.
-use Prim.Native.Nat.{ℕ, _+_, _*_, _/_, _<_}
+use Prim.Native.Nat.{ℕ, _+_, _/_, _<_}
 use native.Mathlib.Omega.{arith}
-use mathlib.Core.Path.{_≡_, refl, ap, sym, _∙_, subst}
-use mathlib.Core.Logic.{_⊎_, inl, inr}
+use mathlib.Core.Path.{_≡_, ap, sym, _∙_, subst}
+use mathlib.Core.Logic.{inl, inr}
 use mathlib.Core.Bool.{Bool, true, _&&_}
 use mathlib.Core.List.{[], _∷_, _++_}
 use lib.Dec.{ltb}
 use borrow.Author.Tests.{ltb-true}
 use Rattle.terms.proofs.Tests.{and-left, and-right}
 use Rattle.meaning.specs.Reading.{Trouble, lostRecord, spoiltRecord, strayLeaf, beside, refusalOf}
-use Rattle.refusals.specs.Exactly.{Table, Exactly, NoneOf, low, Names}
+use Rattle.refusals.specs.Exactly.{Table, NoneOf, low, Names}
 use Rattle.refusals.specs.Tables.{Unsound}
-use Rattle.refusals.proofs.Exactly.{First, past, within, distinct, exactly}
+use Rattle.refusals.proofs.Exactly.{First, past, within}
 
 -- what a read answers: a row that is tested first; the one trouble that stops it; or a row that is tested after it
 pub data Stopped (early later : Table) (stops : Trouble → Type 0) (n : ℕ) : Type 0 where

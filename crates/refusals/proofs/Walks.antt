@@ -23,12 +23,12 @@ use Rattle.histories.proofs.Calls.{prune-cases}
 use Rattle.ways.proofs.Walking.{Formed}
 use Rattle.ways.proofs.Theorems.{one-trouble, empty-exactly, root-stopped-exactly, key-stopped-exactly, proof-stopped-exactly}
 use Rattle.layout.specs.Stores.{storeOf}
-use Rattle.refusals.specs.Exactly.{Table, low}
+use Rattle.refusals.specs.Exactly.{Table}
 use Rattle.ways.specs.Ways.{RootStopped, KeyStopped, ProofStopped, EmptyVersion}
 use Rattle.refusals.specs.Tables.{TooLong, getRows, proveRows}
 use Rattle.refusals.proofs.Parts.{Row, NotKept, versionRows, provingRows}
 use Rattle.refusals.proofs.Exactly.{First}
-use Rattle.refusals.proofs.Stopped.{Stopped, tested, met, passed, stopped-past, stopped-first}
+use Rattle.refusals.proofs.Stopped.{Stopped, tested, met, passed, stopped-past}
 
 -- Where two neighbouring rows are deserved at once, the answer is the number of the one that is tested first.
 module _ (s : Bytes) (v : ℕ) (k room : Bytes) where

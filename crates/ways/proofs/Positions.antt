@@ -11,9 +11,8 @@ use lib.Dec.{eqb, ltb}
 use borrow.Author.Tests.{eqb-true, eqb-false, ltb-true, ltb-false, lt-ltb, le-ltb}
 use Rattle.terms.specs.Bits.{Side, left, right, Place, longer, begins}
 use Rattle.terms.specs.Records.{Grant, grant, Child, Body, leafBody, innerBody, Record, Store}
-use Rattle.terms.specs.Form.{placeLimit}
 use Rattle.terms.proofs.Places.{length-longer}
-use Rattle.meaning.specs.Store.{find, rootOf, childOn}
+use Rattle.meaning.specs.Store.{childOn}
 use Rattle.meaning.specs.Sight.{Sight, matches, nothing, rootSight, nodeSight, scan}
 use Rattle.meaning.specs.Sight as sight
 use Rattle.meaning.specs.Calls.{Answer, refused, accepted}

@@ -7,14 +7,14 @@ use mathlib.Core.Logic.{_↔_, _⊎_, inl, inr}
 use mathlib.Core.Bool.{Bool, true, false, _&&_, not, true≢false, false≢true}
 use mathlib.Core.List.{[], _∷_}
 use mathlib.Core.Option.{Option, none, some}
-use lib.ListN.{length, getD}
+use lib.ListN.{length}
 use lib.Dec.{eqb, leb}
 use borrow.Author.Tests.{eqb-true, eq-eqb, leb-true, leb-false, le-leb, lt-leb}
 use Rattle.terms.specs.Bits.{Bytes, All, Place, pack, sameBytes}
 use Rattle.terms.specs.Fields.{allZero, allOf}
 use Rattle.terms.specs.Heads.{countIn, bitsIn, versionIn, sinceIn}
-use Rattle.terms.specs.Records.{Record, free, spoiled, Store}
-use Rattle.terms.proofs.Tests.{and-left, and-right, is-false, same-bytes, bytes-same}
+use Rattle.terms.specs.Records.{Record, Store}
+use Rattle.terms.proofs.Tests.{and-left, and-right, same-bytes, bytes-same}
 use Rattle.terms.proofs.Fields.{all-of-tests}
 use Rattle.meaning.specs.Store.{find, rootOf}
 use Rattle.meaning.specs.Sight.{Sight, matches, nothing, spoilt, agrees, livesBy, agreesRoot, lowestSpoilt, sighted, rootSight, nodeSight}

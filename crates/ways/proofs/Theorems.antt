@@ -7,18 +7,17 @@ use mathlib.Core.Logic.{_↔_, _⊎_, inl, inr}
 use mathlib.Core.Bool.{Bool, true, false, cond, true≢false}
 use mathlib.Core.List.{List, [], _∷_, map}
 use lib.ListN.{length}
-use Rattle.terms.specs.Bits.{Bytes, Side, left, right, Place, longer, All, bit, begins, sameBytes}
-use Rattle.terms.specs.Records.{Child, Body, leafBody, innerBody, Record, Store, presence}
+use Rattle.terms.specs.Bits.{Bytes, Side, left, right, Place, longer, All, bit, sameBytes}
+use Rattle.terms.specs.Records.{Store, presence}
 use Rattle.terms.proofs.Tests.{is-false, same-bytes, bytes-same}
-use Rattle.meaning.specs.Store.{rootOf, childOn}
+use Rattle.meaning.specs.Store.{childOn}
 use Rattle.meaning.specs.Sight.{Sight, matches, nothing, spoilt, rootSight, scan}
 use Rattle.meaning.specs.Calls.{Answer, refused, accepted}
-use Rattle.meaning.specs.Reading.{Trouble, lostRecord, spoiltRecord, strayLeaf, beside, refusalOf, Seen, seen, seenBody, seenRoot, seenAt, End, walkStopped, walk, rootRead}
+use Rattle.meaning.specs.Reading.{Trouble, lostRecord, spoiltRecord, strayLeaf, beside, refusalOf, seen, walkStopped, walk, rootRead}
 use Rattle.meaning.specs.Proving.{stepUp, presenceOf, Sought, searchStopped, nobody, somebody, beyond, neighbour, fromTrail, absenceFrom, absenceAt, proveEnd}
-use Rattle.meaning.proofs.Sights.{root-sighted}
-use Rattle.ways.specs.Ways.{byKey, Inner, Stop, stoppedBy, leaf, missing, Met, stop, found, AtRoot, AtChild, Way, ended, misplaced, at-leaf, onward, Walk, DescentLost, KeyStopped, SideStopped, ProofStopped, walk-stopped, left-stopped, right-stopped, RootStopped, EmptyVersion}
+use Rattle.ways.specs.Ways.{byKey, Inner, Stop, stoppedBy, leaf, missing, Met, stop, AtRoot, Way, ended, misplaced, at-leaf, onward, Walk, KeyStopped, SideStopped, ProofStopped, walk-stopped, left-stopped, right-stopped, RootStopped, EmptyVersion}
 use Rattle.ways.proofs.Spoilt.{metBy, root-meets, root-met}
-use Rattle.ways.proofs.Walking.{Formed, inner, Above, inner-short, root-above, child-above, seenMet, root-seen, way-ends, passOf, endOf, walk-is}
+use Rattle.ways.proofs.Walking.{Formed, inner, Above, inner-short, root-above, child-above, root-seen, way-ends, passOf, endOf, walk-is}
 use Rattle.ways.proofs.Descending.{Short, search-said, said-search}
 
 clash : {A : Type 0} → _≡_ {A = ℕ} 0 1 → A

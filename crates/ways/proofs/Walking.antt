@@ -1,11 +1,10 @@
 -- Every way ends, and what a read sees there is what the way says. By the bits that a place is short of a key; records in form keep inner
 -- nodes above the places of whole keys. Assumes nothing.
-use Prim.Native.Nat.{ℕ, zero, suc, _+_, _-_, _<_, _≤_}
+use Prim.Native.Nat.{ℕ, zero, suc, _+_, _-_, _≤_}
 use native.Mathlib.Omega.{arith}
 use mathlib.Core.Path.{_≡_, refl, ap, sym, _∙_, subst}
 use mathlib.Core.Bool.{Bool, true, false, cond}
 use mathlib.Core.List.{List, [], _∷_, map}
-use mathlib.Core.Option.{some}
 use lib.ListN.{length}
 use lib.Dec.{eqb}
 use borrow.Author.Tests.{eq-eqb, ne-eqb, eqb-true, eqb-false}
@@ -13,11 +12,11 @@ use Rattle.terms.specs.Bits.{Bytes, Side, Place, longer, bit, begins}
 use Rattle.terms.specs.Records.{Child, Body, leafBody, innerBody, Record, Store}
 use Rattle.terms.specs.Form.{RecordForm, placeLimit}
 use Rattle.terms.proofs.Places.{length-longer}
-use Rattle.meaning.specs.Store.{find, childOn}
+use Rattle.meaning.specs.Store.{childOn}
 use Rattle.meaning.specs.Sound.{At}
-use Rattle.meaning.specs.Reading.{Seen, gap, leafSeen, fork, seenBody, seenChild, seenRoot, seenAt, seen, Pass, End, walkStopped, atLeaf, atGap, walk}
+use Rattle.meaning.specs.Reading.{Seen, gap, leafSeen, seenBody, seenChild, seenRoot, seenAt, seen, Pass, End, walkStopped, atLeaf, atGap, walk}
 use Rattle.meaning.specs.Sight.{Sight, matches, nothing, spoilt, nodeSight, rootSight, scan}
-use Rattle.meaning.specs.Reading.{lostRecord, spoiltRecord, strayLeaf}
+use Rattle.meaning.specs.Reading.{lostRecord, strayLeaf}
 use Rattle.meaning.specs.Reading as reading
 use Rattle.meaning.proofs.Finding.{found-at}
 use Rattle.ways.proofs.Spoilt.{metBy, node-meets, node-met, root-met}
