@@ -8,8 +8,8 @@ demo:
 # `tests/gate` chooses by the memory where it isn't set.
 test:
 	@tests/gate 'rt ci' tests/format tests/states tests/rooms tests/belief tests/sealed tests/links tests/sha256/run tests/second/run tests/passes/run \
-		tests/slow/run 'tests/looks/run &' 'tests/compare/run &' tests/proto/run tests/rust/run tests/tool/run tests/examples/run tests/wasm/run \
-		tests/python/run tests/stale/run tests/dist/run
+		tests/slow/run 'tests/looks/run &' 'tests/compare/run &' tests/proto/run tests/rust/run 'tests/wasm/run &' tests/tool/run tests/examples/run \
+		wait tests/python/run tests/stale/run tests/dist/run
 
 # The static library, proved where `make test` has made the proofs, else the same sources compiled without them; the last line says which.
 lib:

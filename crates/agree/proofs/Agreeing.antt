@@ -22,8 +22,7 @@ use Rattle.layout.specs.Slots.{slotOf, countIn, bitsIn, versionIn}
 use Rattle.layout.specs.Stores.{slotIn, slotNo, Has}
 use Rattle.store.proofs.Slots.{slot-long, slot-bytes, slot-within, slot-is}
 use Rattle.lookup.specs.Lookup.{isUsed}
-use Rattle.lookup.proofs.Matching.{version-is, count-is, bits-are, is-node}
-use Rattle.lookup.proofs.Rooting.{and-false}
+use Rattle.lookup.proofs.Matching.{version-is, count-is, bits-are, is-node, and-false}
 use Rattle.agree.specs.Holding.{nodeHere}
 
 -- by version, bit count and bits, one after the other

@@ -46,15 +46,18 @@ use Rattle.apply_place.proofs.Placing.{placed-nothing}
 use Rattle.apply_place.proofs.Reaching.{reaches-none}
 use Rattle.apply_outcome.specs.declared.Change.the-variants as C
 use Rattle.apply_outcome.specs.declared.Outcome as declared
-use Rattle.apply_outcome.specs.Outcomes.{changeSays, nodeChild, NodeSays, updatedSays, Kept, Did, Forks, Forked}
+use Rattle.apply_outcome.specs.Outcomes.{changeSays, nodeChild, NodeSays, updatedSays, Kept, Did}
 use Rattle.apply_outcome.proofs.Saying.{says-few}
 use Rattle.apply_outcome.proofs.Forms.{given-form}
-use Rattle.apply_outcome.proofs.Forking.{mark-nothing, nothing-marked, fork-did}
-use Rattle.apply_grow.specs.declared.Stays as declared-stays
-use Rattle.apply_grow.specs.declared.Few as declared-few
-use Rattle.apply_grow.specs.declared.Few.the-variants.{Nothing, One, Several}
-use Rattle.apply_grow.specs.Growing.{staysSays, staysAt, FewSays, StaysAt, Grows}
-use Rattle.apply_grow.proofs.Sides.{stays-longer, stays-at-side}
+use Rattle.apply_outcome.proofs.Forking.{mark-nothing, nothing-marked}
+use Rattle.apply_fork.specs.Fork.{Forks, Forked}
+use Rattle.apply_fork.proofs.Forked.{fork-did}
+use Rattle.apply_inserts.specs.declared.Stays as declared-stays
+use Rattle.apply_inserts.specs.declared.Few as declared-few
+use Rattle.apply_inserts.specs.declared.Few.the-variants.{Nothing, One, Several}
+use Rattle.apply_inserts.specs.Inserts.{staysSays, staysAt, FewSays, StaysAt}
+use Rattle.apply_grow.specs.Growing.{Grows}
+use Rattle.apply_inserts.proofs.Sides.{stays-longer, stays-at-side}
 
 -- a run and a leaf that stays fit their place
 fits-of : (p : Place) (part : Bytes) (stays : Option Grant) → Run p part → StaysAt p stays (asks part) → Fits p (staying stays) (asks part)

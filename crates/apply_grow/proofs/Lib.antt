@@ -1,3 +1,1 @@
-pub mod Inserts
-pub mod Sides
 pub mod Growing

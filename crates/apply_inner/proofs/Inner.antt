@@ -30,10 +30,12 @@ use Rattle.apply_place.proofs.Reaching.{reaches-then, reaches-none, starts-mark
 use Rattle.apply_outcome.specs.declared.Change as change
 use Rattle.apply_outcome.specs.declared.Change.the-variants.{Updated, Deleted, Unchanged}
 use Rattle.apply_outcome.specs.declared.Outcome as declared
-use Rattle.apply_outcome.specs.Outcomes.{changeSays, Weighs, NodeSays, Did, Forked}
+use Rattle.apply_outcome.specs.Outcomes.{changeSays, Weighs, NodeSays, Did}
 use Rattle.apply_outcome.proofs.Saying.{nothing-placed, says-either}
 use Rattle.apply_outcome.proofs.Forms.{Numbered}
-use Rattle.apply_outcome.proofs.Forking.{nothing-marked, above-bytes, fork-did}
+use Rattle.apply_outcome.proofs.Forking.{nothing-marked, above-bytes}
+use Rattle.apply_fork.specs.Fork.{Forked}
+use Rattle.apply_fork.proofs.Forked.{fork-did}
 use Rattle.apply_end.specs.declared.Remains as remains
 use Rattle.apply_end.specs.declared.Remains.the-variants as R
 use Rattle.apply_end.specs.Ending.{childNodes, endsSays, remainsOf}

@@ -22,7 +22,7 @@ use Rattle.apply_outcome.specs.declared.Change as change
 use Rattle.apply_outcome.specs.declared.Change.the-variants.{Updated, Deleted, Unchanged}
 use Rattle.apply_outcome.proofs.Change as change-type
 use Rattle.apply_outcome.specs.declared.Outcome as declared
-use Rattle.apply_outcome.specs.Outcomes.{Forks, Forked}
+use Rattle.apply_fork.specs.Fork.{Forks, Forked}
 use Rattle.apply_end.specs.declared.Remains as remains
 use Rattle.apply_end.specs.declared.Remains.the-variants as R
 use Rattle.apply_end.proofs.Remains as remains-type

@@ -21,7 +21,8 @@ use Rattle.apply_place.specs.Reach.{Starts}
 use Rattle.apply_outcome.specs.declared.Change as change
 use Rattle.apply_outcome.specs.declared.Change.the-variants.{Updated, Deleted, Unchanged}
 use Rattle.apply_outcome.specs.declared.Outcome as declared
-use Rattle.apply_outcome.specs.Outcomes.{NodeSays, nodeLeaves, updatedSays, Kept, Forks, Forked}
+use Rattle.apply_outcome.specs.Outcomes.{NodeSays, nodeLeaves, updatedSays, Kept}
+use Rattle.apply_fork.specs.Fork.{Forks, Forked}
 use Rattle.apply_end.specs.declared.Remains as remains
 use Rattle.apply_end.specs.declared.Remains.the-variants as R
 use Rattle.apply_end.specs.Ending.{endsSays, remainsOf, Ends}

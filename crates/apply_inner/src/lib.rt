@@ -2,9 +2,9 @@
 use apply_end::Remains;
 use apply_end::mark_children;
 use apply_end::remains_of;
+use apply_fork::fork;
 use apply_outcome::Change;
 use apply_outcome::Outcome;
-use apply_outcome::fork;
 use apply_place::Node;
 use apply_read::node_in;
 use place::Place;

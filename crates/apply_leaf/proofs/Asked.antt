@@ -16,8 +16,9 @@ use Rattle.batch.specs.Batch.{count, asks}
 use Rattle.batch.specs.Records.{askAt, inserts}
 use Rattle.batch.proofs.Records.{asks-from, length-asks, length-key}
 use Rattle.steps.specs.Step as step
-use Rattle.apply_leaf.specs.declared.Own.the-variants.{Insert, Delete}
-use Rattle.apply_leaf.specs.Leaf.{OwnSays, isMore}
+use Rattle.apply_alone.specs.declared.Own.the-variants.{Insert, Delete}
+use Rattle.apply_alone.specs.Alone.{OwnSays}
+use Rattle.apply_leaf.specs.Leaf.{isMore}
 
 -- the key of a record by its bytes
 pub key-says : (g : Bytes) (h : Hash) (k x : Bytes) → hashBytes h ≡ take 32 (drop 0 g) → g ≡ k → length g ≡ 32 → sameBytes (hashBytes h) x ≡ sameBytes k x

@@ -9,7 +9,7 @@ use mathlib.Core.Option.{Option, none, some}
 use lib.ListN.{length}
 use types.Run.{OneOf}
 use denote.Enum.Declared.{tagOf}
-use Rattle.terms.specs.Bits.{Bytes, sameBytes}
+use Rattle.terms.specs.Bits.{Bytes}
 use Rattle.terms.specs.Records.{Grant, grant, Ask, insert, delete}
 use Rattle.hash.specs.declared.Hash.{Hash}
 use Rattle.hash.specs.Hash.{hashBytes}
@@ -22,65 +22,25 @@ use Rattle.batch.specs.Batch.{asks}
 use Rattle.steps.specs.Step as step
 use Rattle.steps.specs.Writing.{written}
 use Rattle.steps.proofs.Inserts.{own-none}
-use Rattle.apply_place.specs.declared.Node.the-variants as N
 use Rattle.apply_place.specs.Placing.{Stored, Changed, whenWrites}
 use Rattle.apply_place.specs.Reach.{Reaches}
 use Rattle.apply_place.proofs.Reaching.{reaches-none}
-use Rattle.apply_outcome.specs.declared.Change.the-variants as C
 use Rattle.apply_outcome.specs.declared.Outcome as declared
 use Rattle.apply_outcome.specs.Outcomes.{Did}
-use Rattle.apply_grow.specs.declared.Stays as stays
-use Rattle.apply_grow.specs.declared.Stays.the-variants as S
-use Rattle.apply_grow.specs.Growing.{staysSays, staysAt, StaysAt, Grows}
+use Rattle.apply_inserts.specs.declared.Stays as stays
+use Rattle.apply_inserts.specs.declared.Stays.the-variants as S
+use Rattle.apply_inserts.specs.Inserts.{staysSays, staysAt, StaysAt}
+use Rattle.apply_grow.specs.Growing.{Grows}
 use Rattle.apply_grow.proofs.Growing.{written-nothing}
-use Rattle.apply_leaf.specs.declared.Own as own
-use Rattle.apply_leaf.specs.declared.Own.the-variants.{Nothing, Insert, Delete}
-use Rattle.apply_leaf.specs.Leaf.{OwnSays, isMore, stayingSays, Alone, AtLeaf}
-use Rattle.apply_leaf.proofs.Own as own-type
+use Rattle.apply_alone.specs.declared.Own as own
+use Rattle.apply_alone.specs.declared.Own.the-variants.{Nothing, Insert, Delete}
+use Rattle.apply_alone.specs.Alone.{OwnSays, Alone}
+use Rattle.apply_leaf.specs.Leaf.{isMore, stayingSays, AtLeaf}
+use Rattle.apply_alone.proofs.Own as own-type
 
 no-more : (gs : List Grant) → isMore gs ≡ false → gs ≡ []
 no-more [] e = refl
 no-more (g ∷ gs) e = absurd (true≢false e)
-
--- by what is asked, where nothing is inserted beside it
-module _ (new from v : ℕ) (k x : Hash) where
-  abbrev its : Grant
-  its = grant (hashBytes k) (hashBytes x)
-
-  unasked : (o : Option Ask) → o ≡ none → Alone new from v its o (record { change = C.Unchanged; node = N.Leaf v k x; reach = from })
-  unasked o e = rw e (record { change = λ f. refl; node = λ w f. refl; quiet = λ f. (refl, refl); reach = refl })
-
-  pub alone-none : (f : own.Own) → f ≡ Nothing → (o : Option Ask) → OwnSays f o →
-      Alone new from v its o (record { change = C.Unchanged; node = N.Leaf v k x; reach = from })
-  alone-none f e o h = unasked o (subst (λ z. OwnSays z o) e h)
-
-  pub alone-same : (f : own.Own) {y : Hash} → f ≡ Insert y → {t : Bool} → t ≡ sameBytes (hashBytes y) (hashBytes x) → t ≡ true → (o : Option Ask) → OwnSays f o →
-      Alone new from v its o (record { change = C.Unchanged; node = N.Leaf v k x; reach = from })
-  alone-same f {y} e b t o h =
-      let (q, z) = subst (λ u. OwnSays u o) e h in
-      rw (z) (record {
-        change = λ g. rw (sym b ∙ t) refl;
-        node = λ w g. rw (sym b ∙ t) refl;
-        quiet = λ g. rw (sym b ∙ t) (refl, refl);
-        reach = refl;
-      })
-
-  pub alone-other : (f : own.Own) {y : Hash} → f ≡ Insert y → {t : Bool} → t ≡ sameBytes (hashBytes y) (hashBytes x) → t ≡ false → (o : Option Ask) → OwnSays f o →
-      Alone new from v its o (record { change = C.Updated; node = N.Leaf new k y; reach = from })
-  alone-other f {y} e b t o h =
-      let (q, z) = subst (λ u. OwnSays u o) e h in
-      rw (z) (record {
-        change = λ g. rw (sym b ∙ t) refl;
-        node = λ w g. rw (sym b ∙ t) refl;
-        quiet = λ g. rw (sym b ∙ t) (refl, refl);
-        reach = refl;
-      })
-
-  pub alone-gone : (f : own.Own) → f ≡ Delete → (o : Option Ask) → OwnSays f o →
-      Alone new from v its o (record { change = C.Deleted; node = N.Nothing; reach = from })
-  alone-gone f e o h =
-      let (q, z) = subst (λ u. OwnSays u o) e h in
-      rw z (record { change = λ g. refl; node = λ w g. refl; quiet = λ g. (refl, refl); reach = refl })
 
 -- an outcome with nothing below it writes nothing
 written-none : (w : Bool) (new : ℕ) (o : step.Outcome) {s : Bytes} → o .fresh ≡ [] → o .retired ≡ [] → Stored s → Changed (whenWrites w (written new o)) s s

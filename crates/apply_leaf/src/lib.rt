@@ -1,12 +1,12 @@
 // The step at a leaf, document 01: what the run asks for its key, and inserts beside it.
-use apply_grow::Stays;
+use apply_alone::Own;
+use apply_alone::alone;
 use apply_grow::grow;
-use apply_outcome::Change;
+use apply_inserts::Stays;
 use apply_outcome::Outcome;
-use apply_place::Node;
 use batch::grant;
-use batch::is_insert;
 use batch::record_count;
+use batch_form::is_insert;
 use hash::Hash;
 use hash::hash_at;
 use hash::same_hash;
@@ -22,14 +22,8 @@ ghost use Rattle.batch.specs.Batch.{count, asks};
 ghost use Rattle.batch.specs.Records.{askAt};
 ghost use Rattle.steps.specs.Step as step;
 ghost use Rattle.apply_outcome.specs.Outcomes.{Did};
-ghost use Rattle.apply_leaf.specs.Leaf.{OwnSays, isMore, stayingSays, AloneBy, AtLeaf};
-
-// What a run asks for a key.
-enum Own {
-    Nothing,
-    Insert { value: Hash },
-    Delete,
-}
+ghost use Rattle.apply_alone.specs.Alone.{OwnSays};
+ghost use Rattle.apply_leaf.specs.Leaf.{isMore, stayingSays, AtLeaf};
 
 // Whether record i of a run asks for a key.
 fn asks_for(run: &[u8], i: usize, key: Hash) -> bool
@@ -87,44 +81,6 @@ fn staying(own: Own, key: Hash, value: Hash) -> Stays
         return Stays::Nothing;
     };
     Stays::Grant { key, value }
-}
-
-// What becomes of a leaf (version, place) that nothing is inserted beside.
-fn alone(new: u32, from: usize, version: u32, key: Hash, value: Hash, own: Own) -> Outcome
-    ensures { λ r. ⌜ AloneBy new from version (grant (hashBytes key) (hashBytes value)) own r ⌝ }
-{
-    let stays = Outcome {
-        change: Change::Unchanged,
-        node: Node::Leaf {
-            version,
-            key,
-            value,
-        },
-        reach: from,
-    };
-    match own {
-        Own::Nothing => stays,
-        Own::Insert { value: asked } => {
-            if same_hash(asked, value) {
-                return stays;
-            }
-            let node = Node::Leaf {
-                version: new,
-                key,
-                value: asked,
-            };
-            Outcome {
-                change: Change::Updated,
-                node,
-                reach: from,
-            }
-        }
-        Own::Delete => Outcome {
-            change: Change::Deleted,
-            node: Node::Nothing,
-            reach: from,
-        },
-    }
 }
 
 // The step at a leaf (version, place) with its grant.

@@ -1,18 +1,16 @@
 -- Document 01, 'The tree of a set of grants': what the outcome of a step says, case by case. Assumes nothing.
-use Prim.Native.Nat.{ℕ, _+_, _<_, _≤_}
+use Prim.Native.Nat.{ℕ, _+_, _≤_}
 use mathlib.Core.Path.{_≡_}
 use mathlib.Core.Bool.{Bool, true, false}
-use mathlib.Core.List.{List, [], _++_}
+use mathlib.Core.List.{List, []}
 use lib.ListN.{length}
-use Rattle.terms.specs.Bits.{Bytes, Place, All, longer, left, right}
+use Rattle.terms.specs.Bits.{Bytes, Place}
 use Rattle.terms.specs.Records.{Child, child, Record, zeros, grant}
-use Rattle.terms.specs.Form.{RecordForm, top32}
+use Rattle.terms.specs.Form.{top32}
 use Rattle.meaning.specs.Tree.{VTree, vnone, vleaf, vinner, leaves}
 use Rattle.meaning.specs.Store.{childOf}
 use Rattle.hash.specs.Hash.{hashBytes}
 use Rattle.nodehash.specs.Node.{leafHash, innerHash}
-use Rattle.place.specs.declared.Place as place
-use Rattle.place.specs.Place.{placeOf, Proper}
 use Rattle.layout.specs.Stores.{storeOf}
 use Rattle.slots.specs.declared.Child as declared-child
 use Rattle.slots.specs.Answer.{childSays}
@@ -20,8 +18,8 @@ use Rattle.steps.specs.Step as step
 use Rattle.steps.specs.Writing.{written}
 use Rattle.apply_place.specs.declared.Node as node
 use Rattle.apply_place.specs.declared.Node.the-variants.{Nothing, Leaf, Inner}
-use Rattle.apply_place.specs.Placing.{Stored, Changed, whenWrites, recordSays}
-use Rattle.apply_place.specs.Reach.{Starts, Reaches, Placed}
+use Rattle.apply_place.specs.Placing.{Changed, whenWrites, recordSays}
+use Rattle.apply_place.specs.Reach.{Reaches}
 use Rattle.apply_outcome.specs.declared.Change as declared-change
 use Rattle.apply_outcome.specs.declared.Change.the-variants.{Updated, Deleted, Unchanged}
 use Rattle.apply_outcome.specs.declared.Outcome as declared
@@ -85,29 +83,3 @@ Kept writes c o = writes ≡ true → o .change ≡ Unchanged → childSays c �
 -- What a new record says of a child is true of its outcome.
 abbrev pub ChildAfter : Bool → declared.Outcome → declared-child.Child → Type 0
 ChildAfter writes o c = writes ≡ true → childSays c ≡ nodeChild (o .node)
-
--- Two outcomes at the children of an inner node, whose records are in form, and what its old record says of the
--- children.
-pub record Forks (writes : Bool) (s : Bytes) (p : place.Place) (lchild rchild : declared-child.Child)
-    (l r : declared.Outcome) : Type 0 where
-  pub stored : Stored s
-  pub starts : Starts writes (storeOf s .slots) (r .reach)
-  pub proper : Proper p
-  pub short : p .count < 256
-  pub left-form : writes ≡ true → All RecordForm (updatedSays (longer left (placeOf p)) l)
-  pub right-form : writes ≡ true → All RecordForm (updatedSays (longer right (placeOf p)) r)
-  pub left-kept : Kept writes lchild l
-  pub right-kept : Kept writes rchild r
-  pub left-few : nodeLeaves (l .node) ≤ top32
-  pub right-few : nodeLeaves (r .node) ≤ top32
-
--- The inner node above them.
-pub record Forked (new : ℕ) (writes : Bool) (s s′ : Bytes) (p : Place) (l r o : declared.Outcome) : Type 0 where
-  pub left-child : declared-child.Child
-  pub right-child : declared-child.Child
-  pub change : o .change ≡ Updated
-  pub node : o .node ≡ Inner new left-child right-child (nodeLeaves (l .node)) (nodeLeaves (r .node))
-  pub left-is : ChildAfter writes l left-child
-  pub right-is : ChildAfter writes r right-child
-  pub placed : Placed writes (r .reach) (updatedSays (longer left p) l ++ updatedSays (longer right p) r) s s′
-      (o .reach)

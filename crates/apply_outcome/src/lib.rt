@@ -8,12 +8,10 @@ use nodehash::inner_hash;
 use place::Place;
 use slots::Child;
 ghost use mathlib.Core.Path.{_≡_};
-ghost use Prim.Native.Nat.{_≤_};
-ghost use Rattle.terms.specs.Form.{top32};
 ghost use Rattle.place.specs.Place.{placeOf};
 ghost use Rattle.slots.specs.Answer.{childSays};
 ghost use Rattle.apply_place.specs.Reach.{Places, Placed};
-ghost use Rattle.apply_outcome.specs.Outcomes.{nodeChild, nodeLeaves, updatedSays, Kept, ChildAfter, Forks, Forked};
+ghost use Rattle.apply_outcome.specs.Outcomes.{nodeChild, updatedSays, Kept, ChildAfter};
 
 pub enum Change {
     Updated,
@@ -58,31 +56,9 @@ pub fn child_of(node: Node) -> Child
     }
 }
 
-// How many leaves there are below a node, or at it.
-fn leaves_of(node: Node) -> u32
-    requires { ⌜ nodeLeaves node ≤ top32 ⌝ }
-    ensures { λ r. ⌜ r ≡ nodeLeaves node ⌝ }
-{
-    match node {
-        Node::Nothing => 0,
-        Node::Leaf {
-            version: _,
-            key: _,
-            value: _,
-        } => 1,
-        Node::Inner {
-            version: _,
-            left: _,
-            right: _,
-            lefts,
-            rights,
-        } => lefts + rights,
-    }
-}
-
 // What the new parent's record says of a child that has an outcome: of an unchanged one what the old record says. Nothing is hashed where nothing
 // is written.
-fn child_after(writes: bool, old: Child, out: Outcome) -> Child
+pub fn child_after(writes: bool, old: Child, out: Outcome) -> Child
     requires { ⌜ Kept writes old out ⌝ }
     ensures { λ r. ⌜ ChildAfter writes out r ⌝ }
 {
@@ -98,7 +74,13 @@ fn child_after(writes: bool, old: Child, out: Outcome) -> Child
 }
 
 // Places the node of an outcome, if it was updated, and answers how far the new records reach.
-fn place_updated(store: &mut [u8], writes: bool, from: usize, place: Place, out: Outcome) -> usize
+pub fn place_updated(
+    store: &mut [u8],
+    writes: bool,
+    from: usize,
+    place: Place,
+    out: Outcome,
+) -> usize
     requires { ⌜ Places writes (now store) from place (updatedSays (placeOf place) out) ⌝ }
     ensures { λ r. ⌜ Placed writes from (updatedSays (placeOf place) out) (now (store .entry)) (now (store .exit)) r ⌝ }
 {
@@ -108,40 +90,4 @@ fn place_updated(store: &mut [u8], writes: bool, from: usize, place: Place, out:
     };
     let node = out.node;
     place_node(store, writes, from, place, node)
-}
-
-// A new inner node above two children, with what the old record says of them: those that were updated are placed, the left one before the
-// right one.
-pub fn fork(
-    store: &mut [u8],
-    writes: bool,
-    new: u32,
-    place: Place,
-    lchild: Child,
-    rchild: Child,
-    l: Outcome,
-    r: Outcome,
-) -> Outcome
-    requires { ⌜ Forks writes (now store) place lchild rchild l r ⌝ }
-    ensures { λ o. ⌜ Forked new writes (now (store .entry)) (now (store .exit)) (placeOf place) l r o ⌝ }
-{
-    let half = place_updated(store, writes, r.reach, place.left(), l);
-    let reach = place_updated(store, writes, half, place.right(), r);
-    let left = child_after(writes, lchild, l);
-    let right = child_after(writes, rchild, r);
-    let lnode = l.node;
-    let rnode = r.node;
-    let lefts = leaves_of(lnode);
-    let rights = leaves_of(rnode);
-    Outcome {
-        change: Change::Updated,
-        node: Node::Inner {
-            version: new,
-            left,
-            right,
-            lefts,
-            rights,
-        },
-        reach,
-    }
 }

@@ -1,5 +1,6 @@
 -- The outcome of each way through apply: the steps over lent memory leave the store and give the answer of the definition. Assumes nothing.
 use Prim.Native.Nat.{ℕ, _<_, _≤_}
+use native.Mathlib.Omega.{arith}
 use mathlib.Core.Path.{_≡_, refl, ap, sym, _∙_, subst}
 use mathlib.Core.Bool.{true}
 use lib.ListN.{length}
@@ -26,6 +27,8 @@ use Rattle.apply_outcome.specs.declared.Outcome as declared
 use Rattle.apply_outcome.specs.Outcomes.{nodeChild, Did}
 use Rattle.apply_outcome.proofs.Saying.{says-child}
 use Rattle.promises.specs.Calls.{refuses, accepts}
+use Rattle.apply_answer.specs.Answers.{numberRefusal}
+use Rattle.apply_answer.proofs.Refusing.{not-above}
 use Rattle.apply_ready.specs.Ready.{Ready}
 use Rattle.apply_publish.specs.Apply.{ApplyDoes}
 use Rattle.apply_ready.proofs.Ready.{shaped, older}
@@ -34,9 +37,12 @@ module _ (new : ℕ) {s batch : Bytes} (w : Ready s batch) where
   abbrev pub st : Store
   st = storeOf s
 
-  pub refused-18 : new ≤ st .latest → ApplyDoes new batch s (refused 18) s
+  pub refused-18 : {latest m : ℕ} → latest ≡ st .latest → m ≡ numberRefusal new latest → (m ≡ 0 → ⊥) → ApplyDoes new batch s (refused m) s
   unfolding batchOf refuse
-  refused-18 l = refuses {m = 18} (w .sound) (rw (w .form, w .run .order, le-ltb (st .latest) new l))
+  refused-18 {latest} i e n =
+      let f = not-above new latest e n in
+      subst (λ k. ApplyDoes new batch s (refused k) s) (sym (f .0))
+      (refuses {m = 18} (w .sound) (rw (w .form, w .run .order, le-ltb (st .latest) new (omega (arith, i, f .1)))))
 
   -- the steps at the root
   abbrev pub outcome : step.Outcome

@@ -2,18 +2,10 @@
 -- bytes it leaves. Order: 1, 2; then 3; then 4, 5, 18, 7. Assumes nothing.
 use Prim.Native.Nat.{ℕ}
 use Rattle.terms.specs.Bits.{Bytes}
-use Rattle.meaning.specs.Calls.{Answer, refused, accepted, Applied, apply}
-use Rattle.hash.specs.Hash.{hashBytes}
+use Rattle.meaning.specs.Calls.{Answer, Applied, apply}
 use Rattle.nodehash.specs.Node.{leafHash, innerHash}
 use Rattle.batch.specs.Batch.{batchOf}
 use Rattle.promises.specs.Calls.{Does}
-use Rattle.apply_publish.specs.declared.Applied as declared
-use Rattle.apply_publish.specs.declared.Applied.the-variants.{Refused, Made}
-
--- What each case of the answer says: a number of refusal, or version, root and count of new records.
-unfoldable pub appliedSays : declared.Applied → Answer Applied
-appliedSays (Refused m) = refused m
-appliedSays (Made v root n) = accepted (record { version = v; root = hashBytes root; count = n })
 
 -- Applying the bytes of a batch to the bytes s as a number gives this answer and leaves these bytes.
 abbrev pub ApplyDoes : ℕ → Bytes → Bytes → Answer Applied → Bytes → Type 0

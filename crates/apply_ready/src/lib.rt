@@ -1,7 +1,7 @@
 // What is looked at before a batch is applied: the free slots, and the version of the root.
 use fields::all_zero;
 use lookup::Found;
-use lookup::find_root;
+use lookup_root::find_root;
 use store::slot_count;
 use store::slot_of;
 use store::version_at;

@@ -48,7 +48,7 @@ use Rattle.apply_outcome.specs.declared.Outcome as declared
 use Rattle.apply_outcome.specs.Outcomes.{NodeSays, changeSays, updatedSays, Did}
 use Rattle.apply_outcome.proofs.Saying.{says-either}
 use Rattle.apply_outcome.proofs.Forms.{Numbered, given-shaped, given-numbered, given-form}
-use Rattle.apply_grow.specs.declared.Stays.the-variants as S
+use Rattle.apply_inserts.specs.declared.Stays.the-variants as S
 use Rattle.apply_grow.specs.Growing.{Grows}
 use Rattle.apply_grow.proofs.Growing.{written-nothing}
 use Rattle.apply_leaf.specs.Leaf.{AtLeaf}

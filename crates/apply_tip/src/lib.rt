@@ -1,6 +1,6 @@
 // The step where no inner node stands, document 01: at no node a subtree grows, at a leaf the step is the leaf's.
-use apply_grow::Stays;
 use apply_grow::grow;
+use apply_inserts::Stays;
 use apply_leaf::at_leaf;
 use apply_outcome::Outcome;
 use apply_place::Node;

@@ -10,7 +10,8 @@ use Rattle.terms.specs.Records.{Grant, grant}
 use Rattle.meaning.specs.Tree.{VTree, vnone, vleaf, vinner}
 use Rattle.meaning.specs.Store.{treeAtVersion}
 use Rattle.meaning.specs.Computed.{computed}
-use Rattle.meaning.specs.Desk.{B, C, b, c, c′, g₉}
+use Rattle.meaning.specs.Desk.{B, C, C′}
+use Rattle.meaning.specs.DeskGaps.{g₉}
 use Rattle.changed.specs.Changes.{removed, another, deletes, itemAs, itemBytes}
 use Rattle.changed.specs.Visits.{noDeeper, visited}
 use Rattle.changed.specs.Compare.{changesOf}
@@ -59,7 +60,7 @@ between-two-publishings leafHash innerHash = (refl, refl)
 
 across-a-publishing : (leafHash innerHash : Bytes → Bytes → Bytes) →
     (count (treeAtVersion (g₉ leafHash innerHash) 7) (treeAtVersion (g₉ leafHash innerHash) 9) ≡ 7)
-    × (changesOf (g₉ leafHash innerHash) 7 9 ≡ removed (grant B b) ∷ another C c c′ ∷ [])
+    × (changesOf (g₉ leafHash innerHash) 7 9 ≡ removed B ∷ another (C .key) (C .value) (C′ .value) ∷ [])
 unfolding computed noDeeper changesOf
 across-a-publishing leafHash innerHash = (refl, refl)
 

@@ -1,7 +1,7 @@
 // A comparison at the boundary: the call answers 0 where it is accepted, else the number of refusal, and then it writes nothing. `grants`
 // exports it.
-use changes::Compared;
 use changes::changes;
+use changes_kept::Compared;
 use fields::put_u32;
 ghost use Rattle.contracts.specs.Changes.{Changes};
 

@@ -3,11 +3,11 @@
 use changes_guess::find_near;
 use changes_guess::guess_of;
 use lookup::Found;
-use lookup::find_root;
+use lookup_root::find_root;
 use place::Place;
 use place::key_bit;
-use slots::is_leaf;
 use slots::key_of;
+use slots_form::is_leaf;
 use store::child_version_at;
 use store::slot_of;
 use store::version_at;

@@ -25,7 +25,7 @@ use Rattle.layout.specs.Stores.{storeIn, slotNo}
 use Rattle.check_kin.specs.declared.Kept as declared-kept
 use Rattle.check_kin.specs.Kin.{endsAt, clearOf}
 use Rattle.check_parents.specs.Parents.{Is, ParentsSay}
-use Rattle.check_kin.proofs.Roots.{root-clear}
+use Rattle.check_roots.proofs.Roots.{root-clear}
 use Rattle.check_parents.proofs.Naming.{none-said}
 use Rattle.check_alone.specs.declared.Head as declared
 use Rattle.check_alone.specs.Parts.{recordOn, Headed}

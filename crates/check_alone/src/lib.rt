@@ -1,8 +1,8 @@
 // A record by itself, for the exact test of its slot, document 01, 'Sound': its version, its life, how many slots hold its node, and its
 // children; each with a pass over the slots at most.
+use check_holder::child_found;
+use check_holder::holders;
 use check_kin::Kept;
-use check_kin::child_found;
-use check_kin::holders;
 use place::Place;
 use terms::Form;
 ghost use mathlib.Core.Path.{_≡_};

@@ -12,8 +12,7 @@ use Rattle.meaning.specs.Local.{endsBefore}
 use Rattle.local.specs.Test.{keptLife}
 use Rattle.layout.specs.Slots.{countIn, versionIn, sinceIn}
 use Rattle.layout.specs.Stores.{slotIn, storeIn, Has}
-use Rattle.lookup.proofs.Matching.{count-is}
-use Rattle.lookup.proofs.Rooting.{no-bits}
+use Rattle.lookup.proofs.Matching.{count-is, no-bits}
 use Rattle.check_kin.specs.declared.Kept as declared-kept
 use Rattle.check_kin.specs.Kin.{Keeps, endsAt}
 use Rattle.check_pass.specs.Passes.{Passed}

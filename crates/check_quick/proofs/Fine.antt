@@ -26,7 +26,8 @@ use Rattle.check_order.specs.Order.{nodeKey, InOrder, Named, NamedAt}
 use Rattle.check_order.proofs.Unique.{node-key-by-node, ascending-unique}
 use Rattle.check_order.proofs.Parting.{roots-parted}
 use Rattle.check_cover.specs.Cover.{CoveredAt}
-use Rattle.check_tie.specs.Side.{Ready, AllTied}
+use Rattle.check_child.specs.Child.{Ready}
+use Rattle.check_tie.specs.Side.{AllTied}
 use Rattle.check_pass.specs.Passes.{Room, Each}
 use Rattle.check_pass.proofs.Records.{version-of, retired-of, free-zero, read-long, read-bytes, stands}
 use Rattle.check_seen.specs.Seen.{OwnAt}

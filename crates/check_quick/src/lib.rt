@@ -21,7 +21,7 @@ ghost use Rattle.local.specs.Test.{slotsTest};
 ghost use Rattle.nodehash.specs.Node.{leafHash, innerHash};
 ghost use Rattle.layout.specs.Stores.{storeIn, Has};
 ghost use Rattle.check_kin.specs.Kin.{Keeps};
-ghost use Rattle.check_tie.specs.Side.{Ready};
+ghost use Rattle.check_child.specs.Child.{Ready};
 ghost use Rattle.check_quick.specs.Look.{Sure, Alone, Linked};
 
 pub enum Look {

@@ -16,9 +16,9 @@ use Rattle.nodehash.specs.Node.{leafHash, innerHash}
 use Rattle.layout.specs.Headers.{header, headerOf}
 use Rattle.layout.specs.Slots.{SlotForm}
 use Rattle.layout.specs.Stores.{storeIn}
-use Rattle.layout.specs.Answer.{headerSays}
-use Rattle.layout.specs.declared.Header as declared-header
-use Rattle.layout.specs.declared.Header.the-variants.{Refused, Accepted}
+use Rattle.header.specs.Answer.{headerSays}
+use Rattle.header.specs.declared.Header as declared-header
+use Rattle.header.specs.declared.Header.the-variants.{Refused, Accepted}
 use Rattle.layout.proofs.Headers.{size-right-of, accepted}
 use Rattle.layout.proofs.Stores.{store-form}
 use Rattle.check_kin.specs.Kin.{Keeps}

@@ -1,3 +1,1 @@
-pub mod Children
-pub mod Sides
 pub mod Loops

@@ -37,10 +37,11 @@ use Rattle.hash.specs.Hash.{hashBytes}
 use Rattle.check_seen.specs.Seen.{OwnAt, Tied}
 use Rattle.check_seen.specs.Sums.{Under}
 use Rattle.check_seen.proofs.Sums.{under-record, under-other}
-use Rattle.check_tie.specs.declared.Parent as declared
-use Rattle.check_tie.specs.declared.Link as declared-link
-use Rattle.check_tie.specs.Side.{ParentIn, IsParent, IsLink, SideTied, TiedAt, SlotTied, TiedTo}
-use Rattle.check_tie.proofs.Children.{holds}
+use Rattle.check_child.specs.declared.Parent as declared
+use Rattle.check_child.specs.declared.Link as declared-link
+use Rattle.check_child.specs.Child.{IsParent, IsLink, SideTied}
+use Rattle.check_tie.specs.Side.{ParentIn, TiedAt, SlotTied, TiedTo}
+use Rattle.check_child.proofs.Children.{holds}
 
 -- the place of an inner record can be read
 pub inner-place : (x : Bytes) → isInner x ≡ true → {c : ℕ} → c ≡ countIn x → {y : Bytes} → y ≡ bitsIn x → length y ≡ 32 →

@@ -6,9 +6,10 @@ use Rattle.terms.specs.Bits.{Bytes}
 use Rattle.terms.specs.Fields.{le}
 use Rattle.terms.specs.Records.{Ask}
 use Rattle.meaning.specs.Calls.{Applied, apply}
+use Rattle.meaning.specs.Answers.{Exports}
 use Rattle.nodehash.specs.Node.{leafHash, innerHash}
 use Rattle.batch.specs.Asked.{Asks}
-use Rattle.promises.specs.Calls as calls
+use Rattle.promises.specs.Calls.{Does}
 
 -- Version 4, root 32, count 4.
 unfoldable pub answerBytes : ℕ → Bytes → ℕ → Bytes
@@ -22,4 +23,4 @@ told a = answerBytes (a .version) (a .root) (a .count)
 pub record ApplyExports (number : ℕ) (batch s f : Bytes) (r : ℕ) (t g : Bytes) : Type 0 where
   pub asked : Option (List Ask)
   pub asks : Asks batch asked
-  pub applied : calls.Exports (apply leafHash innerHash number asked) told s f r t g
+  pub applied : Exports (λ a. Does (apply leafHash innerHash number asked) s a t) told f r g

@@ -1,5 +1,4 @@
--- Document 02, request 2026-01: what comparing two versions answers for any bytes, and every byte of the room and of
--- its array. Assumes nothing.
+-- Document 02, request 2026-01: comparing two versions, over any bytes. Assumes nothing.
 use Prim.Native.Nat.{ℕ}
 use mathlib.Core.Path.{_≡_}
 use mathlib.Core.List.{List}
@@ -7,21 +6,16 @@ use lib.ListN.{length}
 use Rattle.terms.specs.Bits.{Bytes}
 use Rattle.terms.specs.Fields.{le}
 use Rattle.meaning.specs.Calls.{Answer}
-use Rattle.meaning.specs.Answers.{numberOf, toldOf, roomAfter}
+use Rattle.meaning.specs.Answers.{roomAfter, Exported}
 use Rattle.changed.specs.Changes.{Item, listBytes}
 use Rattle.changed.specs.Compare.{compare}
 use Rattle.promises.specs.Calls.{Does}
 
--- The number of records, 4 bytes little-endian; a refused call writes nothing.
-abbrev pub countBytes : Answer (List Item) → Bytes → Bytes
-countBytes a old = toldOf (λ xs. le 4 (length xs)) a old
-
 -- Comparing version first of the bytes s with version second, within a limit of visits, answers r; the room is left as
--- t, the array f for the number of records as g. The answer is the one that the definition gives for any bytes; the
--- store is as it was.
+-- t, the array f for the number of records, 4 bytes little-endian, as g. The answer is the one that the definition
+-- gives for any bytes; the store is as it was.
 pub record Changes (first second limit : ℕ) (s room f : Bytes) (r : ℕ) (t g : Bytes) : Type 0 where
   pub answer : Answer (List Item)
   pub does : Does (compare first second limit (length room)) s answer s
-  pub number : r ≡ numberOf answer
+  pub exported : Exported answer (λ xs. le 4 (length xs)) f r g
   pub list : t ≡ roomAfter listBytes answer room
-  pub told : g ≡ countBytes answer f

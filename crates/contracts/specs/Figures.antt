@@ -1,32 +1,23 @@
--- Document 02, request 2026-14: what the figures of a range of versions answer for any bytes, and every byte of the
--- room and of its array. Order: 1, 2; then 3 by full soundness; then 8, 9. Assumes nothing.
+-- Document 02, request 2026-14: the figures of a range of versions, over any bytes. Assumes nothing.
 use Prim.Native.Nat.{ℕ}
 use mathlib.Core.Path.{_≡_}
-use mathlib.Core.List.{List, map, _++_}
+use mathlib.Core.List.{map, _++_}
 use lib.ListN.{length}
 use Rattle.terms.specs.Bits.{Bytes}
 use Rattle.terms.specs.Fields.{flat, le}
 use Rattle.meaning.specs.Calls.{Answer}
-use Rattle.meaning.specs.Answers.{numberOf, toldOf, roomAfter}
-use Rattle.quarter.specs.Figures.{Figures as OfVersion, figuresBytes, Quarter, figures}
+use Rattle.meaning.specs.Answers.{roomAfter, Exported}
+use Rattle.quarter.specs.Figures.{figuresBytes, Quarter, figures}
 use Rattle.promises.specs.Calls.{Does}
 
--- The numbers of the versions, one after the other.
-abbrev pub eachBytes : List OfVersion → Bytes
-eachBytes fs = flat (map figuresBytes fs)
-
 -- The totals of a range: distinct records, then the sum of records over versions, 4 bytes little-endian each.
-abbrev pub totalsBytes : ℕ → ℕ → Bytes
-totalsBytes distinct records = le 4 distinct ++ le 4 records
-
-abbrev pub totalsAfter : Answer Quarter → Bytes → Bytes
-totalsAfter a old = toldOf (λ q. totalsBytes (q .distinct) (q .records)) a old
+abbrev pub totalsBytes : Quarter → Bytes
+totalsBytes q = le 4 (q .distinct) ++ le 4 (q .records)
 
 -- The figures of the bytes s from version first to last answer r; the room is left as t, the array f for the totals as
 -- g. The answer is the one that the definition gives for any bytes; the store is as it was.
 pub record Figures (first last : ℕ) (s room f : Bytes) (r : ℕ) (t g : Bytes) : Type 0 where
   pub answer : Answer Quarter
   pub does : Does (figures first last (length room)) s answer s
-  pub number : r ≡ numberOf answer
-  pub numbers : t ≡ roomAfter (λ q. eachBytes (q .each)) answer room
-  pub told : g ≡ totalsAfter answer f
+  pub exported : Exported answer totalsBytes f r g
+  pub numbers : t ≡ roomAfter (λ q. flat (map figuresBytes (q .each))) answer room

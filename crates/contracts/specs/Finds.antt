@@ -1,12 +1,11 @@
--- Document 02, request 2026-12: what the call answers for any bytes. Order: 12; then 1, 2; then 3 by full soundness;
--- then 8, 14; then 10, 11. Assumes nothing.
+-- Document 02, request 2026-12: what a forged proof would cost, over any bytes. Assumes nothing.
 use Prim.Native.Nat.{ℕ}
 use mathlib.Core.Path.{_≡_}
 use lib.ListN.{length}
 use Rattle.terms.specs.declared.Form.the-variants.{Counted as counted}
 use Rattle.terms.specs.Bits.{Bytes}
 use Rattle.meaning.specs.Calls.{Answer, refused}
-use Rattle.meaning.specs.Answers.{numberOf, toldOf}
+use Rattle.meaning.specs.Answers.{Exports}
 use Rattle.sha256.specs.Sha256.{sha256}
 use Rattle.layout.specs.Stores.{storeOf}
 use Rattle.promises.specs.Check.{Checked}
@@ -26,8 +25,5 @@ pub data Answers (s : Bytes) (v : ℕ) (k x : Bytes) : Answer Finding → Type 0
 
 -- What is found of the bytes x as a proof for the key k in version v of the bytes s: the call answers r, and the array
 -- f for what is found is left as g. A refused call writes nothing.
-pub record Finds (s : Bytes) (v : ℕ) (k x f : Bytes) (r : ℕ) (g : Bytes) : Type 0 where
-  pub answer : Answer Finding
-  pub answers : Answers s v k x answer
-  pub number : r ≡ numberOf answer
-  pub told : g ≡ toldOf findingBytes answer f
+abbrev pub Finds : Bytes → ℕ → Bytes → Bytes → Bytes → ℕ → Bytes → Type 0
+Finds s v k x f r g = Exports (Answers s v k x) findingBytes f r g

@@ -1,15 +1,13 @@
--- 2026-09 over the bytes of a store, sound or not: the number of grants of a version, the grant at a position of it,
--- and what each leaves in its array. Assumes nothing.
+-- 2026-09, over any bytes: the number of grants of a version, and the grant at a position of it. Assumes nothing.
 use Prim.Native.Nat.{ℕ}
-use mathlib.Core.Path.{_≡_}
 use mathlib.Core.List.{List, _++_}
-use mathlib.Core.Option.{Option, none, some}
+use mathlib.Core.Option.{Option, none}
 use Rattle.terms.specs.Bits.{Bytes}
-use Rattle.terms.specs.Records.{Grant, grant}
+use Rattle.terms.specs.Records.{Grant}
 use Rattle.terms.specs.Fields.{le}
 use Rattle.meaning.specs.Calls.{Answer}
 use Rattle.meaning.specs.Counting.{readNumberBy, readPositionBy}
-use Rattle.meaning.specs.Answers.{numberOf, toldOf}
+use Rattle.meaning.specs.Answers.{Exported}
 use Rattle.layout.specs.Stores.{storeOf}
 use Rattle.promises.specs.Headed.{byHeader}
 use Rattle.contracts.specs.Looking.{headerFor, lookingIn}
@@ -27,23 +25,15 @@ abbrev pub grantBytes : Grant → Bytes
 grantBytes x = x .key ++ x .value
 
 -- Reading the number of grants of version v of the bytes s answers r; the array f for the number is left as g.
-pub record NumberRead (s : Bytes) (by : Option (List ℕ)) (v : ℕ) (f : Bytes) (r : ℕ) (g : Bytes) : Type 0 where
-  pub answer : r ≡ numberOf (numberAnswer s by v)
-  pub count : g ≡ toldOf (le 8) (numberAnswer s by v) f
+pub record CountsBy (s : Bytes) (by : Option (List ℕ)) (v : ℕ) (f : Bytes) (r : ℕ) (g : Bytes) : Type 0 where
+  pub exported : Exported (numberAnswer s by v) (le 8) f r g
 
 abbrev pub Counts : Bytes → ℕ → Bytes → ℕ → Bytes → Type 0
-Counts s v f r g = NumberRead s none v f r g
-
-abbrev pub CountsBy : Bytes → List ℕ → ℕ → Bytes → ℕ → Bytes → Type 0
-CountsBy s table v f r g = NumberRead s (some table) v f r g
+Counts s v f r g = CountsBy s none v f r g
 
 -- Reading the grant at position i of version v of the bytes s answers r; the array f for the grant is left as g.
-pub record PositionRead (s : Bytes) (by : Option (List ℕ)) (v i : ℕ) (f : Bytes) (r : ℕ) (g : Bytes) : Type 0 where
-  pub answer : r ≡ numberOf (positionAnswer s by v i)
-  pub grant : g ≡ toldOf grantBytes (positionAnswer s by v i) f
+pub record ReadsAtBy (s : Bytes) (by : Option (List ℕ)) (v i : ℕ) (f : Bytes) (r : ℕ) (g : Bytes) : Type 0 where
+  pub exported : Exported (positionAnswer s by v i) grantBytes f r g
 
 abbrev pub ReadsAt : Bytes → ℕ → ℕ → Bytes → ℕ → Bytes → Type 0
-ReadsAt s v i f r g = PositionRead s none v i f r g
-
-abbrev pub ReadsAtBy : Bytes → List ℕ → ℕ → ℕ → Bytes → ℕ → Bytes → Type 0
-ReadsAtBy s table v i f r g = PositionRead s (some table) v i f r g
+ReadsAt s v i f r g = ReadsAtBy s none v i f r g

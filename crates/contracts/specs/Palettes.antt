@@ -1,17 +1,16 @@
--- Document 02, request 2026-04, over bytes, for every store, sound or damaged. Order: 12, for the list alone; then 1,
--- 2; then 8, as the single calls, 9. Assumes nothing.
+-- Document 02, request 2026-04: proving each key of a list, over any bytes. Assumes nothing.
 use Prim.Native.Nat.{ℕ}
 use mathlib.Core.Path.{_≡_}
 use mathlib.Core.Bool.{cond}
-use mathlib.Core.List.{List, [], _∷_, _++_}
-use mathlib.Core.Option.{Option, none, some}
+use mathlib.Core.List.{List, map}
+use mathlib.Core.Option.{Option, none}
 use lib.ListN.{length}
 use Rattle.terms.specs.Bits.{Bytes}
 use Rattle.terms.specs.Records.{Proof}
-use Rattle.terms.specs.Fields.{le}
+use Rattle.terms.specs.Fields.{flat, le}
 use Rattle.meaning.specs.Calls.{Answer, refused}
 use Rattle.meaning.specs.Proving.{proofBy}
-use Rattle.meaning.specs.Answers.{numberOf, toldOf, roomAfter}
+use Rattle.meaning.specs.Answers.{roomAfter, Exported}
 use Rattle.palette_rules.specs.Palette.{wholeKeys, keysIn, paletteOf, lengthTogether}
 use Rattle.layout.specs.Stores.{storeOf}
 use Rattle.proofrecords.specs.ProofBytes.{proofBytes}
@@ -28,27 +27,14 @@ paletteAnswer s by v list room =
 
 -- The proofs one after the other.
 abbrev pub proofsBytes : List Proof → Bytes
-proofsBytes [] = []
-proofsBytes (p ∷ ps) = proofBytes p ++ proofsBytes ps
-
--- The proofs for a list of keys in version v of the store s, into a room.
-abbrev pub palettedInto : Bytes → Option (List ℕ) → ℕ → Bytes → Bytes → Answer (List Proof)
-palettedInto s by v list room = paletteAnswer s by v list (length room)
-
--- The length of all together, 4 bytes little-endian; a refused call writes nothing.
-abbrev pub lengthBytes : Answer (List Proof) → Bytes → Bytes
-lengthBytes a old = toldOf (λ ps. le 4 (lengthTogether ps)) a old
+proofsBytes ps = flat (map proofBytes ps)
 
 -- Proving each key of a list in version v of the bytes s answers r; the room is left as t, the array f for the length
--- of all together as g.
-pub record ListProved (s : Bytes) (by : Option (List ℕ)) (v : ℕ) (list room f : Bytes) (r : ℕ) (t g : Bytes) :
+-- of all together, 4 bytes little-endian, as g.
+pub record PalettesBy (s : Bytes) (by : Option (List ℕ)) (v : ℕ) (list room f : Bytes) (r : ℕ) (t g : Bytes) :
     Type 0 where
-  pub answer : r ≡ numberOf (palettedInto s by v list room)
-  pub proofs : t ≡ roomAfter proofsBytes (palettedInto s by v list room) room
-  pub told : g ≡ lengthBytes (palettedInto s by v list room) f
+  pub exported : Exported (paletteAnswer s by v list (length room)) (λ ps. le 4 (lengthTogether ps)) f r g
+  pub proofs : t ≡ roomAfter proofsBytes (paletteAnswer s by v list (length room)) room
 
 abbrev pub Palettes : Bytes → ℕ → Bytes → Bytes → Bytes → ℕ → Bytes → Bytes → Type 0
-Palettes s v list room f r t g = ListProved s none v list room f r t g
-
-abbrev pub PalettesBy : Bytes → List ℕ → ℕ → Bytes → Bytes → Bytes → ℕ → Bytes → Bytes → Type 0
-PalettesBy s table v list room f r t g = ListProved s (some table) v list room f r t g
+Palettes s v list room f r t g = PalettesBy s none v list room f r t g

@@ -1,5 +1,4 @@
--- Document 02, request 2026-14, of the pocket writer over bytes, for every store, sound or damaged. Order: 12; then 1,
--- 2; then 8, 14, 3 or 17, 19, 9. Assumes nothing.
+-- Document 02, request 2026-14: the pocket prover, over any bytes. Assumes nothing.
 use Prim.Native.Nat.{ℕ}
 use mathlib.Core.Path.{_≡_}
 use mathlib.Core.Bool.{cond}
@@ -10,7 +9,7 @@ use Rattle.terms.specs.Bits.{Bytes}
 use Rattle.terms.specs.Records.{Proof}
 use Rattle.terms.specs.Fields.{le}
 use Rattle.meaning.specs.Calls.{Answer, refused}
-use Rattle.meaning.specs.Answers.{numberOf, toldOf, roomAfter}
+use Rattle.meaning.specs.Answers.{roomAfter, Exported}
 use Rattle.meaning.specs.Proving.{proofLength}
 use Rattle.pocket.specs.Pocket.{pocketProve}
 use Rattle.layout.specs.Headers.{headerOf}
@@ -24,13 +23,8 @@ unfoldable pub pocketAnswer : Bytes → ℕ → Bytes → ℕ → Answer Proof
 pocketAnswer s v k room =
     cond (eqb (length k) 32) (byHeader (headerOf counted s) (pocketProve (storeOf s) v k room)) (refused 12)
 
--- The proof of the profile for key k in version v of the store s, into a room.
-abbrev pub pocketInto : Bytes → ℕ → Bytes → Bytes → Answer Proof
-pocketInto s v k room = pocketAnswer s v k (length room)
-
 -- Proving the key k in version v of the bytes s in the profile answers r; the room is left as t, the array f for the
 -- proof's length, 4 bytes little-endian, as g.
 pub record PocketProves (s : Bytes) (v : ℕ) (k room f : Bytes) (r : ℕ) (t g : Bytes) : Type 0 where
-  pub answer : r ≡ numberOf (pocketInto s v k room)
-  pub proof : t ≡ roomAfter proofBytes (pocketInto s v k room) room
-  pub told : g ≡ toldOf (λ p. le 4 (proofLength p)) (pocketInto s v k room) f
+  pub exported : Exported (pocketAnswer s v k (length room)) (λ p. le 4 (proofLength p)) f r g
+  pub proof : t ≡ roomAfter proofBytes (pocketAnswer s v k (length room)) room

@@ -1,10 +1,9 @@
--- Document 01, 'Reading and proving' and 'Numbers of refusal', with 2026-03 and 2026-07, of the call that proves, over
--- bytes, for every store, sound or damaged. Order: 12; then 1, 2; then 8, 14, 3 or 17, 9. Assumes nothing.
+-- Document 01, 'Reading and proving', with 2026-03 and 2026-07: proving a key, over any bytes. Assumes nothing.
 use Prim.Native.Nat.{ℕ}
 use mathlib.Core.Path.{_≡_}
 use mathlib.Core.Bool.{cond}
 use mathlib.Core.List.{List}
-use mathlib.Core.Option.{Option, none, some}
+use mathlib.Core.Option.{Option, none}
 use lib.ListN.{length}
 use lib.Dec.{eqb}
 use Rattle.terms.specs.Bits.{Bytes}
@@ -12,7 +11,7 @@ use Rattle.terms.specs.Records.{Proof}
 use Rattle.terms.specs.Fields.{le}
 use Rattle.meaning.specs.Calls.{Answer, refused}
 use Rattle.meaning.specs.Proving.{proveBy, proofLength}
-use Rattle.meaning.specs.Answers.{numberOf, toldOf, roomAfter}
+use Rattle.meaning.specs.Answers.{roomAfter, Exported}
 use Rattle.layout.specs.Stores.{storeOf}
 use Rattle.proofrecords.specs.ProofBytes.{proofBytes}
 use Rattle.promises.specs.Headed.{byHeader}
@@ -24,23 +23,11 @@ unfoldable pub proveAnswer : Bytes → Option (List ℕ) → ℕ → Bytes → �
 proveAnswer s by v k room =
     cond (eqb (length k) 32) (byHeader (headerFor s by) (proveBy (lookingIn s by) (storeOf s) v k room)) (refused 12)
 
--- The proof for key k in version v of the store s, into a room.
-abbrev pub provedInto : Bytes → Option (List ℕ) → ℕ → Bytes → Bytes → Answer Proof
-provedInto s by v k room = proveAnswer s by v k (length room)
-
--- The proof's length, 4 bytes little-endian; a refused call writes nothing.
-abbrev pub lengthBytes : Answer Proof → Bytes → Bytes
-lengthBytes a old = toldOf (λ p. le 4 (proofLength p)) a old
-
--- Proving the key k in version v of the bytes s answers r; the room is left as t, the array f for the proof's length as
--- g.
-pub record KeyProved (s : Bytes) (by : Option (List ℕ)) (v : ℕ) (k room f : Bytes) (r : ℕ) (t g : Bytes) : Type 0 where
-  pub answer : r ≡ numberOf (provedInto s by v k room)
-  pub proof : t ≡ roomAfter proofBytes (provedInto s by v k room) room
-  pub told : g ≡ lengthBytes (provedInto s by v k room) f
+-- Proving the key k in version v of the bytes s answers r; the room is left as t, the array f for the proof's length,
+-- 4 bytes little-endian, as g.
+pub record ProvesBy (s : Bytes) (by : Option (List ℕ)) (v : ℕ) (k room f : Bytes) (r : ℕ) (t g : Bytes) : Type 0 where
+  pub exported : Exported (proveAnswer s by v k (length room)) (λ p. le 4 (proofLength p)) f r g
+  pub proof : t ≡ roomAfter proofBytes (proveAnswer s by v k (length room)) room
 
 abbrev pub Proves : Bytes → ℕ → Bytes → Bytes → Bytes → ℕ → Bytes → Bytes → Type 0
-Proves s v k room f r t g = KeyProved s none v k room f r t g
-
-abbrev pub ProvesBy : Bytes → List ℕ → ℕ → Bytes → Bytes → Bytes → ℕ → Bytes → Bytes → Type 0
-ProvesBy s table v k room f r t g = KeyProved s (some table) v k room f r t g
+Proves s v k room f r t g = ProvesBy s none v k room f r t g

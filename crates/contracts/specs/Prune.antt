@@ -3,9 +3,10 @@ use Prim.Native.Nat.{ℕ}
 use Rattle.terms.specs.Bits.{Bytes}
 use Rattle.terms.specs.Fields.{le}
 use Rattle.meaning.specs.Calls.{prune}
-use Rattle.promises.specs.Calls as calls
+use Rattle.meaning.specs.Answers.{Exports}
+use Rattle.promises.specs.Calls.{Does}
 
 -- Pruning the bytes s to n, with the array f for the count, in four bytes: what is answered, and what is left of s and
 -- of f.
 abbrev pub PruneExports : ℕ → Bytes → Bytes → ℕ → Bytes → Bytes → Type 0
-PruneExports n s f r t g = calls.Exports (prune n) (le 4) s f r t g
+PruneExports n s f r t g = Exports (λ a. Does (prune n) s a t) (le 4) f r g

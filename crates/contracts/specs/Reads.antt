@@ -1,16 +1,14 @@
--- Document 01, 'Reading and proving' and 'Numbers of refusal', with 2026-07, of the root read and the key read over
--- bytes, for every store, sound or not. Order: 12; then 1, 2; then 8; then 3 or 17, the first met. Assumes nothing.
+-- Document 01, 'Reading and proving', with 2026-07: the root read and the key read, over any bytes. Assumes nothing.
 use Prim.Native.Nat.{ℕ}
-use mathlib.Core.Path.{_≡_}
 use mathlib.Core.Bool.{cond}
 use mathlib.Core.List.{List}
-use mathlib.Core.Option.{Option, none, some}
+use mathlib.Core.Option.{Option, none}
 use lib.ListN.{length}
 use lib.Dec.{eqb}
 use Rattle.terms.specs.Bits.{Bytes}
 use Rattle.meaning.specs.Calls.{Answer, refused}
 use Rattle.meaning.specs.Reading.{Verdict, readRootBy, readKeyBy}
-use Rattle.meaning.specs.Answers.{numberOf, toldOf, foundAfter}
+use Rattle.meaning.specs.Answers.{foundBytes, Exported}
 use Rattle.nodehash.specs.Node.{leafHash, innerHash}
 use Rattle.layout.specs.Stores.{storeOf}
 use Rattle.promises.specs.Headed.{byHeader}
@@ -25,28 +23,16 @@ unfoldable pub keyAnswer : Bytes → Option (List ℕ) → ℕ → Bytes → Ans
 keyAnswer s by v k =
     cond (eqb (length k) 32) (byHeader (headerFor s by) (readKeyBy (lookingIn s by) (storeOf s) v k)) (refused 12)
 
--- The root's 32 bytes; a refused call writes nothing.
-abbrev pub rootBytes : Answer Bytes → Bytes → Bytes
-rootBytes a old = toldOf (λ root. root) a old
-
--- Reading the root of version v of the bytes s answers r; the array f for the root is left as g.
-pub record RootRead (s : Bytes) (by : Option (List ℕ)) (v : ℕ) (f : Bytes) (r : ℕ) (g : Bytes) : Type 0 where
-  pub answer : r ≡ numberOf (rootAnswer s by v)
-  pub root : g ≡ rootBytes (rootAnswer s by v) f
+-- Reading the root of version v of the bytes s, by scans or by a table, answers r; the array f for it is left as g.
+pub record ReadsRootBy (s : Bytes) (by : Option (List ℕ)) (v : ℕ) (f : Bytes) (r : ℕ) (g : Bytes) : Type 0 where
+  pub exported : Exported (rootAnswer s by v) (λ root. root) f r g
 
 abbrev pub ReadsRoot : Bytes → ℕ → Bytes → ℕ → Bytes → Type 0
-ReadsRoot s v f r g = RootRead s none v f r g
-
-abbrev pub ReadsRootBy : Bytes → List ℕ → ℕ → Bytes → ℕ → Bytes → Type 0
-ReadsRootBy s table v f r g = RootRead s (some table) v f r g
+ReadsRoot s v f r g = ReadsRootBy s none v f r g
 
 -- Reading the key k in version v of the bytes s answers r; the array f for what is found is left as g.
-pub record KeyRead (s : Bytes) (by : Option (List ℕ)) (v : ℕ) (k f : Bytes) (r : ℕ) (g : Bytes) : Type 0 where
-  pub answer : r ≡ numberOf (keyAnswer s by v k)
-  pub found : g ≡ foundAfter (keyAnswer s by v k) f
+pub record ReadsKeyBy (s : Bytes) (by : Option (List ℕ)) (v : ℕ) (k f : Bytes) (r : ℕ) (g : Bytes) : Type 0 where
+  pub exported : Exported (keyAnswer s by v k) foundBytes f r g
 
 abbrev pub ReadsKey : Bytes → ℕ → Bytes → Bytes → ℕ → Bytes → Type 0
-ReadsKey s v k f r g = KeyRead s none v k f r g
-
-abbrev pub ReadsKeyBy : Bytes → List ℕ → ℕ → Bytes → Bytes → ℕ → Bytes → Type 0
-ReadsKeyBy s table v k f r g = KeyRead s (some table) v k f r g
+ReadsKey s v k f r g = ReadsKeyBy s none v k f r g

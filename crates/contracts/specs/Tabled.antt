@@ -6,9 +6,10 @@ use Rattle.terms.specs.Bits.{Bytes}
 use Rattle.terms.specs.Fields.{le}
 use Rattle.terms.specs.Records.{Ask}
 use Rattle.meaning.specs.Calls.{apply, prune}
+use Rattle.meaning.specs.Answers.{Exports}
 use Rattle.nodehash.specs.Node.{leafHash, innerHash}
 use Rattle.batch.specs.Asked.{Asks}
-use Rattle.index_rules.specs.Tables as tables
+use Rattle.index_rules.specs.Tables.{DoesBoth}
 use Rattle.contracts.specs.Apply.{told}
 
 -- Applying a batch to the bytes s and their table as a number, with the array f for the answer: what is answered, and
@@ -17,9 +18,9 @@ pub record AppliesBoth (number : ℕ) (batch s : Bytes) (table : List ℕ) (f : 
     (g : Bytes) : Type 0 where
   pub asked : Option (List Ask)
   pub asks : Asks batch asked
-  pub applied : tables.ExportsBoth (apply leafHash innerHash number asked) told s table f r t u g
+  pub applied : Exports (λ a. DoesBoth (apply leafHash innerHash number asked) s table a t u) told f r g
 
 -- Pruning the bytes s and their table to n, with the array f for the count, in four bytes: what is answered, and what
 -- is left of each.
 abbrev pub PrunesBoth : ℕ → Bytes → List ℕ → Bytes → ℕ → Bytes → List ℕ → Bytes → Type 0
-PrunesBoth n s table f r t u g = tables.ExportsBoth (prune n) (le 4) s table f r t u g
+PrunesBoth n s table f r t u g = Exports (λ a. DoesBoth (prune n) s table a t u) (le 4) f r g

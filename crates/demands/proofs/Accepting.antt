@@ -7,7 +7,8 @@ use mathlib.Core.Logic.{_↔_}
 use Rattle.terms.specs.Bits.{Bytes}
 use Rattle.meaning.specs.Calls.{Answer}
 use Rattle.meaning.specs.Reading.{Verdict, present, absent}
-use Rattle.meaning.specs.Answers.{numberOf, foundBytes, foundAfter}
+use Rattle.meaning.specs.Answers.{numberOf, toldOf, foundBytes}
+use Rattle.meaning.proofs.Told.{seen}
 use Rattle.checker.specs.Holding.{Holds}
 use Rattle.nodehash.specs.Node.{leafHash, innerHash}
 use Rattle.verify_rules.specs.Verify.{Judged, holding, not-holding, Told, not-32-bytes, not-in-form, in-form}
@@ -24,9 +25,9 @@ found-tells absent absent e = refl
 
 module _ {root k x f : Bytes} {r : ℕ} {g : Bytes} (w : Verifies root k x f r g) (answer : Verdict) where
   there : (r ≡ 0) × (g ≡ foundBytes answer) → Accepts root k x answer
-  there z = go (w .told) (sym (w .answer) ∙ z .0) (sym (w .found) ∙ z .1)
+  there z = let x = seen w in go (x .said) (sym (x .exported .number) ∙ z .0) (sym (x .exported .told) ∙ z .1)
     where
-      go : {a : Answer Verdict} → Told Judged root k x a → numberOf a ≡ 0 → foundAfter a f ≡ foundBytes answer → Accepts root k x answer
+      go : {a : Answer Verdict} → Told Judged root k x a → numberOf a ≡ 0 → toldOf foundBytes a f ≡ foundBytes answer → Accepts root k x answer
       go (not-32-bytes n) e d = absurd (omega arith)
       go (not-in-form s n) e d = absurd (omega arith)
       go (in-form s is (not-holding n)) e d = absurd (omega arith)

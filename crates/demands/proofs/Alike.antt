@@ -2,7 +2,7 @@
 -- nothing.
 use Prim.Native.Nat.{ℕ, _*_}
 use native.Mathlib.Omega.{arith}
-use mathlib.Core.Path.{_≡_, refl, ap, ap₂, sym, _∙_, fun-ext}
+use mathlib.Core.Path.{_≡_, refl, ap, ap₂, sym, _∙_, subst, fun-ext}
 use mathlib.Core.Bool.{cond}
 use mathlib.Core.List.{List}
 use mathlib.Core.Option.{none}
@@ -10,15 +10,13 @@ use lib.ListN.{length}
 use lib.Dec.{eqb, ltb}
 use Rattle.terms.specs.declared.Form.the-variants.{Counted as counted}
 use Rattle.terms.specs.Bits.{Bytes}
-use Rattle.terms.specs.Fields.{le}
 use Rattle.terms.specs.Records.{Proof, Store}
-use Rattle.meaning.specs.Tree.{VTree, hash, unversioned, grantsIn}
+use Rattle.meaning.specs.Tree.{VTree, grantsIn}
 use Rattle.meaning.specs.Store.{treeAtVersion}
 use Rattle.meaning.specs.Sound.{Kept}
 use Rattle.meaning.specs.Calls.{Answer, refused, accepted, Result, isKept}
-use Rattle.meaning.specs.Reading.{answerOf}
-use Rattle.meaning.specs.Counting.{grantAt}
-use Rattle.meaning.specs.Answers.{numberOf, toldOf, foundBytes, roomAfter}
+use Rattle.meaning.specs.Answers.{numberOf, roomAfter}
+use Rattle.meaning.proofs.Told.{one-exported}
 use Rattle.meaning.specs.Proving.{proof, fitted, prove}
 use Rattle.shown.proofs.Theorems.{kept-test, same-tree-same-proofs}
 use Rattle.changed.specs.Changes.{Item, changed, items, itemSize, listBytes}
@@ -31,15 +29,11 @@ use Rattle.promises.specs.Calls.{SoundBytes, Does, wrong-header, not-sound, ref
 use Rattle.palette_rules.specs.Palette.{wholeKeys, keysIn, inTurn, fittedTogether, palette}
 use Rattle.move_rules.proofs.Theorems.{comparedBy, by-trees}
 use Rattle.proofrecords.specs.ProofBytes.{proofBytes}
-use Rattle.contracts.specs.Proves.{proveAnswer, lengthBytes}
+use Rattle.contracts.specs.Proves.{proveAnswer}
 use Rattle.contracts.specs.Palettes.{paletteAnswer, proofsBytes}
-use Rattle.contracts.specs.Palettes as palettes
 use Rattle.contracts.specs.Changes as listed
-use Rattle.contracts.specs.Changes.{countBytes}
-use Rattle.contracts.specs.Numbers.{grantBytes}
-use Rattle.demands.specs.Claims.{treeOfVersion, grantsOfVersion, ReadsAs, ComparesAs}
-use Rattle.demands.proofs.Showing.{root-of-tree, key-of-grants}
-use Rattle.demands.proofs.Numbered.{sound-is-numbered}
+use Rattle.demands.specs.Claims.{treeOfVersion, grantsOfVersion, ReadsFor, ReadsAs, ComparesAs}
+use Rattle.demands.proofs.Reading.{sound-reads-for}
 
 -- a sound store is asked itself
 asked : {A : Type 0} {call : Store → Result A} {s t : Bytes} {a : Answer A} → SoundBytes s → Does call s a t → a ≡ call (storeOf s) .answer
@@ -68,34 +62,16 @@ module _ {t s : Bytes} (a : SoundBytes t) (b : SoundBytes s) {v w : ℕ} (kept :
   -- Versions with the same tree read alike.
   pub same-tree-reads-as : ReadsAs t v s w
   same-tree-reads-as = record {
-    root = λ x y.
-        let m = root-of-tree a kept x in
-        let n = root-of-tree b kept′ y in
-        (m .0, n .0, m .1 ∙ ap (λ u. hash leafHash innerHash (unversioned u)) e ∙ sym (n .1));
-    key = λ {k} whole x y.
-        let m = key-of-grants a kept whole x in
-        let n = key-of-grants b kept′ whole y in
-        (m .0, n .0, m .1 ∙ ap (λ u. foundBytes (answerOf k (grantsIn u))) e ∙ sym (n .1));
-    number = λ x y.
-        let m = sound-is-numbered a v kept .number x in
-        let n = sound-is-numbered b w kept′ .number y in
-        (m .0 ∙ sym (n .0), m .1 ∙ ap (λ u. le 8 (length (grantsIn u))) e ∙ sym (n .1));
-    position = λ {i} {f} x y.
-        let m = sound-is-numbered a v kept .position x in
-        let n = sound-is-numbered b w kept′ .position y in
-        (m .0 ∙ ap (λ u. numberOf (grantAt (grantsIn u) i)) e ∙ sym (n .0), m .1 ∙ ap (λ u. toldOf grantBytes (grantAt (grantsIn u) i) f) e ∙ sym (n .1));
-    proof = λ {k} {room} {f} x y.
-        let is = same-proved k (length room) in (
-          x .answer ∙ ap (λ p. numberOf p) is ∙ sym (y .answer),
-          x .proof ∙ ap (λ p. roomAfter proofBytes p room) is ∙ sym (y .proof),
-          x .told ∙ ap (λ p. lengthBytes p f) is ∙ sym (y .told),
-        );
-    palette = λ {list} {room} {f} x y.
-        let is = same-palette list (length room) in (
-          x .answer ∙ ap (λ p. numberOf p) is ∙ sym (y .answer),
-          x .proofs ∙ ap (λ p. roomAfter proofsBytes p room) is ∙ sym (y .proofs),
-          x .told ∙ ap (λ p. palettes.lengthBytes p f) is ∙ sym (y .told),
-        );
+    grants = grantsOfVersion s w;
+    reads = (subst (ReadsFor t v) (ap grantsIn e) (sound-reads-for a v kept), sound-reads-for b w kept′);
+    proof = λ {k} {room} x y.
+        let is = same-proved k (length room) in
+        let (m, d) = one-exported is (x .exported) (y .exported) in
+        (m, x .proof ∙ ap (λ p. roomAfter proofBytes p room) is ∙ sym (y .proof), d);
+    palette = λ {list} {room} x y.
+        let is = same-palette list (length room) in
+        let (m, d) = one-exported is (x .exported) (y .exported) in
+        (m, x .proofs ∙ ap (λ p. roomAfter proofsBytes p room) is ∙ sym (y .proofs), d);
   }
 
 -- a comparison of kept versions goes by their trees
@@ -114,13 +90,11 @@ pub same-trees-compare-as : {t s : Bytes} → SoundBytes t → SoundBytes s → 
     Kept (storeOf t) v → Kept (storeOf t) v′ → Kept (storeOf s) w → Kept (storeOf s) w′ →
     treeOfVersion t v ≡ treeOfVersion s w → treeOfVersion t v′ ≡ treeOfVersion s w′ → ComparesAs t v v′ s w w′
 same-trees-compare-as {t} {s} a b {v} {v′} {w} {w′} kv kv′ kw kw′ e e′ = record {
-  same = λ {limit} {room} {f} x y.
+  same = λ {limit} {room} x y.
       let is : x .answer ≡ y .answer =
       asked a (x .does) ∙ compared-kept (storeOf t) v v′ limit (length room) kv kv′ ∙ ap₂ (comparison limit (length room)) e e′
       ∙ sym (asked b (y .does) ∙ compared-kept (storeOf s) w w′ limit (length room) kw kw′)
-      in (
-        x .number ∙ ap (λ p. numberOf p) is ∙ sym (y .number),
-        x .list ∙ ap (λ p. roomAfter listBytes p room) is ∙ sym (y .list),
-        x .told ∙ ap (λ p. countBytes p f) is ∙ sym (y .told),
-      );
+      in
+      let (m, d) = one-exported is (x .exported) (y .exported) in
+      (m, x .list ∙ ap (λ p. roomAfter listBytes p room) is ∙ sym (y .list), d);
 }

@@ -9,18 +9,18 @@ use lib.ListN.{length}
 use lib.Dec.{leb, ltb}
 use borrow.Author.Tests.{ltb-false, leb-true}
 use Rattle.terms.specs.Bits.{Bytes}
+use Rattle.terms.specs.Fields.{le}
 use Rattle.terms.specs.Records.{Store}
 use Rattle.terms.proofs.Tests.{and-left, and-right}
 use Rattle.meaning.specs.Sound.{Kept}
 use Rattle.meaning.specs.Calls.{Answer, refused, accepted, refuse, isKept}
-use Rattle.meaning.specs.Answers.{numberOf, roomAfter}
+use Rattle.meaning.specs.Answers.{numberOf, roomAfter, toldOf}
 use Rattle.nodehash.specs.Node.{leafHash, innerHash}
 use Rattle.layout.specs.Stores.{storeOf}
 use Rattle.promises.specs.Calls.{SoundBytes, Does, wrong-header, not-sound, refuses, accepts}
 use Rattle.changed.specs.Changes.{Item, items, itemSize, listBytes}
 use Rattle.changed.specs.Compare.{changesOf, visitsOf, compare}
 use Rattle.changed.proofs.Theorems.{list-is-what-changed, swapped-undoes, equal-versions-give-none, visits-symmetric, visits-at-most-32769, list-at-most-16384}
-use Rattle.contracts.specs.Changes.{countBytes}
 use Rattle.contracts.specs.Contracts.{Changes}
 use Rattle.demands.specs.Claims.{ListsChanges}
 use Rattle.demands.proofs.Refusals.{no-refusal, never-0, header-numbers}
@@ -82,10 +82,10 @@ module _ (st : Store) (first second limit room : ℕ) where
 -- An accepted comparison lists what changed.
 pub accepted-comparison-lists-changes : (first second limit : ℕ) {s room f t g : Bytes} → Changes first second limit s room f 0 t g →
     ListsChanges first second limit s room t g
-accepted-comparison-lists-changes first second limit {s} {room} {f} {t} {g} w = go (w .answer) (w .does) (w .number) (w .list) (w .told)
+accepted-comparison-lists-changes first second limit {s} {room} {f} {t} {g} w = go (w .answer) (w .does) (w .exported .number) (w .list) (w .exported .told)
   where
     lists : (xs : List Item) → SoundBytes s → Given (storeOf s) first second limit xs → t ≡ roomAfter listBytes (accepted xs) room →
-        g ≡ countBytes (accepted xs) f → ListsChanges first second limit s room t g
+        g ≡ le 4 (length xs) → ListsChanges first second limit s room t g
     lists xs h u p q =
         let st = storeOf s in record {
           sound = h;
@@ -95,7 +95,7 @@ accepted-comparison-lists-changes first second limit {s} {room} {f} {t} {g} w = 
           undoes = swapped-undoes leafHash innerHash st (h .sound) first second (u .a) (u .b);
           equal = λ e. ap (changesOf st first) (sym e) ∙ equal-versions-give-none leafHash innerHash st (h .sound) first (u .a);
           room-holds = p ∙ ap (λ ys. roomAfter listBytes (accepted ys) room) (sym (u .list));
-          told = q ∙ ap (λ ys. countBytes (accepted ys) f) (sym (u .list));
+          told = q ∙ ap (λ ys. le 4 (length ys)) (sym (u .list));
           short = list-at-most-16384 leafHash innerHash st (h .sound) first second (u .a) (u .b);
           within = u .few;
           symmetric = visits-symmetric st first second;
@@ -103,7 +103,7 @@ accepted-comparison-lists-changes first second limit {s} {room} {f} {t} {g} w = 
         }
 
     go : (x : Answer (List Item)) {y : Bytes} → Does (compare first second limit (length room)) s x y → 0 ≡ numberOf x → t ≡ roomAfter listBytes x room →
-        g ≡ countBytes x f → ListsChanges first second limit s room t g
+        g ≡ toldOf (λ ys. le 4 (length ys)) x f → ListsChanges first second limit s room t g
     go (refused m) (wrong-header e) z p q = absurd (never-0 (1 ∷ 2 ∷ []) refl (header-numbers s e) (sym z))
     go (refused m) (not-sound e n) z p q = absurd (omega arith)
     go (refused m) (refuses h e) z p q = absurd (not-0 (storeOf s) first second limit (length room) (e ∙ ap refused (sym z)))

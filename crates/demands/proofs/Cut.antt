@@ -24,7 +24,8 @@ use Rattle.layout.specs.Sizes.{slotSize}
 use Rattle.layout.specs.Stores.{slotIn, storeOf, storeBytes}
 use Rattle.layout.proofs.Stores.{slot-in}
 use Rattle.promises.proofs.Calls.{sound-form, sound-back}
-use Rattle.promises.specs.Calls.{SoundBytes, accepts, exports-refusal, exports-answer}
+use Rattle.meaning.specs.Answers.{exports-refusal, exports-answer}
+use Rattle.promises.specs.Calls.{SoundBytes, accepts}
 use Rattle.contracts.specs.Contracts.{Prunes}
 use Rattle.demands.specs.Claims.{Pruned}
 use Rattle.demands.proofs.Stored.{stored-is, stored-sound, prune-form}

@@ -19,21 +19,23 @@ use Rattle.terms.proofs.Tests.{and-left, and-right}
 use Rattle.meaning.specs.Store.{formatted}
 use Rattle.meaning.specs.Sound.{Sound}
 use Rattle.meaning.specs.Calls.{Answer, refused, accepted, Result, Applied, apply, prune}
-use Rattle.meaning.specs.Answers.{numberOf, toldOf}
+use Rattle.meaning.specs.Answers.{numberOf, toldOf, Exports, exports-refusal, exports-answer}
+use Rattle.meaning.proofs.Told.{exported-as}
 use Rattle.meaning.specs.Reading.{readRoot}
-use Rattle.meaning.specs.Desk.{Row, applies, prunes, reads, RowHolds, table, gaps, notAbove, A, B, C, D, a, b, c, d, s₁, g₅, g₉}
+use Rattle.meaning.specs.Desk.{Row, applies, prunes, reads, table, four, s₁}
+use Rattle.meaning.specs.DeskGaps.{RowHolds, gaps, notAbove, g₅, g₉}
 use Rattle.meaning.proofs.Desk.{desk, desk-gaps, not-above}
 use Rattle.histories.proofs.Theorems.{formatted-is-sound, prune-keeps-sound, apply-keeps-sound, refused-apply-writes-nothing, refused-prune-writes-nothing}
 use Rattle.nodehash.specs.Node.{leafHash, innerHash}
 use Rattle.layout.specs.Stores.{storeOf, storeBytes}
 use Rattle.batch.specs.Asked.{asksBytes, AskedBy}
 use Rattle.batch.proofs.Batches.{asks-one}
-use Rattle.promises.specs.Calls.{refuses, accepts, Exports, exports-refusal, exports-answer}
+use Rattle.promises.specs.Calls.{Does, refuses, accepts}
 use Rattle.promises.proofs.Calls.{one-export}
-use Rattle.contracts.specs.Reads.{rootAnswer, rootBytes}
+use Rattle.contracts.specs.Reads.{rootAnswer}
 use Rattle.contracts.specs.Apply.{told}
 use Rattle.contracts.specs.Contracts.{Applies}
-use Rattle.demands.specs.Desk.{RowOverBytes, DeskOverBytes}
+use Rattle.demands.specs.Desk.{RowOverBytes}
 use Rattle.demands.proofs.Hashes.{leaf-hash-whole, inner-hash-whole}
 use Rattle.demands.proofs.Stored.{stored-is, stored-sound, formatted-form, prune-form, apply-form}
 
@@ -76,25 +78,25 @@ Whole st = (st .form ≡ counted) × Sound leafHash innerHash st
 -- a call on the bytes of a sound store, for C, by its outcome on the store
 module _ {R : Type 0} (call : Store → Result R) (told : R → Bytes) (st : Store) (s : Whole st) where
   exported : (answer : Answer R) (end : Store) (f : Bytes) → call st ≡ record { answer = answer; store = end } →
-      ((n : ℕ) → answer ≡ refused n → end ≡ st) → Exports call told (storeBytes st) f (numberOf answer) (storeBytes end) (toldOf told answer f)
+      ((n : ℕ) → answer ≡ refused n → end ≡ st) → Exports (λ a. Does call (storeBytes st) a (storeBytes end)) told f (numberOf answer) (toldOf told answer f)
   exported (refused n) end f e same =
       let at = ap call (stored-is st (s .0) (s .1)) ∙ e in
-      subst (λ x. Exports call told (storeBytes st) f n (storeBytes x) f) (sym (same n refl))
+      subst (λ x. Exports (λ a. Does call (storeBytes st) a (storeBytes x)) told f n f) (sym (same n refl))
       (exports-refusal (refuses (stored-sound st (s .0) (s .1)) (ap (λ o. o .answer) at)))
   exported (accepted a) end f e same =
       let at = ap call (stored-is st (s .0) (s .1)) ∙ e in
-      subst (λ x. Exports call told (storeBytes st) f 0 (storeBytes x) (told a)) (ap (λ o. o .store) at)
+      subst (λ x. Exports (λ b. Does call (storeBytes st) b (storeBytes x)) told f 0 (told a)) (ap (λ o. o .store) at)
       (exports-answer (accepts (stored-sound st (s .0) (s .1)) (ap (λ o. o .answer) at)))
 
   exports-exactly : (answer : Answer R) (end : Store) → call st ≡ record { answer = answer; store = end } →
       ((n : ℕ) → answer ≡ refused n → end ≡ st) → (f : Bytes) (r : ℕ) (t g : Bytes) →
-      Exports call told (storeBytes st) f r t g ↔ ((r ≡ numberOf answer) × (t ≡ storeBytes end) × (g ≡ toldOf told answer f))
+      Exports (λ a. Does call (storeBytes st) a t) told f r g ↔ ((r ≡ numberOf answer) × (t ≡ storeBytes end) × (g ≡ toldOf told answer f))
   exports-exactly answer end e same f r t g = (there, back)
     where
-      there : Exports call told (storeBytes st) f r t g → (r ≡ numberOf answer) × (t ≡ storeBytes end) × (g ≡ toldOf told answer f)
+      there : Exports (λ a. Does call (storeBytes st) a t) told f r g → (r ≡ numberOf answer) × (t ≡ storeBytes end) × (g ≡ toldOf told answer f)
       there w = one-export w (exported answer end f e same)
 
-      back : (r ≡ numberOf answer) × (t ≡ storeBytes end) × (g ≡ toldOf told answer f) → Exports call told (storeBytes st) f r t g
+      back : (r ≡ numberOf answer) × (t ≡ storeBytes end) × (g ≡ toldOf told answer f) → Exports (λ a. Does call (storeBytes st) a t) told f r g
       back w = rw (w .0, w .1, w .2) (exported answer end f e same)
 
 -- a row on a sound store, with a batch in form
@@ -115,7 +117,7 @@ row-over-bytes (applies st number batch answer end) e w = λ f r t g.
     let said =
     exports-exactly (apply leafHash innerHash number (some batch)) told st (w .0) answer end e
     (λ n h. sym (ap (λ o. o .store) e) ∙ refused-apply-writes-nothing leafHash innerHash number (some batch) st n (ap (λ o. o .answer) e ∙ h)) f r t g in (
-      λ x. said .0 (subst (λ o. Exports (apply leafHash innerHash number o) told (storeBytes st) f r t g)
+      λ x. said .0 (subst (λ o. Exports (λ a. Does (apply leafHash innerHash number o) (storeBytes st) a t) told f r g)
           (asks-one (asksBytes batch) (x .asked) (some batch) (x .asks) is) (x .applied)),
       λ x. record { asked = some batch; asks = is; applied = said .1 x },
     )
@@ -124,11 +126,8 @@ row-over-bytes (prunes st n answer end) e w = λ f r t g.
     (λ m h. sym (ap (λ o. o .store) e) ∙ refused-prune-writes-nothing leafHash innerHash n st m (ap (λ o. o .answer) e ∙ h)) f r t g
 row-over-bytes (reads st v answer) e w = λ f r g.
     let is = root-said st w v ∙ e in (
-      λ x. (x .answer ∙ ap (λ a. numberOf a) is, x .root ∙ ap (λ a. rootBytes a f) is),
-      λ x. record {
-        answer = x .0 ∙ ap (λ a. numberOf a) (sym is);
-        root = x .1 ∙ ap (λ a. rootBytes a f) (sym is);
-      },
+      λ x. let d = exported-as is (x .exported) in (d .number, d .told),
+      λ x. record { exported = exported-as (sym is) (record { number = x .0; told = x .1 }) },
     )
 
 rows-over-bytes : (rows : List Row) → All (RowHolds leafHash innerHash) rows → All RowReady rows → All RowOverBytes rows
@@ -181,7 +180,7 @@ m1 : Whole (s₁ leafHash innerHash)
 m1 = sound-after (rowAt 0) (desk leafHash innerHash .0) (s20, refl, refl, refl)
 
 -- Each row of the desk's table is what the contracts say of the bytes.
-pub desk-over-bytes : DeskOverBytes
+pub desk-over-bytes : All RowOverBytes (table leafHash innerHash)
 desk-over-bytes =
     let h = desk leafHash innerHash in
     let fresh = formatted-is-sound leafHash innerHash in
@@ -271,7 +270,7 @@ not-above-over-bytes =
 
 -- So writing nothing fails at M1: the bytes that the contract leaves are not those that were lent.
 pub writing-nothing-fails-at-M1 : {f t g : Bytes} {r : ℕ} →
-    Applies 1 (asksBytes (insert A a ∷ insert B b ∷ insert C c ∷ insert D d ∷ [])) (storeBytes (formatted 20)) f r t g →
+    Applies 1 (asksBytes four) (storeBytes (formatted 20)) f r t g →
     t ≡ storeBytes (formatted 20) → ⊥
 unfolding formatted
 writing-nothing-fails-at-M1 {f} {t} {g} {r} w e =

@@ -3,7 +3,7 @@
 use Prim.Native.Nat.{ℕ}
 use native.Mathlib.Omega.{arith}
 use mathlib.Core.Path.{_≡_, refl, sym, subst}
-use mathlib.Core.Logic.{inl, inr}
+use mathlib.Core.Logic.{_⊎_, inl, inr}
 use mathlib.Core.Bool.{Bool, true, false, cond}
 use mathlib.Core.List.{[], _∷_, _++_}
 use lib.ListN.{length}
@@ -12,17 +12,19 @@ use borrow.Author.Tests.{eqb-true, eqb-false}
 use Rattle.terms.specs.declared.Form.the-variants.{Plain as plain, Counted as counted}
 use Rattle.terms.specs.Bits.{Bytes, Byte, All}
 use Rattle.terms.specs.Records.{Store}
+use Rattle.meaning.specs.Sound.{Sound}
 use Rattle.meaning.specs.Calls.{Answer, refused, accepted, Result, apply, prune}
 use Rattle.meaning.specs.Reading.{Verdict, Trouble, lostRecord, spoiltRecord, readKey, readRoot}
 use Rattle.meaning.specs.Proving.{prove, proof}
 use Rattle.meaning.specs.Counting.{readNumber, readPosition}
-use Rattle.meaning.specs.Answers.{numberOf}
+use Rattle.meaning.specs.Answers.{numberOf, Exports, exports-refusal, exports-answer}
+use Rattle.meaning.proofs.Told.{seen}
 use Rattle.nodehash.specs.Node.{leafHash, innerHash}
 use Rattle.layout.specs.Headers.{Headed, refusal, header, sizeRight, headerOf}
 use Rattle.layout.specs.Stores.{storeOf}
 use Rattle.contracts.specs.Format.{formatAnswer}
 use Rattle.promises.specs.Check as check
-use Rattle.promises.specs.Calls.{Does, wrong-header, not-sound, refuses, accepts, Exports, exports-refusal, exports-answer}
+use Rattle.promises.specs.Calls.{Does, wrong-header, not-sound, refuses, accepts}
 use Rattle.promises.specs.Headed.{byHeader}
 use Rattle.contracts.specs.Reads.{rootAnswer, keyAnswer}
 use Rattle.contracts.specs.Numbers.{numberAnswer, positionAnswer}
@@ -34,10 +36,12 @@ use Rattle.verify_rules.specs.Verify.{Judged, Told, not-32-bytes, not-in-form, 
 use Rattle.verify_rows.specs.Rows.{RootAndKeys, ToldOfRow, not-whole, not-pieces, no-room, answered}
 use Rattle.forgery.specs.Finding.{Finding}
 use Rattle.contracts.specs.Finds.{Answers, wrong-key, wrong-store, sound-store}
-use Rattle.ways.specs.Ways.{its-root}
+use Rattle.ways.specs.Ways as met
+use Rattle.ways.specs.Ways.{stoppedBy, Met, stop, AtRoot, RootStopped, KeyStopped, ProofStopped}
+use Rattle.ways.specs.Positions.{PositionStopped}
 use Rattle.refusals.specs.Exactly.{Table, Exactly, NoneOf, low, Names}
-use Rattle.refusals.specs.Rows.{NotRootAndKeys, NotKeys, StopsPalette, TooLongTogether, NotSound, Not32, StopsRoot, StopsGet, StopsAt, StopsProve, TooLong}
-use Rattle.refusals.specs.Orders.{headerRows, batchRows, versionRows, comparisonRows, foundRows}
+use Rattle.refusals.specs.Tables.{Not32, NotKeys, StopsPalette, TooLong, formatRows, headerRows, soundRows, applyRows, pruneRows, testsOf, rootRows, getRows, atRows, proveRows, paletteRows, changesRows, verifyRows, verifyManyRows, rescueRows, moveRows, findingRows}
+use Rattle.refusals.proofs.Parts.{TooLongTogether, batchRows, versionRows, comparisonRows, foundRows}
 use Rattle.refusals.proofs.Exactly.{First, past, within, exactly}
 use Rattle.refusals.proofs.Headers.{length-wrong, length-right, after-header, header-row, records-formed}
 use Rattle.refusals.proofs.Batches.{batch-first}
@@ -50,7 +54,6 @@ use Rattle.refusals.proofs.Rescues.{rescue-first}
 use Rattle.refusals.proofs.Findings.{finding-first}
 use Rattle.refusals.proofs.Moves.{move-first}
 use Rattle.refusals.proofs.Proofs.{judged-first}
-use Rattle.demands.specs.Tables.{formatRows, soundRows, applyRows, pruneRows, rootRows, getRows, atRows, proveRows, paletteRows, testsOf, changesRows, verifyRows, verifyManyRows, rescuingRows, moveRows, findingRows}
 use Rattle.contracts.specs.Contracts.{Formats, Checks, Applies, Prunes, ReadsRoot, ReadsKey, Counts, ReadsAt, Proves, Palettes, Changes, Verifies, VerifiesMany, Hashes, Rescues, MovesOver, MovesBack, Finds}
 
 -- Format: 1.
@@ -67,25 +70,25 @@ pub check-exactly : {s : Bytes} {r : ℕ} → Checks s r → Exactly (soundRows 
 check-exactly {s} {r} w = exactly (soundRows s) r refl (go w)
   where
     go : {n : ℕ} → check.Checked counted s n → First (soundRows s) n
-    go (check.refused n e) = let h = header-row s e in within (headerRows s) ((3, NotSound s) ∷ []) n (h .0) (h .1)
-    go (check.unsound c o l e f) = past (headerRows s) ((3, NotSound s) ∷ []) 3 (after-header s e) (inl (f, refl))
-    go (check.sound c o l e f) = past (headerRows s) ((3, NotSound s) ∷ []) 0 (after-header s e) (inr (λ n. n f, refl))
+    go (check.refused n e) = let h = header-row s e in within (headerRows s) ((3, Sound leafHash innerHash (storeOf s) → ⊥) ∷ []) n (h .0) (h .1)
+    go (check.unsound c o l e f) = past (headerRows s) ((3, Sound leafHash innerHash (storeOf s) → ⊥) ∷ []) 3 (after-header s e) (inl (f, refl))
+    go (check.sound c o l e f) = past (headerRows s) ((3, Sound leafHash innerHash (storeOf s) → ⊥) ∷ []) 0 (after-header s e) (inr (λ n. n f, refl))
 
 -- A call that tests soundness: 1, 2, 3; then its own.
 pub does-first : {A : Type 0} (call : Store → Result A) (s : Bytes) (more : Table) (a : Answer A) {t : Bytes} →
-    First more (numberOf (call (storeOf s) .answer)) → Does call s a t → First (headerRows s ++ (3, NotSound s) ∷ more) (numberOf a)
-does-first call s more a f (wrong-header {m} e) = let h = header-row s e in within (headerRows s) ((3, NotSound s) ∷ more) m (h .0) (h .1)
-does-first call s more a f (not-sound e n) = past (headerRows s) ((3, NotSound s) ∷ more) 3 (after-header s e) (inl (n, refl))
+    First more (numberOf (call (storeOf s) .answer)) → Does call s a t → First (headerRows s ++ (3, Sound leafHash innerHash (storeOf s) → ⊥) ∷ more) (numberOf a)
+does-first call s more a f (wrong-header {m} e) = let h = header-row s e in within (headerRows s) ((3, Sound leafHash innerHash (storeOf s) → ⊥) ∷ more) m (h .0) (h .1)
+does-first call s more a f (not-sound e n) = past (headerRows s) ((3, Sound leafHash innerHash (storeOf s) → ⊥) ∷ more) 3 (after-header s e) (inl (n, refl))
 does-first call s more a f (refuses w e) =
-    past (headerRows s) ((3, NotSound s) ∷ more) (numberOf a) (after-header s (w .headed))
+    past (headerRows s) ((3, Sound leafHash innerHash (storeOf s) → ⊥) ∷ more) (numberOf a) (after-header s (w .headed))
     (inr (λ n. n (w .sound), subst (λ x. First more (numberOf x)) e f))
 does-first call s more a f (accepts w e) =
-    past (headerRows s) ((3, NotSound s) ∷ more) (numberOf a) (after-header s (w .headed))
+    past (headerRows s) ((3, Sound leafHash innerHash (storeOf s) → ⊥) ∷ more) (numberOf a) (after-header s (w .headed))
     (inr (λ n. n (w .sound), subst (λ x. First more (numberOf x)) e f))
 
 export-first : {A : Type 0} (call : Store → Result A) {told : A → Bytes} (s : Bytes) (more : Table) {f t g : Bytes} {r : ℕ} →
-    First more (numberOf (call (storeOf s) .answer)) → Exports call told s f r t g → First (headerRows s ++ (3, NotSound s) ∷ more) r
-export-first call s more f (exports-refusal {m} d) = does-first call s more (refused m) f d
+    First more (numberOf (call (storeOf s) .answer)) → Exports (λ a. Does call s a t) told f r g → First (headerRows s ++ (3, Sound leafHash innerHash (storeOf s) → ⊥) ∷ more) r
+export-first call s more f (exports-refusal {n = m} d) = does-first call s more (refused m) f d
 export-first call s more f (exports-answer {a} d) = does-first call s more (accepted a) f d
 
 -- Apply: 1, 2, 3, 4, 5, 18, 7.
@@ -118,79 +121,84 @@ key-stopped {early = early} {later = later} {stops = stops} k a w = go (eqb (len
     go false e = stopped-within ((12, Not32 (k ∷ [])) ∷ []) early (inl (λ h. eqb-false (length k) 32 e (h .0), refl)) (λ z. absurd (omega arith))
 
 -- No root's lookup is stopped by a lost record.
-pub never-lost : (s : Bytes) (v : ℕ) (t : Trouble) → t ≡ lostRecord → StopsRoot s v t → ⊥
-never-lost s v t e (its-root i n m) = let z : _≡_ {A = ℕ} 0 1 = cc in omega arith
+pub never-lost : (s : Bytes) (v : ℕ) → RootStopped (storeOf s) v lostRecord → ⊥
+never-lost s v w = go (stop (stoppedBy lostRecord)) w refl
+  where
+    go : (m : Met) → AtRoot (storeOf s) v m → m ≡ stop (stoppedBy lostRecord) → ⊥
+    go m (met.first e) f = let z : _≡_ {A = ℕ} 0 1 = cc in omega arith
+    go m (met.second e n) f = let z : _≡_ {A = ℕ} 0 1 = cc in omega arith
+    go m (met.third e n) f = let z : _≡_ {A = ℕ} 0 1 = cc in omega arith
 
 -- A root read: 1, 2, 8, 3, and the slot beside 3.
 module _ {s : Bytes} {v : ℕ} {f : Bytes} {r : ℕ} {g : Bytes} (w : ReadsRoot s v f r g) where
-  root-answers : Stopped (testsOf (rootRows s v)) [] (StopsRoot s v) r
+  root-answers : Stopped (testsOf (rootRows s v)) [] (RootStopped (storeOf s) v) r
   unfolding rootAnswer readRoot
   root-answers =
-      subst (Stopped (testsOf (rootRows s v)) [] (StopsRoot s v)) (sym (w .answer))
+      subst (Stopped (testsOf (rootRows s v)) [] (RootStopped (storeOf s) v)) (sym (w .exported .number))
       (read-stopped s (readRoot leafHash innerHash (storeOf s) v) (λ c o l e. root-stopped leafHash innerHash s v))
 
   pub root-exactly : Exactly (rootRows s v) (low r)
-  root-exactly = exactly (rootRows s v) (low r) refl (stopped-found refl refl root-answers (never-lost s v lostRecord refl))
+  root-exactly = exactly (rootRows s v) (low r) refl (stopped-found refl refl root-answers (never-lost s v))
 
-  pub root-names-slot : Names (λ i. NoneOf (testsOf (rootRows s v)) × StopsRoot s v (spoiltRecord i)) r
+  pub root-names-slot : Names (λ i. NoneOf (testsOf (rootRows s v)) × RootStopped (storeOf s) v (spoiltRecord i)) r
   root-names-slot = stopped-names refl refl root-answers
 
 -- A key read: 12, 1, 2, 8, 17 or 3, and the slot beside 3.
 module _ {s : Bytes} {v : ℕ} {k f : Bytes} {r : ℕ} {g : Bytes} (h : All Byte s) (w : ReadsKey s v k f r g) where
-  get-answers : Stopped (testsOf (getRows s v k)) [] (StopsGet s v k) r
+  get-answers : Stopped (testsOf (getRows s v k)) [] (KeyStopped (storeOf s) v k) r
   unfolding keyAnswer readKey
   get-answers =
-      subst (Stopped (testsOf (getRows s v k)) [] (StopsGet s v k)) (sym (w .answer))
+      subst (Stopped (testsOf (getRows s v k)) [] (KeyStopped (storeOf s) v k)) (sym (w .exported .number))
       (key-stopped k (byHeader (headerOf counted s) (readKey (storeOf s) v k))
       (read-stopped s (readKey (storeOf s) v k) (λ c o l e. get-stopped s (records-formed s h e) v k)))
 
   pub get-exactly : Exactly (getRows s v k) (low r)
   get-exactly = exactly (getRows s v k) (low r) refl (stopped-first refl refl get-answers)
 
-  pub get-names-slot : Names (λ i. NoneOf (testsOf (getRows s v k)) × StopsGet s v k (spoiltRecord i)) r
+  pub get-names-slot : Names (λ i. NoneOf (testsOf (getRows s v k)) × KeyStopped (storeOf s) v k (spoiltRecord i)) r
   get-names-slot = stopped-names refl refl get-answers
 
 -- The number of grants: 1, 2, 8, 3, and the slot beside 3.
 module _ {s : Bytes} {v : ℕ} {f : Bytes} {r : ℕ} {g : Bytes} (w : Counts s v f r g) where
-  count-answers : Stopped (testsOf (rootRows s v)) [] (StopsRoot s v) r
+  count-answers : Stopped (testsOf (rootRows s v)) [] (RootStopped (storeOf s) v) r
   unfolding numberAnswer readNumber
   count-answers =
-      subst (Stopped (testsOf (rootRows s v)) [] (StopsRoot s v)) (sym (w .answer))
+      subst (Stopped (testsOf (rootRows s v)) [] (RootStopped (storeOf s) v)) (sym (w .exported .number))
       (read-stopped s (readNumber (storeOf s) v) (λ c o l e. number-stopped leafHash innerHash s v))
 
   pub count-exactly : Exactly (rootRows s v) (low r)
-  count-exactly = exactly (rootRows s v) (low r) refl (stopped-found refl refl count-answers (never-lost s v lostRecord refl))
+  count-exactly = exactly (rootRows s v) (low r) refl (stopped-found refl refl count-answers (never-lost s v))
 
-  pub count-names-slot : Names (λ i. NoneOf (testsOf (rootRows s v)) × StopsRoot s v (spoiltRecord i)) r
+  pub count-names-slot : Names (λ i. NoneOf (testsOf (rootRows s v)) × RootStopped (storeOf s) v (spoiltRecord i)) r
   count-names-slot = stopped-names refl refl count-answers
 
 -- The grant at a position: 1, 2, 8, 20, 17 or 3, and the slot beside 3.
 module _ {s : Bytes} {v i : ℕ} {f : Bytes} {r : ℕ} {g : Bytes} (h : All Byte s) (w : ReadsAt s v i f r g) where
-  at-answers : Stopped (testsOf (atRows s v i)) [] (StopsAt s v i) r
+  at-answers : Stopped (testsOf (atRows s v i)) [] (PositionStopped (storeOf s) v i) r
   unfolding positionAnswer readPosition
   at-answers =
-      subst (Stopped (testsOf (atRows s v i)) [] (StopsAt s v i)) (sym (w .answer))
+      subst (Stopped (testsOf (atRows s v i)) [] (PositionStopped (storeOf s) v i)) (sym (w .exported .number))
       (read-stopped s (readPosition (storeOf s) v i) (λ c o l e. position-stopped s (records-formed s h e) v i))
 
   pub at-exactly : Exactly (atRows s v i) (low r)
   at-exactly = exactly (atRows s v i) (low r) refl (stopped-first refl refl at-answers)
 
-  pub at-names-slot : Names (λ j. NoneOf (testsOf (atRows s v i)) × StopsAt s v i (spoiltRecord j)) r
+  pub at-names-slot : Names (λ j. NoneOf (testsOf (atRows s v i)) × PositionStopped (storeOf s) v i (spoiltRecord j)) r
   at-names-slot = stopped-names refl refl at-answers
 
 -- Proving: 12, 1, 2, 8, 14, 17 or 3, 9, and the slot beside 3.
 module _ {s : Bytes} {v : ℕ} {k room f : Bytes} {r : ℕ} {t g : Bytes} (h : All Byte s) (w : Proves s v k room f r t g) where
-  prove-answers : Stopped (testsOf (proveRows s v k room)) ((9, TooLong s v k room) ∷ []) (StopsProve s v k) r
+  prove-answers : Stopped (testsOf (proveRows s v k room)) ((9, TooLong s v k room) ∷ []) (ProofStopped (storeOf s) v k) r
   unfolding proveAnswer prove proof
   prove-answers =
-      subst (Stopped (testsOf (proveRows s v k room)) ((9, TooLong s v k room) ∷ []) (StopsProve s v k)) (sym (w .answer))
+      subst (Stopped (testsOf (proveRows s v k room)) ((9, TooLong s v k room) ∷ []) (ProofStopped (storeOf s) v k)) (sym (w .exported .number))
       (key-stopped k (byHeader (headerOf counted s) (prove (storeOf s) v k (length room)))
       (read-stopped s (prove (storeOf s) v k (length room)) (λ c o l e. prove-stopped s (records-formed s h e) v k room)))
 
   pub prove-exactly : Exactly (proveRows s v k room) (low r)
   prove-exactly = exactly (proveRows s v k room) (low r) refl (stopped-first refl refl prove-answers)
 
-  pub prove-names-slot : Names (λ i. NoneOf (testsOf (proveRows s v k room)) × StopsProve s v k (spoiltRecord i)) r
+  pub prove-names-slot : Names (λ i. NoneOf (testsOf (proveRows s v k room)) × ProofStopped (storeOf s) v k (spoiltRecord i)) r
   prove-names-slot = stopped-names refl refl prove-answers
 
 -- A list of keys: 12; then the rest.
@@ -207,7 +215,7 @@ module _ {s : Bytes} {v : ℕ} {list room f : Bytes} {r : ℕ} {t g : Bytes} (h 
   palette-answers : Stopped (testsOf (paletteRows s v list room)) ((9, TooLongTogether s v (keysIn list) room) ∷ []) (StopsPalette s v (keysIn list)) r
   unfolding paletteAnswer palette proof
   palette-answers =
-      subst (Stopped (testsOf (paletteRows s v list room)) ((9, TooLongTogether s v (keysIn list) room) ∷ []) (StopsPalette s v (keysIn list))) (sym (w .answer))
+      subst (Stopped (testsOf (paletteRows s v list room)) ((9, TooLongTogether s v (keysIn list) room) ∷ []) (StopsPalette s v (keysIn list))) (sym (w .exported .number))
       (list-stopped list (byHeader (headerOf counted s) (palette (storeOf s) v (keysIn list) (length room)))
       (read-stopped s (palette (storeOf s) v (keysIn list) (length room)) (λ c o l e. palette-stopped s (records-formed s h e) v (keysIn list) room)))
 
@@ -222,23 +230,23 @@ pub changes-exactly : (first second limit : ℕ) {s room f t g : Bytes} {r : ℕ
     Exactly (changesRows s first second limit room) r
 changes-exactly first second limit {s} {room} {r = r} w =
     exactly (changesRows s first second limit room) r refl
-    (subst (First (changesRows s first second limit room)) (sym (w .number))
+    (subst (First (changesRows s first second limit room)) (sym (w .exported .number))
     (does-first (compare first second limit (length room)) s (comparisonRows s first second limit room) (w .answer)
     (changes-first s first second limit room) (w .does)))
 
 -- A rescue: 1, 2, 3.
 pub rescue-exactly : (oldest latest : ℕ) {s old f t g : Bytes} {r : ℕ} → Rescues oldest latest s old f r t g →
-    Exactly (rescuingRows s old oldest latest) r
-rescue-exactly oldest latest {s} {old} {r = r} w = exactly (rescuingRows s old oldest latest) r refl (rescue-first s old oldest latest w)
+    Exactly (rescueRows s old oldest latest) r
+rescue-exactly oldest latest {s} {old} {r = r} w = exactly (rescueRows s old oldest latest) r refl (rescue-first s old oldest latest w)
 
 -- What is found of a proof: 12; then 1, 2, 3; then 8, 14, 10, 11.
 pub finding-exactly : {s : Bytes} {v : ℕ} {k x f : Bytes} {r : ℕ} {g : Bytes} → Finds s v k x f r g → Exactly (findingRows s v k x) r
 finding-exactly {s} {v} {k} {x} {r = r} w =
-    exactly (findingRows s v k x) r refl (subst (First (findingRows s v k x)) (sym (w .number)) (go (w .answers)))
+    exactly (findingRows s v k x) r refl (subst (First (findingRows s v k x)) (sym (seen w .exported .number)) (go (seen w .said)))
   where
-    unsound : {m : ℕ} → check.Checked counted s m → (m ≡ 0 → ⊥) → First (headerRows s ++ (3, NotSound s) ∷ foundRows s v k x) m
-    unsound (check.refused n e) f = let h = header-row s e in within (headerRows s) ((3, NotSound s) ∷ foundRows s v k x) n (h .0) (h .1)
-    unsound (check.unsound c o l e n) f = past (headerRows s) ((3, NotSound s) ∷ foundRows s v k x) 3 (after-header s e) (inl (n, refl))
+    unsound : {m : ℕ} → check.Checked counted s m → (m ≡ 0 → ⊥) → First (headerRows s ++ (3, Sound leafHash innerHash (storeOf s) → ⊥) ∷ foundRows s v k x) m
+    unsound (check.refused n e) f = let h = header-row s e in within (headerRows s) ((3, Sound leafHash innerHash (storeOf s) → ⊥) ∷ foundRows s v k x) n (h .0) (h .1)
+    unsound (check.unsound c o l e n) f = past (headerRows s) ((3, Sound leafHash innerHash (storeOf s) → ⊥) ∷ foundRows s v k x) 3 (after-header s e) (inl (n, refl))
     unsound (check.sound c o l e n) f = absurd (f refl)
 
     go : {a : Answer Finding} → Answers s v k x a → First (findingRows s v k x) (numberOf a)
@@ -247,7 +255,7 @@ finding-exactly {s} {v} {k} {x} {r = r} w =
     go (sound-store {a} e w d) =
         inr (
           λ n. n (e, tt),
-          past (headerRows s) ((3, NotSound s) ∷ foundRows s v k x) (numberOf a) (after-header s (w .headed)) (inr (λ n. n (w .sound), finding-first s v k x d)),
+          past (headerRows s) ((3, Sound leafHash innerHash (storeOf s) → ⊥) ∷ foundRows s v k x) (numberOf a) (after-header s (w .headed)) (inr (λ n. n (w .sound), finding-first s v k x d)),
         )
 
 -- A move over, and back: 1, 2, 3.
@@ -259,7 +267,7 @@ back-exactly {s} {old} {r = r} w = exactly (moveRows counted s old) r refl (move
 
 -- The proof check: 12, 10, 11.
 pub verify-exactly : {root k x f : Bytes} {r : ℕ} {g : Bytes} → Verifies root k x f r g → Exactly (verifyRows root k x) r
-verify-exactly {root} {k} {x} {r = r} w = exactly (verifyRows root k x) r refl (subst (First (verifyRows root k x)) (sym (w .answer)) (go (w .told)))
+verify-exactly {root} {k} {x} {r = r} w = exactly (verifyRows root k x) r refl (subst (First (verifyRows root k x)) (sym (seen w .exported .number)) (go (seen w .said)))
   where
     go : {a : Answer Verdict} → Told Judged root k x a → First (verifyRows root k x) (numberOf a)
     go (not-32-bytes n) = inl (λ z. n (z .0, z .1 .0), refl)
@@ -270,13 +278,13 @@ verify-exactly {root} {k} {x} {r = r} w = exactly (verifyRows root k x) r refl (
 pub verify-many-exactly : {root list row old : Bytes} {r : ℕ} {new : Bytes} → VerifiesMany root list row old r new →
     Exactly (verifyManyRows root list row old) r
 verify-many-exactly {root} {list} {row} {old} {r} w =
-    exactly (verifyManyRows root list row old) r refl (subst (First (verifyManyRows root list row old)) (sym (w .answer)) (go (w .told)))
+    exactly (verifyManyRows root list row old) r refl (subst (First (verifyManyRows root list row old)) (sym (seen w .exported .number)) (go (seen w .said)))
   where
-    right : RootAndKeys root list → NotRootAndKeys root list → ⊥
+    right : RootAndKeys root list → Not32 (root ∷ []) ⊎ NotKeys list → ⊥
     right h (inl z) = z (h .0, tt)
     right h (inr z) = keys-whole list (h .1) z
 
-    wrong : (a b : Bool) → eqb (length root) 32 ≡ a → wholeKeys list ≡ b → (RootAndKeys root list → ⊥) → NotRootAndKeys root list
+    wrong : (a b : Bool) → eqb (length root) 32 ≡ a → wholeKeys list ≡ b → (RootAndKeys root list → ⊥) → Not32 (root ∷ []) ⊎ NotKeys list
     wrong false b e f n = inl (λ z. eqb-false (length root) 32 e (z .0))
     wrong true false e f n = inr (keys-torn list f)
     wrong true true e f n = absurd (n (eqb-true (length root) 32 e, f))

@@ -14,23 +14,24 @@ use Rattle.terms.specs.Records.{Store}
 use Rattle.meaning.specs.Store.{treeAtVersion}
 use Rattle.meaning.specs.Sound.{Kept}
 use Rattle.meaning.specs.Calls.{Answer, refused, accepted, refuse}
-use Rattle.meaning.specs.Answers.{numberOf, roomAfter}
+use Rattle.meaning.specs.Answers.{numberOf, roomAfter, toldOf}
+use Rattle.meaning.proofs.Told.{exported-kept, one-exported}
 use Rattle.nodehash.specs.Node.{leafHash, innerHash}
 use Rattle.layout.specs.Stores.{storeOf}
 use Rattle.promises.specs.Calls.{SoundBytes, Does, wrong-header, not-sound, refuses, accepts}
 use Rattle.promises.proofs.Calls.{one-outcome}
-use Rattle.quarter.specs.Figures.{Figures, figuresOf, figuresBytes, figuresSize, rangeRight, versionsFrom, versions, figuresOver, Quarter, quarterOf, figures}
+use Rattle.quarter.specs.Figures.{Figures, figuresOf, figuresBytes, figuresSize, rangeRight, versionsFrom, versions, Quarter, quarterOf, figures}
+use Rattle.quarter.specs.Living.{figuresOver}
 use Rattle.quarter.proofs.Theorems.{leaves-are-grants}
 use Rattle.quarter.proofs.Small.{figures-are-small, distinct-is-small, records-are-small}
 use Rattle.quarter.proofs.Told.{leaves-told, inners-told, longest-told, sum-told, versions-long, version-told, distinct-told, records-told, no-grant-no-node, nothing-told}
-use Rattle.contracts.specs.Figures.{totalsAfter, eachBytes}
+use Rattle.contracts.specs.Figures.{totalsBytes}
 use Rattle.refusals.specs.Exactly.{Exactly}
-use Rattle.refusals.specs.Rows.{KeptRange}
-use Rattle.refusals.specs.Orders.{rangeRows}
+use Rattle.refusals.specs.Tables.{KeptRange, figuresRows}
+use Rattle.refusals.proofs.Parts.{rangeRows}
 use Rattle.refusals.proofs.Exactly.{First, exactly}
 use Rattle.refusals.proofs.Figures.{range-said, figures-first}
 use Rattle.contracts.specs.Contracts as contracts
-use Rattle.demands.specs.Tables.{figuresRows}
 use Rattle.demands.specs.Claims.{treeOfVersion, grantsOfVersion, NextVersion, latestOf}
 use Rattle.demands.specs.Quarter.{FiguresAre, partOf, GivesFigures}
 use Rattle.demands.proofs.Refusals.{no-refusal, never-0, header-numbers, refused-of}
@@ -38,25 +39,23 @@ use Rattle.demands.proofs.Exact.{does-first}
 
 pub one-figures : {first last : ℕ} {s room f t u g h : Bytes} {a b : ℕ} → contracts.Figures first last s room f a t g →
     contracts.Figures first last s room f b u h → (a ≡ b) × (t ≡ u) × (g ≡ h)
-one-figures {room = room} {f = f} x y =
-    let o = one-outcome (x .does) (y .does) .0 in (
-      x .number ∙ ap (λ a. numberOf a) o ∙ sym (y .number),
-      x .numbers ∙ ap (λ a. roomAfter (λ q. eachBytes (q .each)) a room) o ∙ sym (y .numbers),
-      x .told ∙ ap (λ a. totalsAfter a f) o ∙ sym (y .told),
-    )
+one-figures {room = room} x y =
+    let o = one-outcome (x .does) (y .does) .0 in
+    let (e, d) = one-exported o (x .exported) (y .exported) in
+    (e, x .numbers ∙ ap (λ a. roomAfter (λ q. flat (map figuresBytes (q .each))) a room) o ∙ sym (y .numbers), d)
 
 -- 1, 2, 3, 8, 9.
 pub figures-exactly : (first last : ℕ) {s room f t g : Bytes} {r : ℕ} → contracts.Figures first last s room f r t g → Exactly (figuresRows s first last room) r
 figures-exactly first last {s} {room} {r = r} w =
     exactly (figuresRows s first last room) r refl
-    (subst (First (figuresRows s first last room)) (sym (w .number))
+    (subst (First (figuresRows s first last room)) (sym (w .exported .number))
     (does-first (figures first last (length room)) s (rangeRows s first last room) (w .answer) (figures-first s first last room) (w .does)))
 
 pub refused-figures-writes-nothing : {first last : ℕ} {s room f t g : Bytes} {r : ℕ} → contracts.Figures first last s room f r t g → (r ≡ 0 → ⊥) →
     (t ≡ room) × (g ≡ f)
-refused-figures-writes-nothing {room = room} {f = f} w h =
-    let e = refused-of (w .answer) (λ z. h (w .number ∙ z)) in
-    (w .numbers ∙ ap (λ a. roomAfter (λ q. eachBytes (q .each)) a room) (e .1), w .told ∙ ap (λ a. totalsAfter a f) (e .1))
+refused-figures-writes-nothing {room = room} w h =
+    let e = refused-of (w .answer) (λ z. h (w .exported .number ∙ z)) in
+    (w .numbers ∙ ap (λ a. roomAfter (λ q. flat (map figuresBytes (q .each))) a room) (e .1), exported-kept (w .exported) h)
 
 -- when the figures of a sound store are given, and which; they are never refused with 0
 record Given (st : Store) (first last : ℕ) (q : Quarter) : Type 0 where
@@ -88,7 +87,7 @@ module _ (st : Store) (first last room : ℕ) where
 
 -- Figures that were given are counts over the trees.
 module _ (first last : ℕ) (s room f t g : Bytes) (h : SoundBytes s) (right : rangeRight (storeOf s) first last ≡ true)
-    (left : t ≡ roomAfter (λ q. eachBytes (q .each)) (accepted (quarterOf (storeOf s) first last)) room) (told : g ≡ totalsAfter (accepted (quarterOf (storeOf s) first last)) f) where
+    (left : t ≡ roomAfter (λ q. flat (map figuresBytes (q .each))) (accepted (quarterOf (storeOf s) first last)) room) (told : g ≡ totalsBytes (quarterOf (storeOf s) first last)) where
   abbrev st : Store
   st = storeOf s
 
@@ -139,10 +138,10 @@ module _ (first last : ℕ) (s room f t g : Bytes) (h : SoundBytes s) (right : r
     grants = λ v a b. figures-are v a b .leaves ∙ leaves-are-grants (treeAtVersion st v);
     alike = λ v w a b c d e. part-is v a b ∙ ap (λ x. figuresBytes (figuresOf x)) e ∙ sym (part-is w c d);
     empty = λ v a b e.
-        let kept : Kept st v = (omega (arith, range .first-kept .0), omega (arith, range .last-kept .1)) in
+        let kept : Kept st v = (omega (arith, range .0 .0), omega (arith, range .1 .1)) in
         part-is v a b ∙ ap (λ x. figuresBytes (figuresOf x)) (no-grant-no-node leafHash innerHash st (h .sound) v kept e) ∙ nothing-told;
     rest =
-        let long : length bytes ≡ 16 * (last - first + 1) = versions-long st first (suc last - first) ∙ omega (arith, range .some) in
+        let long : length bytes ≡ 16 * (last - first + 1) = versions-long st first (suc last - first) ∙ omega (arith, range .2) in
         ap (drop (16 * (last - first + 1))) room-is ∙ drop-at bytes (drop (length bytes) room) (16 * (last - first + 1)) long
         ∙ ap (λ n. drop n room) long;
     distinct = distinct-is;
@@ -155,18 +154,18 @@ module _ (first last : ℕ) (s room f t g : Bytes) (h : SoundBytes s) (right : r
   }
 
 pub accepted-figures-are-counts : (first last : ℕ) {s room f t g : Bytes} → contracts.Figures first last s room f 0 t g → GivesFigures first last s room t g
-accepted-figures-are-counts first last {s} {room} {f} {t} {g} w = go (w .answer) (w .does) (w .number) (w .numbers) (w .told)
+accepted-figures-are-counts first last {s} {room} {f} {t} {g} w = go (w .answer) (w .does) (w .exported .number) (w .numbers) (w .exported .told)
   where
-    go : (x : Answer Quarter) {y : Bytes} → Does (figures first last (length room)) s x y → 0 ≡ numberOf x → t ≡ roomAfter (λ q. eachBytes (q .each)) x room → g ≡ totalsAfter x f →
+    go : (x : Answer Quarter) {y : Bytes} → Does (figures first last (length room)) s x y → 0 ≡ numberOf x → t ≡ roomAfter (λ q. flat (map figuresBytes (q .each))) x room → g ≡ toldOf totalsBytes x f →
         GivesFigures first last s room t g
     go (refused m) (wrong-header e) z p q = absurd (never-0 (1 ∷ 2 ∷ []) refl (header-numbers s e) (sym z))
     go (refused m) (not-sound e n) z p q = absurd (omega arith)
     go (refused m) (refuses h e) z p q = absurd (not-0 (storeOf s) first last (length room) (e ∙ ap refused (sym z)))
     go (accepted c) (accepts h e) z p q =
         let d = given (storeOf s) first last (length room) c e in
-        gives first last s room f t g h (d .right) (p ∙ ap (λ a. roomAfter (λ q. eachBytes (q .each)) (accepted a) room) (sym (d .is))) (q ∙ ap (λ a. totalsAfter (accepted a) f) (sym (d .is)))
+        gives first last s room f t g h (d .right) (p ∙ ap (λ a. roomAfter (λ q. flat (map figuresBytes (q .each))) (accepted a) room) (sym (d .is))) (q ∙ ap totalsBytes (sym (d .is)))
 
 -- A version between two publishings has the figures of the earlier one.
 pub between-as-the-earlier : {number : ℕ} {batch s t g : Bytes} → NextVersion number batch s t g → (v : ℕ) → latestOf s ≤ v → v ≤ number - 1 →
     figuresOf (treeOfVersion t v) ≡ figuresOf (treeOfVersion s (latestOf s))
-between-as-the-earlier w v a b = ap figuresOf (w .after .between v a (omega (arith, w .above, w .latest)))
+between-as-the-earlier w v a b = ap figuresOf (w .after .between v a (omega (arith, w .after .above, w .after .latest)))

@@ -21,6 +21,7 @@ use Rattle.meaning.specs.Reading.{Verdict, present, absent, answerOf}
 use Rattle.meaning.specs.Proving.{HoldsGrant}
 use Rattle.meaning.specs.Checking.{checked}
 use Rattle.meaning.specs.Answers.{numberOf, toldOf, foundBytes}
+use Rattle.meaning.proofs.Told.{seen}
 use Rattle.checker.proofs.Theorems.{accepted-exactly-if-holds}
 use Rattle.sha256.specs.Sha256.{sha256}
 use Rattle.nodehash.specs.Node as node
@@ -30,18 +31,19 @@ use Rattle.layout.specs.Stores.{storeOf}
 use Rattle.promises.specs.Check.{sound}
 use Rattle.promises.specs.Calls.{SoundBytes}
 use Rattle.promises.proofs.Check.{one-answer}
-use Rattle.refusals.specs.Rows.{rootOfVersion}
+use Rattle.refusals.specs.Tables.{rootOfVersion}
 use Rattle.forgery.specs.Messages.{leafHash, innerHash}
 use Rattle.forgery.specs.Finding.{True, Finding, nothing, twoEqual, oneZero, Among, NamedFrom, finding}
 use Rattle.finding_rules.specs.Call.{HoldsAt, FoundIn, not-kept, no-grant, not-in-form, not-holding, holding, findingBytes}
 use Rattle.finding_rules.specs.Claims.{FoundOut}
 use Rattle.finding_rules.proofs.Hashes.{leaf-is, inner-is, holds-alike}
+use Rattle.forgery.proofs.Theorems.{found-so, only-found}
 use Rattle.finding_rules.proofs.Told.{one-found}
 use Rattle.finding_rules.proofs.Theorems.{holding-is-found-out}
 use Rattle.contracts.specs.Finds.{Answers, wrong-key, wrong-store, sound-store}
 use Rattle.contracts.specs.Contracts.{ReadsRoot, Verifies, Finds}
 use Rattle.demands.specs.Claims.{grantsOfVersion, Accepts}
-use Rattle.demands.specs.Forged.{NamesFinding, two-equal, one-zero, NamesNone, messagesOf, Cost, Deceived}
+use Rattle.demands.specs.Forged.{NamesFinding, two-equal, one-zero, messagesOf, Cost, Deceived}
 use Rattle.demands.proofs.Hashes.{digest-whole, hash-whole}
 use Rattle.demands.proofs.Accepting.{accepted-exactly-if-it-holds}
 use Rattle.demands.proofs.Showing.{root-of-tree}
@@ -71,11 +73,11 @@ module _ (messages : List Bytes) (long : (m : Bytes) → Among m messages → le
       let one : slice 1 65 g ≡ m = ap (slice 1 65) e ∙ first-part 2 m (zeroBytes 65) (long m a) in
       one-zero (ap (λ x. getD x 0 0) e) (subst (λ x. Among x messages) (sym one) a) (ap sha256 one ∙ zero)
 
-told-none : (f : Finding) (g : Bytes) → f ≡ nothing → g ≡ findingBytes f → NamesNone g
+told-none : (f : Finding) (g : Bytes) → f ≡ nothing → g ≡ findingBytes f → g ≡ zeroBytes 131
 unfolding findingBytes zeroBytes
 told-none f g z e = e ∙ ap findingBytes z
 
-none-told : (f : Finding) (g : Bytes) → NamesNone g → g ≡ findingBytes f → f ≡ nothing
+none-told : (f : Finding) (g : Bytes) → g ≡ zeroBytes 131 → g ≡ findingBytes f → f ≡ nothing
 unfolding findingBytes zeroBytes
 none-told nothing g n e = refl
 none-told (twoEqual m k) g n e =
@@ -121,12 +123,12 @@ module _ {s : Bytes} {v : ℕ} {k x g : Bytes} where
       }
     where
       either : {a : Finding} → FoundOut sha256 (storeOf s) v k p answer a → (a ≡ nothing) ⊎ (a ≡ nothing → ⊥) → g ≡ findingBytes a →
-          NamesFinding (messagesOf s v p) g ⊎ NamesNone g
+          NamesFinding (messagesOf s v p) g ⊎ (g ≡ zeroBytes 131)
       either {a} o (inl n) t = inr (told-none a g n t)
       either {a} o (inr n) t = inl (told (messagesOf s v p) (o .of-65-bytes) a g (o .named-is-a-finding n) t)
 
   pub accepted-finding-means : {f : Bytes} → Finds s v k x f 0 g → Cost s v k x g
-  accepted-finding-means {f} w = go (w .answers) (w .number) (w .told)
+  accepted-finding-means {f} w = let y = seen w in go (y .said) (y .exported .number) (y .exported .told)
     where
       by-proof : {a : Answer Finding} → SoundBytes s → length k ≡ 32 → FoundIn sha256 (storeOf s) v k x a → 0 ≡ numberOf a → g ≡ toldOf findingBytes a f →
           Cost s v k x g
@@ -134,7 +136,7 @@ module _ {s : Bytes} {v : ℕ} {k x g : Bytes} where
       by-proof h l (no-grant i e) z t = absurd (omega arith)
       by-proof h l (not-in-form i e n) z t = absurd (omega arith)
       by-proof h l (not-holding i e q n) z t = absurd (omega arith)
-      by-proof h l (holding {a = a} i e q d) z t = costs h l a i e q d t
+      by-proof h l (holding {p = p} {a} i e q d so lie) z t = costs h l a i e q d (t ∙ ap findingBytes (only-found sha256 (storeOf s) v p (so, lie)))
 
       go : {a : Answer Finding} → Answers s v k x a → 0 ≡ numberOf a → g ≡ toldOf findingBytes a f → Cost s v k x g
       go (wrong-key n) z t = absurd (omega arith)
@@ -166,7 +168,8 @@ module _ {s : Bytes} {v : ℕ} {k x : Bytes} (w : SoundBytes s) (kept : Kept (st
   answered c (wrong-store {m} l d n) = absurd (n (one-answer s m 0 d (sound (w .capacity) (w .oldest) (w .latest) (w .headed) (w .sound))))
   answered {answer} c (sound-store {a} l h d) =
       let p = c .proof in
-      let its = holding kept granted (c .is-proof) (holds-alike (storeOf s) v k p answer .1 (c .holds)) in
+      let so = found-so sha256 (storeOf s) v p in
+      let its = holding kept granted (c .is-proof) (holds-alike (storeOf s) v k p answer .1 (c .holds)) (so .0) (so .1) in
       ap numberOf (one-found sha256 (storeOf s) v k x a (accepted (finding sha256 (storeOf s) v p)) d its)
 
   -- the check has one answer
@@ -182,7 +185,7 @@ module _ {s : Bytes} {v : ℕ} {k x : Bytes} (w : SoundBytes s) (kept : Kept (st
       (r ≡ 0) × ((answerOf k (grantsOfVersion s v) ≡ answer) ⊎ Deceived s v x g)
   accepted-proof-is-true-or-found-out {f = f} {g = g} answer y z e h =
       let c = subst (λ q. Accepts q k x answer) (root-of-tree w kept y .1) (accepted-exactly-if-it-holds z answer .0 (refl, e)) in
-      let zero = h .number ∙ answered c (h .answers) in
+      let zero = seen h .exported .number ∙ answered c (seen h .said) in
       (zero, decide c (accepted-finding-means (subst (λ n. Finds s v k x f n g) zero h)) (right-or-not (answerOf k (grantsOfVersion s v)) answer))
     where
       decide : Accepts (rootOfVersion s v) k x answer → Cost s v k x g → (answerOf k (grantsOfVersion s v) ≡ answer) ⊎ (answerOf k (grantsOfVersion s v) ≡ answer → ⊥) →

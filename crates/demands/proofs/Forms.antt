@@ -17,8 +17,8 @@ use Rattle.meaning.specs.Store.{childOn}
 use Rattle.meaning.specs.Sight.{Sight, matches, nothing, spoilt, rootSight, nodeSight, scan}
 use Rattle.meaning.specs.Sound.{At}
 use Rattle.meaning.specs.Calls.{Answer, refused, accepted, isKept}
-use Rattle.meaning.specs.Reading.{lostRecord, strayLeaf, Seen, lost, gap, leafSeen, fork, seenBody, seenChild, seenAt, seenRoot, seen, Pass, End, broken, atLeaf, atGap, walk}
-use Rattle.meaning.specs.Proving.{step, presenceOf, stepUp, isGap, Descended, stuck, reached, raisedBy, descend, Sought, lostWay, nobody, somebody, sought, turnsAway, fromTrail, beyond, neighbour, absenceFrom, absenceAt, proveEnd, proveSeen, proof}
+use Rattle.meaning.specs.Reading.{lostRecord, strayLeaf, Seen, stoppedBy, gap, leafSeen, fork, seenBody, seenChild, seenAt, seenRoot, seen, Pass, End, walkStopped, atLeaf, atGap, walk}
+use Rattle.meaning.specs.Proving.{step, presenceOf, stepUp, isGap, Descended, descentStopped, reached, raisedBy, descend, Sought, searchStopped, nobody, somebody, sought, turnsAway, fromTrail, beyond, neighbour, absenceFrom, absenceAt, proveEnd, proveSeen, proof}
 use Rattle.meaning.proofs.Finding.{found-at}
 use Rattle.meaning.proofs.Roots.{root-at}
 use Rattle.meaning.proofs.Sights.{sighted-root, sighted-node}
@@ -35,14 +35,14 @@ either P false x y f g = g
 
 -- what is seen
 abbrev SeenForm : Seen → Type 0
-SeenForm (lost t) = Unit {0}
+SeenForm (stoppedBy t) = Unit {0}
 SeenForm gap = Unit {0}
 SeenForm (leafSeen k x) = Whole32 k × Whole32 x
 SeenForm (fork hashes kids) = ((b : Side) → Whole32 (hashes b)) × ((b : Side) → SeenForm (kids b))
 
 body-seen : (p : Place) (o : Body) (kid : Side → Child → Seen) → BodyForm o → ((b : Side) (c : Child) → SeenForm (kid b c)) →
     SeenForm (seenBody p o kid)
-body-seen p (leafBody k x) kid f h = either SeenForm (begins p k) (leafSeen k x) (lost strayLeaf) f tt
+body-seen p (leafBody k x) kid f h = either SeenForm (begins p k) (leafSeen k x) (stoppedBy strayLeaf) f tt
 body-seen p (innerBody l r) kid f h = (hashes, λ b. h b (childOn b l r))
   where
     hashes : (b : Side) → Whole32 (childOn b l r .hash)
@@ -86,7 +86,7 @@ child-seen v p o kid f h = either SeenForm (eqb v 0) gap (seenChild p o kid) tt 
 
 at-seen : (n : ℕ) (st : Store) (p : Place) (c : Child) → All (SlotForm counted) (st .slots) → SeenForm (seenAt n (scan st) p c)
 at-seen zero st p c h =
-    child-seen (c .version) p (nodeSight st (c .version) p) (λ b d. lost lostRecord) (node-form st (c .version) p h) (λ b d. tt)
+    child-seen (c .version) p (nodeSight st (c .version) p) (λ b d. stoppedBy lostRecord) (node-form st (c .version) p h) (λ b d. tt)
 at-seen (suc n) st p c h =
     child-seen (c .version) p (nodeSight st (c .version) p) (λ b d. seenAt n (scan st) (longer b p) d) (node-form st (c .version) p h)
     (λ b d. at-seen n st (longer b p) d h)
@@ -108,16 +108,16 @@ PathIf none = Unit {0}
 PathIf (some q) = PathForm q
 
 abbrev DescentForm : Descended → Type 0
-DescentForm (stuck t) = Unit {0}
+DescentForm (descentStopped t) = Unit {0}
 DescentForm (reached q) = PathForm q
 
 raised-form : (steps : List Step) (o : Descended) → All StepForm steps → DescentForm o → DescentForm (raisedBy steps o)
-raised-form steps (stuck t) h f = tt
+raised-form steps (descentStopped t) h f = tt
 raised-form steps (reached q) h f =
     record { key32 = f .key32; value32 = f .value32; steps32 = all-append StepForm (q .steps) steps (f .steps32) h }
 
 descent-form : (b : Side) (x : Seen) → SeenForm x → DescentForm (descend b x)
-descent-form b (lost t) h = tt
+descent-form b (stoppedBy t) h = tt
 descent-form b gap h = tt
 descent-form b (leafSeen k x) h = record { key32 = h .0; value32 = h .1; steps32 = tt }
 descent-form b (fork hashes kids) h =
@@ -137,12 +137,12 @@ up-form [] h = tt
 up-form (p ∷ trail) h = (h .0 .0 (not (p .turn)), up-form trail (h .1))
 
 abbrev EndForm : End → Type 0
-EndForm (broken t) = Unit {0}
+EndForm (walkStopped t) = Unit {0}
 EndForm (atLeaf k x trail) = Whole32 k × Whole32 x × All PassForm trail
 EndForm (atGap trail) = All PassForm trail
 
 walk-form : (k : Bytes) (i : ℕ) (trail : List Pass) (x : Seen) → SeenForm x → All PassForm trail → EndForm (walk k i trail x)
-walk-form k i trail (lost t) h f = tt
+walk-form k i trail (stoppedBy t) h f = tt
 walk-form k i trail gap h f = f
 walk-form k i trail (leafSeen l x) h f = (h .0, h .1, f)
 walk-form k i trail (fork hashes kids) h f =
@@ -150,12 +150,12 @@ walk-form k i trail (fork hashes kids) h f =
 
 -- the searches
 abbrev SoughtForm : Sought → Type 0
-SoughtForm (lostWay t) = Unit {0}
+SoughtForm (searchStopped t) = Unit {0}
 SoughtForm nobody = Unit {0}
 SoughtForm (somebody q) = PathForm q
 
 sought-form : (o : Descended) → DescentForm o → SoughtForm (sought o)
-sought-form (stuck t) f = tt
+sought-form (descentStopped t) f = tt
 sought-form (reached q) f = f
 
 trail-form : (b : Side) (trail : List Pass) → All PassForm trail → SoughtForm (fromTrail b trail)
@@ -171,7 +171,7 @@ leaf-form : (k x : Bytes) (trail : List Pass) → Whole32 k → Whole32 x → Al
 leaf-form k x trail a b h = record { key32 = a; value32 = b; steps32 = up-form trail h }
 
 neighbour-form : (b : Side) (k : Bytes) (e : End) → EndForm e → SoughtForm (neighbour b k e)
-neighbour-form b k (broken t) h = tt
+neighbour-form b k (walkStopped t) h = tt
 neighbour-form b k (atLeaf l x trail) h =
     either SoughtForm (beyond b l k) (somebody (presenceOf l x (map stepUp trail))) (fromTrail b trail)
     (leaf-form l x trail (h .0) (h .1) (h .2)) (trail-form b trail (h .2))
@@ -185,11 +185,11 @@ GivenForm (accepted (absence a)) =
     Whole32 (a .key) × PathIf (a .leftward) × PathIf (a .rightward) × (1 ≤ flagsOf (a .leftward) (a .rightward))
 
 absence-form : (k : Bytes) (x y : Sought) → Whole32 k → SoughtForm x → SoughtForm y → GivenForm (absenceFrom k x y)
-absence-form k (lostWay t) y w f g = tt
-absence-form k nobody (lostWay t) w f g = tt
+absence-form k (searchStopped t) y w f g = tt
+absence-form k nobody (searchStopped t) w f g = tt
 absence-form k nobody nobody w f g = tt
 absence-form k nobody (somebody q) w f g = (w, tt, g, omega arith)
-absence-form k (somebody p) (lostWay t) w f g = tt
+absence-form k (somebody p) (searchStopped t) w f g = tt
 absence-form k (somebody p) nobody w f g = (w, f, tt, omega arith)
 absence-form k (somebody p) (somebody q) w f g = (w, f, g, omega arith)
 
@@ -198,7 +198,7 @@ unfolding absenceAt
 sides-form k e w h = absence-form k (neighbour left k e) (neighbour right k e) w (neighbour-form left k e h) (neighbour-form right k e h)
 
 end-form : (k : Bytes) (e : End) → Whole32 k → EndForm e → GivenForm (proveEnd k e)
-end-form k (broken t) w h = tt
+end-form k (walkStopped t) w h = tt
 end-form k (atLeaf l x trail) w h =
     let e = atLeaf l x trail in
     either GivenForm (sameBytes k l) (accepted (presence (presenceOf l x (map stepUp trail)))) (absenceAt k e)

@@ -2,7 +2,7 @@
 -- calls of the definitions, so their theorem speaks of it. Assumes nothing.
 use Prim.Native.Nat.{ℕ, _≤_}
 use mathlib.Core.Path.{_≡_, refl, ap, sym, _∙_, subst}
-use mathlib.Core.Bool.{Bool, true, false}
+use mathlib.Core.Bool.{Bool, true, false, cond}
 use mathlib.Core.List.{List, [], _∷_}
 use mathlib.Core.Option.{Option}
 use lib.ListN.{length}
@@ -12,13 +12,13 @@ use Rattle.terms.specs.declared.Form.the-variants.{Plain as plain, Counted as c
 use Rattle.terms.specs.Bits.{Bytes, All}
 use Rattle.terms.specs.Form.{top32}
 use Rattle.terms.specs.Records.{Ask, Store}
-use Rattle.meaning.specs.Store.{formatted, rootOf}
+use Rattle.meaning.specs.Store.{formatted, rootOf, find}
 use Rattle.meaning.specs.Sound.{Sound, Kept}
 use Rattle.meaning.specs.Calls.{refused, accepted, Result, apply}
-use Rattle.meaning.specs.History.{Call, formatting, applying, pruning, taking, Entry, entry}
-use Rattle.meaning.specs.Course.{CallForm, after, run, held}
+use Rattle.meaning.specs.History.{Call, formatting, applying, pruning, taking, looking, Entry, entry, held}
+use Rattle.meaning.specs.Course.{CallForm, after, run}
 use Rattle.histories.specs.Claims.{NoGap}
-use Rattle.histories.specs.Gaps.{NoGaps, rootIn01}
+use Rattle.histories.specs.Gaps.{NoGaps}
 use Rattle.histories.proofs.Histories.{keeps-calls}
 use Rattle.histories.proofs.Theorems as laws
 use Rattle.nodehash.specs.Node.{leafHash, innerHash}
@@ -30,14 +30,24 @@ use Rattle.layout.proofs.Stores.{length-slots}
 use Rattle.batch.specs.Asked.{Asks}
 use Rattle.contracts.specs.Format.{formatBytes}
 use Rattle.contracts.specs.Apply.{told}
-use Rattle.promises.specs.Calls.{wrong-header, not-sound, refuses, accepts, Exports, exports-refusal, exports-answer}
-use Rattle.demands.specs.Calls.{takenOver, Called, formats, applies, prunes, Calls, none-yet, then-called, doneBy, WithoutGaps, Life, rescues-into, moves-over, looks, formats-both, applies-both, prunes-both}
+use Rattle.meaning.specs.Answers.{Exports, exports-refusal, exports-answer}
+use Rattle.promises.specs.Calls.{wrong-header, not-sound, refuses, accepts, Does}
+use Rattle.demands.specs.Calls.{takenOver, Called, formats, applies, prunes, Calls, none-yet, then-called, WithoutGaps, Life, rescues-into, moves-over, looks, formats-both, applies-both, prunes-both}
 use Rattle.contracts.specs.Contracts.{Formats, Prunes, PrunesIndexed}
 use Rattle.demands.proofs.Hashes.{leaf-hash-whole, inner-hash-whole}
 use Rattle.demands.proofs.Stored.{stored-is, formatted-form, prune-form, apply-form}
 use Rattle.demands.proofs.Refusals.{refused-format-writes-nothing, refused-apply-writes-nothing, refused-prune-writes-nothing, refused-rescue-writes-nothing, refused-over-writes-nothing}
 use Rattle.demands.proofs.Tabled.{refused-format-indexed-writes-nothing, refused-apply-indexed-writes-nothing, refused-prune-indexed-writes-nothing, format-as-plain, apply-as-plain, accepted-prune-keeps-the-table}
 use Rattle.demands.proofs.Histories.{Keeping, sound-bytes, size-right, not-headed, asks-form, called-keeps, formatted-keeps}
+
+-- what a call did to the store: a refused one only looked
+abbrev doneBy : Call → Bool → Call
+doneBy c true = c
+doneBy c false = looking
+
+as-done : (c : Call) (b : Bool) (st : Store) → cond b (NoGap c st) (Unit {0}) → NoGap (doneBy c b) st
+as-done c true st g = g
+as-done c false st g = tt
 
 -- what was called, accepted or not
 abbrev callsOf : List (Call × Bool) → List Call
@@ -57,11 +67,11 @@ fresh-is s e =
 
 -- the store after a call that tests soundness
 export-after : {A : Type 0} {call : Store → Result A} {told : A → Bytes} {s f t g : Bytes} {r : ℕ} {es : List Entry} →
-    Exports call told s f r t g → Keeping s es → ((m : ℕ) → call (storeOf s) .answer ≡ refused m → call (storeOf s) .store ≡ storeOf s) →
+    Exports (λ a. Does call s a t) told f r g → Keeping s es → ((m : ℕ) → call (storeOf s) .answer ≡ refused m → call (storeOf s) .store ≡ storeOf s) →
     call (storeOf s) .store .form ≡ counted → Sound leafHash innerHash (call (storeOf s) .store) → storeOf t ≡ call (storeOf s) .store
 export-after (exports-refusal (wrong-header e)) k same form sound = not-headed e (sound-bytes k .headed)
 export-after (exports-refusal (not-sound e n)) k same form sound = absurd (n (k .keeps .sound))
-export-after (exports-refusal {m} (refuses w e)) k same form sound = sym (same m e)
+export-after (exports-refusal {n = m} (refuses w e)) k same form sound = sym (same m e)
 export-after (exports-answer (accepts w e)) k same form sound = stored-is _ form sound
 
 -- and after any public call
@@ -83,7 +93,7 @@ module _ {s : Bytes} {es : List Entry} (k : Keeping s es) where
   format-after w = ap storeOf (w .bytes) ∙ fresh-is s (size-right k) ∙ ap formatted (sym (slots-many s))
 
   apply-after : (number : ℕ) (batch : Bytes) (o : Option (List Ask)) {f t g : Bytes} {r : ℕ} → number ≤ top32 → Asks batch o →
-      Exports (apply leafHash innerHash number o) told s f r t g → storeOf t ≡ after leafHash innerHash (applying number o) (storeOf s)
+      Exports (λ a. Does (apply leafHash innerHash number o) s a t) told f r g → storeOf t ≡ after leafHash innerHash (applying number o) (storeOf s)
   apply-after number batch o small h w =
       export-after w k (λ m e. laws.refused-apply-writes-nothing leafHash innerHash number o (storeOf s) m e)
       (apply-form number o (storeOf s)) (sound-after (applying number o) (asks-form number batch o small h))
@@ -136,18 +146,20 @@ forms-of (then-called c calls) = (form-of c, forms-of calls)
 calls-after : {s t : Bytes} {history : List (Call × Bool)} (es : List Entry) (calls : Calls s history t) → WithoutGaps calls → Keeping s es →
     storeOf t ≡ run leafHash innerHash (callsOf history) (storeOf s)
 calls-after es none-yet g k = refl
-calls-after {history = _ ∷ history} es (then-called c calls) g k =
-    calls-after _ calls (g .1) (called-keeps es c k) ∙ ap (run leafHash innerHash (callsOf history)) (called-after k c (g .0))
+calls-after {s} {history = e ∷ history} es (then-called c calls) g k =
+    calls-after _ calls (g .1) (called-keeps es c k)
+    ∙ ap (run leafHash innerHash (callsOf history)) (called-after k c (as-done (e .0) (e .1) (storeOf s) (g .0)))
 
 no-gaps : {s t : Bytes} {history : List (Call × Bool)} (es : List Entry) (calls : Calls s history t) → WithoutGaps calls → Keeping s es →
     NoGaps leafHash innerHash (callsOf history) (storeOf s)
 no-gaps es none-yet g k = tt
-no-gaps {history = _ ∷ history} es (then-called c calls) g k =
-    (g .0, subst (NoGaps leafHash innerHash (callsOf history)) (called-after k c (g .0)) (no-gaps _ calls (g .1) (called-keeps es c k)))
+no-gaps {s} {history = e ∷ history} es (then-called c calls) g k =
+    let done = as-done (e .0) (e .1) (storeOf s) (g .0) in
+    (done, subst (NoGaps leafHash innerHash (callsOf history)) (called-after k c done) (no-gaps _ calls (g .1) (called-keeps es c k)))
 
 -- Where each batch was given latest + 1, the root of a kept version v is the record of version v at the empty place, or none.
 pub without-gaps-roots-are-as-in-01 : {before s t : Bytes} {history : List (Call × Bool)} → Formats before 0 s → (calls : Calls s history t) →
-    WithoutGaps calls → (v : ℕ) → Kept (storeOf t) v → rootOf (storeOf t) v ≡ rootIn01 (storeOf t) v
+    WithoutGaps calls → (v : ℕ) → Kept (storeOf t) v → rootOf (storeOf t) v ≡ find v [] (storeOf t .slots)
 without-gaps-roots-are-as-in-01 {before} {s} {t} {history} w calls gaps =
     let (size, k) = formatted-keeps w in
     let n = roomOf counted (length before) in
@@ -155,6 +167,6 @@ without-gaps-roots-are-as-in-01 {before} {s} {t} {history} w calls gaps =
     let fresh : storeOf s ≡ formatted n = ap storeOf (w .bytes) ∙ fresh-is before size in
     let now : storeOf t ≡ run leafHash innerHash (callsOf history) (formatted n) =
     calls-after _ calls gaps k ∙ ap (run leafHash innerHash (callsOf history)) fresh in
-    subst (λ st. (v : ℕ) → Kept st v → rootOf st v ≡ rootIn01 st v) (sym now)
+    subst (λ st. (v : ℕ) → Kept st v → rootOf st v ≡ find v [] (st .slots)) (sym now)
     (laws.without-gaps-roots-are-as-in-01 leafHash innerHash leaf-hash-whole inner-hash-whole n (z .1) (z .2) (callsOf history)
     (forms-of calls) (subst (NoGaps leafHash innerHash (callsOf history)) fresh (no-gaps _ calls gaps k)))

@@ -16,6 +16,7 @@ use Rattle.terms.specs.Records.{Presence, Proof, presence, absence}
 use Rattle.terms.proofs.Fields.{num-le, length-le, slice-between}
 use Rattle.meaning.specs.Calls.{Answer, refused, accepted}
 use Rattle.meaning.specs.Proving.{proof, presenceLength, neighbourLength, proofLength, fitted, prove}
+use Rattle.meaning.proofs.Told.{exported-left}
 use Rattle.shown.proofs.Theorems.{proofs-have-17080-bytes}
 use Rattle.proofrecords.specs.ProofBytes.{presenceKind, absenceKind, stepsBytes, flagsOf, presenceBytes, neighbourBytes, absenceBytes, proofBytes, PresenceForm, NeighbourForm, ProofForm}
 use Rattle.proofrecords.proofs.Proofs.{length-presence, length-absence}
@@ -23,7 +24,7 @@ use Rattle.layout.specs.Headers.{Headed, refusal, header, headerOf}
 use Rattle.layout.specs.Stores.{storeOf}
 use Rattle.promises.specs.Headed.{byHeader}
 use Rattle.meaning.specs.Answers.{roomAfter}
-use Rattle.contracts.specs.Proves.{proveAnswer, provedInto, lengthBytes}
+use Rattle.contracts.specs.Proves.{proveAnswer}
 use Rattle.contracts.specs.Contracts.{Proves}
 use Rattle.demands.proofs.Refusals.{clash, accepted-of, prove-nonzero}
 
@@ -98,13 +99,13 @@ kind-is (absence a) rest =
     kind-after _ absenceKind (le 2 (flagsOf l r) ∷ a .key ∷ neighbourBytes l ∷ neighbourBytes r ∷ []) rest (omega arith)
 
 module _ {s : Bytes} {v : ℕ} {k room f t g : Bytes} (w : Proves s v k room f 0 t g) where
-  there-is : (p : Proof) × (provedInto s none v k room ≡ accepted p)
-  there-is = accepted-of (provedInto s none v k room) (prove-nonzero s v k (length room)) (w .answer)
+  there-is : (p : Proof) × (proveAnswer s none v k (length room) ≡ accepted p)
+  there-is = accepted-of (proveAnswer s none v k (length room)) (prove-nonzero s v k (length room)) (w .exported .number)
 
   pub its-proof : Proof
   its-proof = there-is .0
 
-  is-given : provedInto s none v k room ≡ accepted its-proof
+  is-given : proveAnswer s none v k (length room) ≡ accepted its-proof
   unfolding its-proof
   is-given = there-is .1
 
@@ -117,7 +118,7 @@ module _ {s : Bytes} {v : ℕ} {k room f t g : Bytes} (w : Proves s v k room f 0
   pub told-length : num g ≡ proofLength its-proof
   told-length =
       let h = its-length in
-      ap num (w .told ∙ ap (λ a. lengthBytes a f) is-given) ∙ num-le 4 (proofLength its-proof) (omega arith)
+      ap num (exported-left (w .exported) is-given .1) ∙ num-le 4 (proofLength its-proof) (omega arith)
 
   pub told-short : num g ≤ 17080
   told-short = omega (arith, told-length, its-length)

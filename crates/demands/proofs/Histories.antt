@@ -4,25 +4,22 @@ use Prim.Native.Nat.{ℕ, _-_, _≤_}
 use native.Mathlib.Omega.{arith}
 use mathlib.Core.Path.{_≡_, refl, ap, sym, _∙_, subst}
 use mathlib.Core.Bool.{Bool, true, false, cond}
-use mathlib.Core.Logic.{_↔_}
 use mathlib.Core.List.{List, [], _∷_}
 use mathlib.Core.Option.{Option, none, some}
-use lib.ListN.{length, take}
+use lib.ListN.{length}
 use lib.Dec.{eqb}
 use borrow.Author.Tests.{eq-eqb, ne-eqb, eqb-true, eqb-false}
 use Rattle.terms.specs.declared.Form.{Form}
 use Rattle.terms.specs.declared.Form.the-variants.{Plain as plain, Counted as counted}
-use Rattle.terms.specs.Bits.{Bytes, Byte, All, Whole32}
-use Rattle.terms.specs.Fields.{le, num, field}
-use Rattle.terms.specs.Records.{Grant, Ask, Store, zeros}
+use Rattle.terms.specs.Bits.{Bytes, Byte, All}
+use Rattle.terms.specs.Fields.{field}
+use Rattle.terms.specs.Records.{Grant, Ask, Store}
 use Rattle.terms.specs.Form.{top32}
-use Rattle.meaning.specs.Tree.{grantsAt, treeOf, hash}
 use Rattle.meaning.specs.Store.{formatted}
 use Rattle.meaning.specs.Sound.{Kept}
 use Rattle.meaning.specs.Calls.{refused, accepted, Result}
-use Rattle.meaning.specs.Reading.{answerOf}
-use Rattle.meaning.specs.History.{Call, formatting, applying, pruning, Entry, entry, noted, ledger, grantsOf, Holds}
-use Rattle.meaning.specs.Course.{CallForm, held}
+use Rattle.meaning.specs.History.{Call, formatting, applying, pruning, Entry, entry, noted, ledger, grantsOf, Holds, entriesFrom, held}
+use Rattle.meaning.specs.Course.{CallForm}
 use Rattle.histories.proofs.Histories.{Keeps, keeps-holds, keeps-held, keeps-formatted, keeps-calls}
 use Rattle.histories.proofs.Theorems.{records-stand-in-their-lifetimes, paths-have-at-most-256-steps}
 use Rattle.nodehash.specs.Node.{leafHash, innerHash}
@@ -34,31 +31,28 @@ use Rattle.layout.proofs.Headers as headers
 use Rattle.layout.proofs.Stores.{store-back}
 use Rattle.batch.specs.Asked.{Asks}
 use Rattle.contracts.specs.Format.{formatAnswer, formatBytes}
-use Rattle.promises.specs.Calls.{SoundBytes, wrong-header, not-sound, refuses, accepts, Exports, exports-refusal, exports-answer}
+use Rattle.promises.specs.Calls.{SoundBytes, wrong-header, not-sound, refuses, accepts, Does}
+use Rattle.rescue_rules.specs.Rescue.{sourceTree}
 use Rattle.rescue_bytes.specs.Rescues as rescue
 use Rattle.rescue_bytes.specs.Rescues.{slotsIn, Report, reportBytes}
-use Rattle.rescue_bytes.specs.Claims.{runLedger}
 use Rattle.rescue_bytes.proofs.Outcomes as rescued
 use Rattle.rescue_bytes.proofs.Outcomes.{refused-leaves, accepted-report}
 use Rattle.rescue_bytes.proofs.Worth.{worth}
 use Rattle.rescue_bytes.proofs.Ledger.{rescued-keeps}
 use Rattle.rescue_bytes.proofs.Report.{first-told}
-use Rattle.contracts.specs.Numbers.{grantBytes}
 use Rattle.move_rules.specs.Moves.{other, Moves}
 use Rattle.move_rules.proofs.Outcomes.{moved-was-sound}
 use Rattle.move_rules.proofs.Theorems.{accepted-move-is-worth}
 use Rattle.move_rules.proofs.Ledger.{moved-keeps}
-use Rattle.contracts.specs.Contracts.{Formats, ReadsRoot, ReadsKey, Proves, Rescues, MovesOver, Verifies, Counts, ReadsAt}
-use Rattle.meaning.specs.Counting.{grantAt}
-use Rattle.meaning.specs.Answers.{foundBytes, numberOf, toldOf}
+use Rattle.contracts.specs.Contracts.{Formats, Rescues, MovesOver}
+use Rattle.meaning.specs.Answers.{Exports, exports-refusal, exports-answer}
 use Rattle.demands.specs.Calls.{Called, formats, applies, prunes, Calls, none-yet, then-called, Life, rescues-into, moves-over, looks, Begins, by-format, by-rescue, as-found, by-over, by-back, takenOver, formats-both, applies-both, prunes-both}
-use Rattle.index_rules.specs.Tables.{FormatsBoth, wrong-size, both-fresh, not-told, refuses-both, accepts-both, ExportsBoth, both-refused, both-answered}
-use Rattle.demands.specs.Claims.{grantsOfVersion, AfterHistory}
+use Rattle.index_rules.specs.Tables.{FormatsBoth, wrong-size, both-fresh, not-told, refuses-both, accepts-both, DoesBoth}
+use Rattle.demands.specs.Claims.{grantsOfVersion, ReadsFor, AfterHistory}
 use Rattle.demands.proofs.Hashes.{leaf-hash-whole, inner-hash-whole}
 use Rattle.demands.proofs.Stored.{stored-is, stored-sound, formatted-form, prune-form, apply-form}
 use Rattle.demands.proofs.Given.{told-short}
-use Rattle.demands.proofs.Showing.{root-of-tree, key-of-grants, sound-is-shown, fourteen-exactly-if-empty}
-use Rattle.demands.proofs.Numbered.{sound-is-numbered}
+use Rattle.demands.proofs.Reading.{sound-reads-for}
 use Rattle.demands.proofs.Refusals.{never-0, apply-refusals, prune-refusals, refused-over-writes-nothing}
 
 -- what is kept of bytes of a form
@@ -104,24 +98,24 @@ not-headed e f = let z : _≡_ {A = ℕ} 0 1 = cc in absurd (omega arith)
 
 -- a call that tests soundness, refused or accepted
 export-keeps : {A : Type 0} {call : Store → Result A} {told : A → Bytes} {s f t g : Bytes} {r : ℕ} {es now : List Entry} →
-    Exports call told s f r t g → Keeping s es → ((m : ℕ) → call (storeOf s) .answer ≡ refused m → m ≡ 0 → ⊥) →
+    Exports (λ a. Does call s a t) told f r g → Keeping s es → ((m : ℕ) → call (storeOf s) .answer ≡ refused m → m ≡ 0 → ⊥) →
     call (storeOf s) .store .form ≡ counted →
     ((a : A) → call (storeOf s) .answer ≡ accepted a → Keeps leafHash innerHash (call (storeOf s) .store) now) →
     Keeping t (cond (eqb r 0) now es)
 export-keeps (exports-refusal (wrong-header e)) k never form then = not-headed e (sound-bytes k .headed)
 export-keeps (exports-refusal (not-sound e n)) k never form then = absurd (n (k .keeps .sound))
-export-keeps (exports-refusal {m} (refuses w e)) k never form then = rw (ne-eqb m 0 (never m e)) k
+export-keeps (exports-refusal {n = m} (refuses w e)) k never form then = rw (ne-eqb m 0 (never m e)) k
 export-keeps {now = now} (exports-answer {a} (accepts w e)) k never form then = of-store _ now form (then a e)
 
 -- the same with a table
 both-keeps : {A : Type 0} {call : Store → Result A} {told : A → Bytes} {s : Bytes} {table : List ℕ} {f : Bytes} {r : ℕ} {t : Bytes} {u : List ℕ} {g : Bytes} {es now : List Entry} →
-    ExportsBoth call told s table f r t u g → Keeping s es → ((m : ℕ) → call (storeOf s) .answer ≡ refused m → m ≡ 0 → ⊥) →
+    Exports (λ a. DoesBoth call s table a t u) told f r g → Keeping s es → ((m : ℕ) → call (storeOf s) .answer ≡ refused m → m ≡ 0 → ⊥) →
     call (storeOf s) .store .form ≡ counted →
     ((a : A) → call (storeOf s) .answer ≡ accepted a → Keeps leafHash innerHash (call (storeOf s) .store) now) →
     Keeping t (cond (eqb r 0) now es)
-both-keeps (both-refused (not-told {r} n o)) k never form then = rw (ne-eqb r 0 n) k
-both-keeps {told = told} {f = f} (both-refused (refuses-both o c)) k never form then = export-keeps {told = told} {f = f} (exports-refusal c) k never form then
-both-keeps {told = told} {f = f} (both-answered (accepts-both o c q)) k never form then = export-keeps {told = told} {f = f} (exports-answer c) k never form then
+both-keeps (exports-refusal (not-told {r} n o)) k never form then = rw (ne-eqb r 0 n) k
+both-keeps {told = told} {f = f} (exports-refusal (refuses-both o c)) k never form then = export-keeps {told = told} {f = f} (exports-refusal c) k never form then
+both-keeps {told = told} {f = f} (exports-answer (accepts-both o c q)) k never form then = export-keeps {told = told} {f = f} (exports-answer c) k never form then
 
 pub asks-form : (number : ℕ) (batch : Bytes) (o : Option (List Ask)) → number ≤ top32 → Asks batch o → CallForm (applying number o)
 asks-form number batch none small w = tt
@@ -135,13 +129,13 @@ rescue-taken {latest = latest} {source} {t = t} r n h w =
     let first : field 0 4 (reportBytes r) ≡ r .first = first-told r refl (omega (arith, x .high)) in
     record {
       bytes = x .bytes;
-      keeps = subst (λ f. Keeps leafHash innerHash (storeOf t) (runLedger (slotsIn source) f (latest - f))) (sym first) (rescued-keeps h n w);
+      keeps = subst (λ f. Keeps leafHash innerHash (storeOf t) (entriesFrom (sourceTree (slotsIn source)) f (latest - f))) (sym first) (rescued-keeps h n w);
     }
 
 rescue-into : {oldest latest : ℕ} {source s f : Bytes} {r : ℕ} {t g : Bytes} (es : List Entry) → latest ≤ top32 → All Byte source →
     Rescues oldest latest source s f r t g → Keeping s es → Keeping t (cond (eqb r 0) (takenOver source latest g) es)
-rescue-into es n h (rescue.exports-refusal {n = m} w) k = rw (ne-eqb m 0 (rescued.never-0 w)) (subst (λ x. Keeping x es) (sym (refused-leaves w)) k)
-rescue-into es n h (rescue.exports-report {r = r} w) k = rescue-taken r n h w
+rescue-into es n h (exports-refusal {n = m} w) k = rw (ne-eqb m 0 (rescued.never-0 w)) (subst (λ x. Keeping x es) (sym (refused-leaves w)) k)
+rescue-into es n h (exports-answer {a = r} w) k = rescue-taken r n h w
 
 -- a move that was accepted: the target takes over what the source keeps
 moved-on : {from : Form} {s before t : Bytes} (es : List Entry) → All Byte s → Moves from s before 0 t → Keeps leafHash innerHash (storeIn from s) es →
@@ -211,42 +205,11 @@ module _ {t : Bytes} (w : SoundBytes t) {es : List Entry} (h : Holds leafHash in
       one : {x y : List Grant} → some x ≡ some y → x ≡ y
       one e = cc
 
-  held-root : {f g : Bytes} {r : ℕ} → ReadsRoot t v f r g → (r ≡ 0) × (g ≡ hash leafHash innerHash (treeOf gs))
-  held-root x =
-      let e = root-of-tree w kept x in (e .0, e .1 ∙ ap (hash leafHash innerHash) (h .gives v kept .2 ∙ ap treeOf same-grants))
-
-  held-key : {k f g : Bytes} {r : ℕ} → Whole32 k → ReadsKey t v k f r g → (r ≡ 0) × (g ≡ foundBytes (answerOf k gs))
-  held-key {k} whole x =
-      let e = key-of-grants w kept whole x in (e .0, e .1 ∙ ap (λ y. foundBytes (answerOf k y)) (h .gives v kept .3 ∙ same-grants))
-
   its-grants : grantsOfVersion t v ≡ gs
   its-grants = h .gives v kept .3 ∙ same-grants
 
-  held-count : {f g : Bytes} {r : ℕ} → Counts t v f r g → (r ≡ 0) × (g ≡ le 8 (length gs))
-  held-count x = let e = sound-is-numbered w v kept .number x in (e .0, e .1 ∙ ap (λ y. le 8 (length y)) its-grants)
-
-  held-at : {i : ℕ} {f g : Bytes} {r : ℕ} → ReadsAt t v i f r g → (r ≡ numberOf (grantAt gs i)) × (g ≡ toldOf grantBytes (grantAt gs i) f)
-  held-at {i} {f} x =
-      let e = sound-is-numbered w v kept .position x in
-      (e .0 ∙ ap (λ y. numberOf (grantAt y i)) its-grants, e .1 ∙ ap (λ y. toldOf grantBytes (grantAt y i) f) its-grants)
-
-  held-shown : {k room f u g f₁ root f₂ found : Bytes} {r r₁ r₂ : ℕ} → (gs ≡ [] → ⊥) → Whole32 k → 17080 ≤ length room → Proves t v k room f r u g →
-      ReadsRoot t v f₁ r₁ root → Verifies root k (take (num g) u) f₂ r₂ found →
-      (r ≡ 0) × (r₁ ≡ 0) × (r₂ ≡ 0) × (found ≡ foundBytes (answerOf k gs))
-  held-shown {k} {room} {f} {u} {g} granted whole long x y z =
-      let s = sound-is-shown w v kept k whole (λ e. granted (sym its-grants ∙ e)) in
-      let e = s .room x long in
-      let c = s .checked (subst (λ n. Proves t v k room f n u g) e x) y z in
-      (e, c .0, c .1, c .2 ∙ ap (λ y. foundBytes (answerOf k y)) its-grants)
-
-  held-empty : {k room f u g : Bytes} {r : ℕ} → Whole32 k → Proves t v k room f r u g → (r ≡ 14) ↔ (gs ≡ [])
-  held-empty {k} whole x =
-      let e = fourteen-exactly-if-empty w v kept k whole x in (λ n. sym its-grants ∙ e .0 n, λ n. e .1 (its-grants ∙ n))
-
--- the root of no grants
-no-grants-zeros : hash leafHash innerHash (treeOf []) ≡ zeros
-unfolding treeOf grantsAt
-no-grants-zeros = refl
+  held-reads : ReadsFor t v gs
+  held-reads = subst (ReadsFor t v) its-grants (sound-reads-for w v kept)
 
 -- a store before the first call
 pub formatted-keeps : {before t : Bytes} → Formats before 0 t → (sizeRight counted (length before) ≡ true) × Keeping t (entry 0 [] ∷ [])
@@ -280,13 +243,7 @@ store-after-history {start} {t = t} life =
       bytes = k .bytes;
       holds = h;
       lifetimes = records-stand-in-their-lifetimes leafHash innerHash (storeOf t) _ h;
-      reads-root = λ a b. held-root (sound-bytes k) h a b;
-      reads-key = λ a b. held-key (sound-bytes k) h a b;
-      counts = λ a b. held-count (sound-bytes k) h a b;
-      reads-at = λ a b. held-at (sound-bytes k) h a b;
-      shows = λ a b. held-shown (sound-bytes k) h a b;
-      shows-nothing = λ a b. held-empty (sound-bytes k) h a b;
-      zero-root = λ a b x. let e = held-root (sound-bytes k) h a b x in (e .0, e .1 ∙ no-grants-zeros);
+      reads = λ a b. held-reads (sound-bytes k) h a b;
       paths = paths-have-at-most-256-steps leafHash innerHash (storeOf t) (k .keeps .sound);
       proofs = λ w. told-short w;
     }

@@ -9,7 +9,7 @@ pub mod Forms
 pub mod Given
 pub mod Showing
 pub mod Shortest
-pub mod Numbered
+pub mod Reading
 pub mod Alike
 pub mod Versions
 pub mod Placing

@@ -15,6 +15,7 @@ use Rattle.meaning.specs.Tree.{unversioned}
 use Rattle.meaning.specs.Sound.{Kept}
 use Rattle.meaning.specs.Calls.{Answer, accepted}
 use Rattle.meaning.specs.Answers.{numberOf, toldOf}
+use Rattle.meaning.proofs.Told.{seen, exports-left}
 use Rattle.meaning.specs.Proving.{HoldsGrant, proof}
 use Rattle.shown.proofs.Theorems.{empty-is-fourteen}
 use Rattle.palette_rules.specs.Palette.{wholeKeys, keysIn}
@@ -28,7 +29,7 @@ use Rattle.promises.specs.Calls.{SoundBytes}
 use Rattle.promises.proofs.Calls.{sound-form}
 use Rattle.contracts.specs.Palettes.{proofsBytes}
 use Rattle.verify_rows.specs.Rows as told
-use Rattle.verify_rows.specs.Rows.{Pieces, answerBytes, Answers, nothing-left, next, ToldOfRow, not-whole, not-pieces, no-room, overFront}
+use Rattle.verify_rows.specs.Rows.{Pieces, answerBytes, Answers, nothing-left, next, ToldOfRow, not-whole, not-pieces, no-room}
 use Rattle.verify_rows.proofs.Cutting.{proofs-sized, one-row}
 use Rattle.verify_rows.proofs.Told.{one-answers, answers-long, one-told-of-row}
 use Rattle.contracts.specs.Contracts.{ReadsRoot, Palettes, VerifiesMany}
@@ -45,7 +46,7 @@ single-answers : {root : Bytes} {keys xs answers : List Bytes} → SingleChecks 
 unfolding answerBytes
 single-answers none-checked = nothing-left
 single-answers {root} (then-checked {k} {x} {g} {r} {keys} {pieces = xs} {answers} w c) =
-    subst (λ b. Answers root (k ∷ keys) (x ∷ xs) (b ++ flat answers)) (sym (ap₂ _∷_ (w .answer) (w .found))) (next (w .told) (single-answers c))
+    subst (λ b. Answers root (k ∷ keys) (x ∷ xs) (b ++ flat answers)) (sym (ap₂ _∷_ (seen w .exported .number) (seen w .exported .told))) (next (seen w .said) (single-answers c))
 
 as-many : {root : Bytes} {keys xs answers : List Bytes} → SingleChecks root keys xs answers → length xs ≡ length keys
 as-many none-checked = refl
@@ -55,23 +56,19 @@ as-many (then-checked w c) = ap suc (as-many c)
 pub many-are-single-checks : {root list row old new : Bytes} → VerifiesMany root list row old 0 new → BesideSingleChecks root list row old new
 many-are-single-checks {root} {list} {row} {old} {new} w = record {
   same = λ {pieces = xs} {answers} each is c.
-      w .buffer ∙ go (record { each = each; many = as-many c; bytes = is }) (single-answers c) (w .told) (w .answer);
+      seen w .exported .told ∙ go (record { each = each; many = as-many c; bytes = is }) (single-answers c) (seen w .said) (seen w .exported .number);
   long = λ {pieces = xs} {answers} c. answers-long root (keysIn list) xs (flat answers) (single-answers c);
 }
   where
     go : {xs : List Bytes} {b : Bytes} {a : Answer Bytes} → Pieces (length (keysIn list)) row xs → Answers root (keysIn list) xs b →
-        ToldOfRow root list row (length old) a → 0 ≡ numberOf a → toldOf (λ c. overFront c old) a old ≡ overFront b old
+        ToldOfRow root list row (length old) a → 0 ≡ numberOf a → toldOf (λ c. c ++ drop (length c) old) a old ≡ b ++ drop (length b) old
     go are r (not-whole n) e = absurd (omega arith)
     go are r (not-pieces h n) e = absurd (omega arith)
     go are r (no-room h n l) e = absurd (omega arith)
     go {xs} {b} are r (told.answered {xs = ys} {b = c} h n l q) e =
-        ap (λ d. overFront d old)
+        ap (λ d. d ++ drop (length d) old)
         (one-answers root (keysIn list) xs c b
         (subst (λ zs. Answers root (keysIn list) zs c) (one-row (length (keysIn list)) row ys xs n are) q) r)
-
-proofs-flat : (ps : List Proof) → proofsBytes ps ≡ flat (map proofBytes ps)
-proofs-flat [] = refl
-proofs-flat (p ∷ ps) = ap (proofBytes p ++_) (proofs-flat ps)
 
 -- On a sound store, in a kept version.
 module _ (s : Bytes) (w : SoundBytes s) (v : ℕ) (kept : Kept (storeOf s) v) where
@@ -112,17 +109,13 @@ module _ (s : Bytes) (w : SoundBytes s) (v : ℕ) (kept : Kept (storeOf s) v) wh
         let many : length (map proofBytes ps) ≡ length (keysIn list) = length-map ps proofBytes ∙ form .1 in
         let row : take (num g) t ≡ flat (map proofBytes ps) =
         ap (take (num g)) (room-is x)
-        ∙ take-at (proofsBytes ps) _ (num g) (together-long s v slots (keysIn list) ps keys each ∙ sym (told-is x whole))
-        ∙ proofs-flat ps in
+        ∙ take-at (proofsBytes ps) _ (num g) (together-long s v slots (keysIn list) ps keys each ∙ sym (told-is x whole)) in
         let root32 : length root ≡ 32 = ap length (root-of-tree w kept y .1) ∙ hash-whole (unversioned (treeOfVersion s v)) .0 in
         let are : Pieces (length (keysIn list)) (take (num g) t) (map proofBytes ps) = record { each = proofs-sized ps (form .0); many = many; bytes = row } in
         let same = each-answered y (keysIn list) ps keys each in
         let long = answers-long root (keysIn list) (map proofBytes ps) (flat (answersFor s v (keysIn list))) same in
-        let said = one-told-of-row root list (take (num g) t) (length old) (z .answers) (accepted (flat (answersFor s v (keysIn list)))) (z .told)
-        (told.answered (root32, whole) are fits same) in (
-          z .answer ∙ ap (λ a. numberOf a) said,
-          z .buffer ∙ ap (λ a. toldOf (λ b. overFront b old) a old) said ∙ ap (λ n. flat (answersFor s v (keysIn list)) ++ drop n old) long,
-        )
+        let said = exports-left (one-told-of-row root list (take (num g) t) (length old)) z (told.answered (root32, whole) are fits same) in
+        (said .0, said .1 ∙ ap (λ n. flat (answersFor s v (keysIn list)) ++ drop n old) long)
 
     reads-are : {ks found : List Bytes} → All Whole32 ks → KeyReads s v ks found → answersFor s v ks ≡ map (λ g. 0 ∷ g) found
     reads-are h none-read = refl

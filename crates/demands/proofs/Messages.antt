@@ -1,37 +1,40 @@
 -- Writing and reading a message, over the contracts: one outcome, numbers exactly by the table, and document 02's words. Assumes nothing.
 use Prim.Native.Nat.{ℕ, _≤_, _^_, _<_}
 use native.Mathlib.Omega.{arith}
+use mathlib.Core.Logic.{_↔_}
 use mathlib.Core.Path.{_≡_, refl, ap, sym, _∙_, subst}
 use mathlib.Core.Bool.{Bool, true, false, cond}
-use mathlib.Core.List.{_++_}
+use mathlib.Core.List.{List, _++_}
 use mathlib.Core.Option.{Option, none, some}
 use lib.ListN.{length, take, drop, length-append}
 use lib.Seq.{take-at}
 use lib.Dec.{eqb}
 use borrow.Author.Tests.{eqb-true, eqb-false}
-use Rattle.terms.specs.Bits.{Bytes, Byte, All}
+use Rattle.terms.specs.Bits.{Bytes}
 use Rattle.terms.specs.Fields.{le, num}
 use Rattle.terms.specs.Records.{Presence, Proof, presence, absence}
 use Rattle.terms.proofs.Fields.{num-le, length-le}
 use Rattle.terms.proofs.Tests.{same-bytes, bytes-same}
 use Rattle.meaning.specs.Calls.{Answer, refused, accepted}
 use Rattle.meaning.specs.Reading.{Verdict}
-use Rattle.meaning.specs.Checking.{leadsTo}
-use Rattle.meaning.specs.Answers.{numberOf, foundAfter}
+use Rattle.checker.specs.Holding.{Leads}
+use Rattle.meaning.specs.Answers.{numberOf}
+use Rattle.meaning.proofs.Told.{seen, exported-left}
 use Rattle.sha256.specs.Sha256.{sha256}
 use Rattle.nodehash.specs.Node.{leafHash, innerHash}
 use Rattle.proofrecords.specs.ProofBytes.{proofBytes, NeighbourForm, ProofForm, neighbourBytes, ProofIs}
 use Rattle.proofrecords.proofs.Proofs.{length-presence, length-absence}
-use Rattle.messages.specs.Message.{messageBytes, mostBytes, RawPresence, RawProof, ownProof}
-use Rattle.messages.specs.Lending.{Lent, LentBytes, rawProof, recordOf, lentIn}
-use Rattle.messages.specs.Spots.{spotsIn, Stand}
-use Rattle.messages.proofs.Lending.{own-form}
-use Rattle.message_rules.specs.Contracts.{spotsBytes}
+use Rattle.messages.specs.Message.{existenceOf, messageBytes, mostBytes, ownPresence, ownProof}
+use Rattle.messages.specs.Parts.{askedIn}
+use Rattle.messages.specs.Raws.{RawProof}
+use Rattle.messages.proofs.Back.{message-at-most}
+use Rattle.message_rules.specs.Contracts.{Encodes, recordOf, Lends, answerBytes}
+use Rattle.message_rules.proofs.Ties.{encodes-raw}
 use Rattle.demands.proofs.Hashes.{digest-whole}
-use Rattle.message_words.proofs.Theorems.{Message, written-message, ReadBack, read-message}
+use Rattle.message_words.proofs.Theorems.{Message, written-message, ReadBack, read-message, read-back, written-again, stands-there}
 pub use Rattle.message_words.proofs.Theorems.{one-write, one-read, refused-write-writes-nothing, refused-read-writes-nothing}
-use Rattle.partner.specs.Ours.{askedKey, verdictOf, partnerAccepts}
-use Rattle.partner.proofs.Agreement.{message-is-encoded}
+use Rattle.partner.specs.Verifying.{calculated}
+use Rattle.partner.specs.Ours.{ourSpec, partnerAccepts, verdictOf}
 use Rattle.partner.proofs.Theorems.{checked-by-partner, accepted-root-32, led-as-ours}
 use Rattle.verify_rules.specs.Verify.{Judged, Told, not-32-bytes, in-form}
 use Rattle.verify_rules.proofs.Told.{judged-exactly, one-verdict}
@@ -39,13 +42,15 @@ use Rattle.refusals.specs.Exactly.{Exactly}
 use Rattle.refusals.proofs.Exactly.{First, exactly}
 use Rattle.refusals.proofs.Messages.{write-first, read-first}
 use Rattle.contracts.specs.Contracts.{Verifies, WritesMessage, ReadsMessage}
-use Rattle.demands.specs.Tables.{writeMessageRows, readMessageRows}
-use Rattle.demands.specs.Messages.{PartnerAgrees, MessageGiven, MessageTaken, LedAlike}
+use Rattle.refusals.specs.Tables.{writeMessageRows, readMessageRows}
+use Rattle.demands.specs.Messages.{PartnerAgrees, MessageGiven, MessageTaken}
 
 -- 10, 15, 9 exactly, and 10, 9.
-pub write-message-exactly : {x : Bytes} {lent : Lent} {room f t g : Bytes} {r : ℕ} → WritesMessage x lent room f r t g → Exactly (writeMessageRows x lent room) r
-write-message-exactly {x} {lent} {room} {r = r} w =
-    exactly (writeMessageRows x lent room) r refl (subst (First (writeMessageRows x lent room)) (sym (w .answer)) (write-first x lent room (w .said) (w .exactly)))
+pub write-message-exactly : {x asked : Bytes} {leaves : List Bytes} {room f t g : Bytes} {r : ℕ} → WritesMessage x asked leaves room f r t g →
+    Exactly (writeMessageRows x asked leaves room) r
+write-message-exactly {x} {asked} {leaves} {room} {r = r} w =
+    exactly (writeMessageRows x asked leaves room) r refl
+    (subst (First (writeMessageRows x asked leaves room)) (sym (w .answer)) (write-first x asked leaves room (w .said) (w .raw) (w .exactly) (w .lent)))
 
 pub read-message-exactly : {m room f t g : Bytes} {r : ℕ} → ReadsMessage m room f r t g → Exactly (readMessageRows m room) r
 read-message-exactly {m} {room} {r = r} w =
@@ -59,7 +64,7 @@ most (absence a) = omega arith
 record Agreed (root x : Bytes) (q : Proof) : Type 0 where
   n : ℕ
   not-0 : 1 ≤ n
-  told : Told Judged root (sha256 (askedKey q)) x (cond (partnerAccepts sha256 root q) (accepted (verdictOf sha256 q)) (refused n))
+  told : Told Judged root (sha256 (askedIn q .bytes)) x (cond (partnerAccepts sha256 root q) (accepted (verdictOf sha256 q)) (refused n))
 
 agreed : (root x : Bytes) (q : Proof) → RawProof q → ProofIs x (ownProof sha256 q) → Agreed root x q
 unfolding leafHash innerHash
@@ -77,61 +82,64 @@ agreed root x q h is = go (eqb (length root) 32) refl
       n = 11;
       not-0 = omega arith;
       told =
-          in-form (eqb-true (length root) 32 t, sha32 (askedKey q)) is
-          (judged-exactly root (sha256 (askedKey q)) (ownProof sha256 q) _ .1 (sym (checked-by-partner sha256 sha32 root q h)));
+          in-form (eqb-true (length root) 32 t, sha32 (askedIn q .bytes)) is
+          (judged-exactly root (sha256 (askedIn q .bytes)) (ownProof sha256 q) _ .1 (sym (checked-by-partner sha256 sha32 root q h)));
     }
     go false t = record {
       n = 12;
       not-0 = omega arith;
       told =
-          subst (λ b. Told Judged root (sha256 (askedKey q)) x (cond b (accepted (verdictOf sha256 q)) (refused 12)))
+          subst (λ b. Told Judged root (sha256 (askedIn q .bytes)) x (cond b (accepted (verdictOf sha256 q)) (refused 12)))
           (sym (refuses (partnerAccepts sha256 root q) refl (eqb-false (length root) 32 t))) (not-32-bytes (λ s. eqb-false (length root) 32 t (s .0)));
     }
 
-partner-agrees : (x m : Bytes) (q : Proof) → RawProof q → messageBytes q ≡ m → ProofIs x (ownProof sha256 q) → PartnerAgrees x m q
-partner-agrees x m q h is own = record {
-  encoded = message-is-encoded q ∙ is;
-  agrees = λ {root} {f} {g} {r} w. (λ t. w .answer ∙ ap (λ o. numberOf o) (taken w t), λ z. back w (sym (w .answer) ∙ z));
-  found = λ {root} {f} {g} w. w .found ∙ ap (λ o. foundAfter o f) (taken w (back w (sym (w .answer))));
+partner-agrees : (x : Bytes) (q : Proof) → RawProof q → ProofIs x (ownProof sha256 q) → PartnerAgrees x q
+partner-agrees x q h own = record {
+  agrees = λ {root} {f} {g} {r} w. (λ t. exported-left (seen w .exported) (taken w t) .0, λ z. back w (sym (seen w .exported .number) ∙ z));
+  found = λ w. exported-left (seen w .exported) (taken w (back w (sym (seen w .exported .number)))) .1;
 }
   where
     ours : Bytes → Answer Verdict
     ours root = cond (partnerAccepts sha256 root q) (accepted (verdictOf sha256 q)) (refused (agreed root x q h own .n))
 
-    same : {root f g : Bytes} {r : ℕ} (w : Verifies root (sha256 (askedKey q)) x f r g) → w .verdict ≡ ours root
-    same {root} w = one-verdict root (sha256 (askedKey q)) x (w .verdict) (ours root) (w .told) (agreed root x q h own .told)
+    same : {root f g : Bytes} {r : ℕ} (w : Verifies root (sha256 (askedIn q .bytes)) x f r g) → seen w .answer ≡ ours root
+    same {root} w = one-verdict root (sha256 (askedIn q .bytes)) x (seen w .answer) (ours root) (seen w .said) (agreed root x q h own .told)
 
-    taken : {root f g : Bytes} {r : ℕ} (w : Verifies root (sha256 (askedKey q)) x f r g) → partnerAccepts sha256 root q ≡ true →
-        w .verdict ≡ accepted (verdictOf sha256 q)
+    taken : {root f g : Bytes} {r : ℕ} (w : Verifies root (sha256 (askedIn q .bytes)) x f r g) → partnerAccepts sha256 root q ≡ true →
+        seen w .answer ≡ accepted (verdictOf sha256 q)
     taken {root} w t = same w ∙ ap (λ b. cond b (accepted (verdictOf sha256 q)) (refused (agreed root x q h own .n))) t
 
     only : (b : Bool) (v : Verdict) (n : ℕ) → 1 ≤ n → numberOf (cond b (accepted v) (refused n)) ≡ 0 → b ≡ true
     only true v n l z = refl
     only false v n l z = absurd (omega arith)
 
-    back : {root f g : Bytes} {r : ℕ} (w : Verifies root (sha256 (askedKey q)) x f r g) → numberOf (w .verdict) ≡ 0 → partnerAccepts sha256 root q ≡ true
+    back : {root f g : Bytes} {r : ℕ} (w : Verifies root (sha256 (askedIn q .bytes)) x f r g) → numberOf (seen w .answer) ≡ 0 → partnerAccepts sha256 root q ≡ true
     back {root} w z =
         let a = agreed root x q h own in
         only (partnerAccepts sha256 root q) (verdictOf sha256 q) (a .n) (a .not-0) (sym (ap (λ o. numberOf o) (same w)) ∙ z)
 
 -- What was written is a message that reading gives back.
-pub message-is-given : {x : Bytes} {lent : Lent} {room f t g : Bytes} → All Byte x → LentBytes lent → WritesMessage x lent room f 0 t g → MessageGiven x lent t g
-message-is-given {x} {lent} {room} {f} {t} {g} b lb w =
-    let k = written-message lb w in
-    let q = rawProof lent (k .proof) in
-    let long : num g ≡ length (k .m) = ap num (k .told-is) ∙ num-le 4 (length (k .m)) (omega (arith, k .at-most, most q)) in
-    let same : take (num g) t ≡ k .m = ap (take (num g)) (k .room-is) ∙ take-at (k .m) (drop (length (k .m)) room) (num g) (sym long) in
+pub message-is-given : {x asked : Bytes} {leaves : List Bytes} {room f t g : Bytes} → WritesMessage x asked leaves room f 0 t g → MessageGiven x asked leaves t g
+message-is-given {x} {asked} {leaves} {room} {f} {t} {g} w =
+    let k = written-message w in
+    let q = k .proof in
+    let m = messageBytes q in
+    let e = k .lends .encodes in
+    let short : length m ≤ mostBytes q = message-at-most q (encodes-raw e) in
+    let long : num g ≡ length m = ap num (k .told-is) ∙ num-le 4 (length m) (omega (arith, short, most q)) in
+    let same : m ≡ take (num g) t = sym (ap (take (num g)) (k .room-is) ∙ take-at m (drop (length m) room) (num g) (sym long)) in
+    let there : Encodes x (take (num g) t) q = subst (λ y. Encodes x y q) same e in
     record {
-      proof = k .proof;
-      encodes = record { raw = k .raw; is = k .is ∙ sym same };
-      at-most = omega (arith, long, k .at-most);
-      given-back = λ {room = room₁} {f = f₁} {t₁} {g₁} {r} fits v. k .given-back fits (subst (λ m. ReadsMessage m room₁ f₁ r t₁ g₁) same v);
-      stands = subst (λ m. Stand m (spotsIn q) (lentIn q)) (sym same) (k .stands);
+      proof = q;
+      encodes = there;
+      lends = k .lends;
+      at-most = omega (arith, long, short);
+      given-back = λ {room = room₁} {f = f₁} {t₁} {g₁} {r} fits v. read-back there fits v;
+      stands = stands-there there;
       accepted = λ {room = room₁} {f = f₁} {t₁} {g₁} {root} {k = key} {f₂} {g₂} {r} {r₂} fits v.
-          let e = k .given-back fits (subst (λ m. ReadsMessage m room₁ f₁ r t₁ g₁) same v) in
-          let is : take (length x) t₁ ≡ x = ap (take (length x)) (e .1) ∙ take-at x (drop (length x) room₁) (length x) refl in
+          let is : take (length x) t₁ ≡ x = ap (take (length x)) (read-back there fits v .1) ∙ take-at x (drop (length x) room₁) (length x) refl in
           (subst (λ y. Verifies root key y f₂ r₂ g₂) is, subst (λ y. Verifies root key y f₂ r₂ g₂) (sym is));
-      partner = partner-agrees x (take (num g) t) q (k .raw) (k .is ∙ sym same) (subst (ProofIs x) (sym (k .own)) (k .proof-is));
+      partner = partner-agrees x q (encodes-raw there) (there .own);
     }
 
 -- a record in form is short
@@ -144,26 +152,25 @@ few (presence p) h = omega (arith, length-presence p h, h .short)
 few (absence a) h = omega (arith, length-absence a (h .0) (h .1) (h .2), few-beside (a .leftward) (h .1), few-beside (a .rightward) (h .2))
 
 -- What was read is a message, and our own record of it makes it again.
-pub message-is-taken : {m room f t g : Bytes} → All Byte m → ReadsMessage m room f 0 t g → MessageTaken m t g
-message-is-taken {m} {room} {f} {t} {g} b w =
-    let k = read-message b w in
+pub message-is-taken : {m room f t g : Bytes} → ReadsMessage m room f 0 t g → MessageTaken m t g
+message-is-taken {m} {room} {f} {t} {g} w =
+    let k = read-message w in
     let q = k .proof in
-    let x = recordOf sha256 q in
-    let form = own-form sha256 digest-whole q (k .encodes .raw) in
-    let first : take 4 g ≡ le 4 (length x) =
-    ap (take 4) (k .told-is) ∙ take-at (le 4 (length x)) (spotsBytes (spotsIn q)) 4 (length-le 4 (length x)) in
-    let long : num (take 4 g) ≡ length x = ap num first ∙ num-le 4 (length x) (omega (arith, few (ownProof sha256 q) form)) in
+    let x = recordOf q in
+    let first : take 4 g ≡ le 4 (length x) = ap (take 4) (k .told-is) ∙ take-at (le 4 (length x)) _ 4 (length-le 4 (length x)) in
+    let long : num (take 4 g) ≡ length x = ap num first ∙ num-le 4 (length x) (omega (arith, few (ownProof sha256 q) (k .encodes .own .form))) in
     let same : take (num (take 4 g)) t ≡ x =
     ap (take (num (take 4 g))) (k .room-is) ∙ take-at x (drop (length x) room) (num (take 4 g)) (sym long) in
+    let there : Encodes (take (num (take 4 g)) t) m q = subst (λ y. Encodes y m q) (sym same) (k .encodes) in
     record {
       proof = q;
-      encodes = k .encodes;
-      record-is = same;
-      written-so = k .written-so;
-      partner = partner-agrees (take (num (take 4 g)) t) m q (k .encodes .raw) (k .encodes .is) (record { bytes = same; form = form });
+      encodes = there;
+      written-so = λ {room = room₁} {f = f₁} {t₁} {g₁} {r} fits v. written-again (k .encodes) fits v;
+      partner = partner-agrees (take (num (take 4 g)) t) q (encodes-raw there) (there .own);
     }
 
--- A partner's verifier is led as ours is.
-pub led-alike : (p : Presence) → RawPresence p → LedAlike p
-unfolding leafHash innerHash leadsTo
-led-alike p h = record { led = λ root. let e = led-as-ours sha256 (λ y. digest-whole y .0) root p h in (λ t. same-bytes _ root (sym e ∙ t), λ l. e ∙ rw l (bytes-same root)) }
+-- A partner's check is led to a root by an existence proof of a message exactly if our own record of it is.
+pub led-alike : {x m : Bytes} (p : Presence) → Encodes x m (presence p) → (root : Bytes) →
+    (calculated ourSpec sha256 (existenceOf p) ≡ some root) ↔ Leads leafHash innerHash root (sha256 (p .key)) (ownPresence sha256 p)
+unfolding leafHash innerHash
+led-alike p e root = led-as-ours sha256 (λ y. digest-whole y .0) root p (encodes-raw e)

@@ -5,17 +5,16 @@ use lib.ListN.{length}
 use Rattle.terms.specs.declared.Form.the-variants.{Plain as plain, Counted as counted}
 use Rattle.terms.specs.Bits.{Bytes, Byte, All}
 use Rattle.move_rules.specs.Moves.{SameRoom}
-use Rattle.move_rules.specs.Claims.{SoundIn}
+use Rattle.move_rules.specs.Claims.{SoundIn, Moved}
 use Rattle.move_rules.proofs.Outcomes.{former-never-matter, sound-is-moved}
 use Rattle.move_rules.proofs.Theorems.{accepted-move-is-worth}
 use Rattle.contracts.specs.Contracts.{MovesOver, MovesBack}
-use Rattle.demands.specs.Claims.{MovedOver, MovedBack}
 
 -- An accepted move over, and one back, are worth what 02 says.
-pub accepted-over-is-worth : {s old t : Bytes} → All Byte s → MovesOver s old 0 t → MovedOver s t
+pub accepted-over-is-worth : {s old t : Bytes} → All Byte s → MovesOver s old 0 t → Moved plain s t
 accepted-over-is-worth h w = accepted-move-is-worth h w
 
-pub accepted-back-is-worth : {s old t : Bytes} → All Byte s → MovesBack s old 0 t → MovedBack s t
+pub accepted-back-is-worth : {s old t : Bytes} → All Byte s → MovesBack s old 0 t → Moved counted s t
 accepted-back-is-worth h w = accepted-move-is-worth h w
 
 -- Every sound store is moved into a target of the right size.

@@ -7,26 +7,24 @@ use Rattle.terms.specs.declared.Form.the-variants.{Counted as counted}
 use Rattle.terms.specs.Bits.{Bytes}
 use Rattle.promises.proofs.Check.{one-answer}
 use Rattle.meaning.specs.Calls.{Answer, refused, apply}
-use Rattle.meaning.specs.Answers.{numberOf, toldOf, foundAfter, roomAfter}
+use Rattle.meaning.specs.Answers.{roomAfter, Exports}
+use Rattle.meaning.proofs.Told.{one-exported, one-exports}
 use Rattle.sha256.specs.Sha256.{sha256}
 use Rattle.layout.specs.Stores.{storeOf}
 use Rattle.promises.specs.Check.{Checked, sound}
-use Rattle.promises.specs.Calls.{SoundBytes, Exports}
+use Rattle.promises.specs.Calls.{SoundBytes, Does}
 use Rattle.nodehash.specs.Node.{leafHash, innerHash}
 use Rattle.batch.proofs.Batches.{asks-one}
 use Rattle.promises.proofs.Calls.{one-outcome, one-export}
 use Rattle.changed.specs.Changes.{listBytes}
 use Rattle.contracts.specs.Apply.{told}
-use Rattle.contracts.specs.Changes.{countBytes}
 use Rattle.rescue_bytes.proofs.Outcomes as rescue
 use Rattle.move_rules.proofs.Outcomes as move
 use Rattle.contracts.specs.Contracts.{Formats, Checks, Applies, Prunes, ReadsRoot, ReadsKey, Counts, ReadsAt, Proves, Palettes, Changes, Verifies, VerifiesMany, TellsVersion, Hashes, Rescues, MovesOver, MovesBack, Finds}
 use Rattle.forgery.specs.Finding.{Finding}
-use Rattle.finding_rules.specs.Call.{findingBytes}
 use Rattle.finding_rules.proofs.Told as found
 use Rattle.contracts.specs.Finds.{Answers, wrong-key, wrong-store, sound-store}
 use Rattle.verify_rules.proofs.Told.{one-verdict}
-use Rattle.verify_rows.specs.Rows.{overFront}
 use Rattle.verify_rows.proofs.Told.{one-told-of-row}
 
 -- what is found of a proof has one answer
@@ -54,43 +52,39 @@ module _ {s : Bytes} {a b : ℕ} where
   pub one-apply : (number : ℕ) (batch : Bytes) {f t u g h : Bytes} → Applies number batch s f a t g → Applies number batch s f b u h →
       (a ≡ b) × (t ≡ u) × (g ≡ h)
   one-apply number batch {f} {u = u} {h = h} x y =
-      one-export (x .applied) (subst (λ o. Exports (apply leafHash innerHash number o) told s f b u h)
+      one-export (x .applied) (subst (λ o. Exports (λ z. Does (apply leafHash innerHash number o) s z u) told f b h)
       (asks-one batch (y .asked) (x .asked) (y .asks) (x .asks)) (y .applied))
 
   pub one-prune : (n : ℕ) {f t u g h : Bytes} → Prunes n s f a t g → Prunes n s f b u h → (a ≡ b) × (t ≡ u) × (g ≡ h)
   one-prune n x y = one-export x y
 
   pub one-root : {v : ℕ} {f g h : Bytes} → ReadsRoot s v f a g → ReadsRoot s v f b h → (a ≡ b) × (g ≡ h)
-  one-root x y = (x .answer ∙ sym (y .answer), x .root ∙ sym (y .root))
+  one-root x y = one-exported refl (x .exported) (y .exported)
 
   pub one-get : {v : ℕ} {k f g h : Bytes} → ReadsKey s v k f a g → ReadsKey s v k f b h → (a ≡ b) × (g ≡ h)
-  one-get x y = (x .answer ∙ sym (y .answer), x .found ∙ sym (y .found))
+  one-get x y = one-exported refl (x .exported) (y .exported)
 
   pub one-count : {v : ℕ} {f g h : Bytes} → Counts s v f a g → Counts s v f b h → (a ≡ b) × (g ≡ h)
-  one-count x y = (x .answer ∙ sym (y .answer), x .count ∙ sym (y .count))
+  one-count x y = one-exported refl (x .exported) (y .exported)
 
   pub one-at : {v i : ℕ} {f g h : Bytes} → ReadsAt s v i f a g → ReadsAt s v i f b h → (a ≡ b) × (g ≡ h)
-  one-at x y = (x .answer ∙ sym (y .answer), x .grant ∙ sym (y .grant))
+  one-at x y = one-exported refl (x .exported) (y .exported)
 
   pub one-prove : {v : ℕ} {k room f t u g h : Bytes} → Proves s v k room f a t g → Proves s v k room f b u h → (a ≡ b) × (t ≡ u) × (g ≡ h)
-  one-prove x y = (x .answer ∙ sym (y .answer), x .proof ∙ sym (y .proof), x .told ∙ sym (y .told))
+  one-prove x y = let (e, d) = one-exported refl (x .exported) (y .exported) in (e, x .proof ∙ sym (y .proof), d)
 
   pub one-palette : {v : ℕ} {list room f t u g h : Bytes} → Palettes s v list room f a t g → Palettes s v list room f b u h → (a ≡ b) × (t ≡ u) × (g ≡ h)
-  one-palette x y = (x .answer ∙ sym (y .answer), x .proofs ∙ sym (y .proofs), x .told ∙ sym (y .told))
+  one-palette x y = let (e, d) = one-exported refl (x .exported) (y .exported) in (e, x .proofs ∙ sym (y .proofs), d)
 
   pub one-changes : {first second limit : ℕ} {room f t u g h : Bytes} → Changes first second limit s room f a t g →
       Changes first second limit s room f b u h → (a ≡ b) × (t ≡ u) × (g ≡ h)
-  one-changes {room = room} {f = f} x y =
-      let o = one-outcome (x .does) (y .does) .0 in (
-        x .number ∙ ap numberOf o ∙ sym (y .number),
-        x .list ∙ ap (λ z. roomAfter listBytes z room) o ∙ sym (y .list),
-        x .told ∙ ap (λ z. countBytes z f) o ∙ sym (y .told),
-      )
+  one-changes {room = room} x y =
+      let o = one-outcome (x .does) (y .does) .0 in
+      let (e, d) = one-exported o (x .exported) (y .exported) in
+      (e, x .list ∙ ap (λ z. roomAfter listBytes z room) o ∙ sym (y .list), d)
 
   pub one-finding : {v : ℕ} {k x f g h : Bytes} → Finds s v k x f a g → Finds s v k x f b h → (a ≡ b) × (g ≡ h)
-  one-finding {f = f} x y =
-      let o = one-found (x .answers) (y .answers) in
-      (x .number ∙ ap numberOf o ∙ sym (y .number), x .told ∙ ap (λ z. toldOf findingBytes z f) o ∙ sym (y .told))
+  one-finding x y = one-exports (λ p q. one-found) x y
 
   pub one-rescue : {oldest latest : ℕ} {old f t u g h : Bytes} → Rescues oldest latest s old f a t g → Rescues oldest latest s old f b u h →
       (a ≡ b) × (t ≡ u) × (g ≡ h)
@@ -105,14 +99,10 @@ module _ {s : Bytes} {a b : ℕ} where
 
 module _ {a b : ℕ} where
   pub one-verify : {root k x f g h : Bytes} → Verifies root k x f a g → Verifies root k x f b h → (a ≡ b) × (g ≡ h)
-  one-verify {root} {k} {x} {f} u w =
-      let e = one-verdict root k x (u .verdict) (w .verdict) (u .told) (w .told) in
-      (u .answer ∙ ap (λ v. numberOf v) e ∙ sym (w .answer), u .found ∙ ap (λ v. foundAfter v f) e ∙ sym (w .found))
+  one-verify {root} {k} {x} u w = one-exports (one-verdict root k x) u w
 
   pub one-verify-many : {root list row old g h : Bytes} → VerifiesMany root list row old a g → VerifiesMany root list row old b h → (a ≡ b) × (g ≡ h)
-  one-verify-many {root} {list} {row} {old} u w =
-      let e = one-told-of-row root list row (length old) (u .answers) (w .answers) (u .told) (w .told) in
-      (u .answer ∙ ap (λ v. numberOf v) e ∙ sym (w .answer), u .buffer ∙ ap (λ v. toldOf (λ b. overFront b old) v old) e ∙ sym (w .buffer))
+  one-verify-many {root} {list} {row} {old} u w = one-exports (one-told-of-row root list row (length old)) u w
 
   pub one-version : TellsVersion a → TellsVersion b → a ≡ b
   one-version x y = x ∙ sym y

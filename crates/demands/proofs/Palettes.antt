@@ -23,11 +23,12 @@ use Rattle.meaning.specs.Reading.{answerOf}
 use Rattle.meaning.specs.Proving.{HoldsGrant, proof, presenceLength, proofLength, fitted, prove}
 use Rattle.meaning.specs.Checking.{checked}
 use Rattle.meaning.specs.Answers.{numberOf, foundBytes, roomAfter}
+use Rattle.meaning.proofs.Told.{exported-kept, exported-left}
 use Rattle.shown.proofs.Verdicts.{accepted-same}
 use Rattle.shown.proofs.Theorems.{proofs-have-17080-bytes, root-read-is-hash, shown}
 use Rattle.palette_rules.specs.Palette.{wholeKeys, keysIn, followed, inTurn, lengthTogether, fittedTogether, palette}
 use Rattle.palette_rules.specs.Claims.{ProofOfEach}
-use Rattle.palette_rules.proofs.Turns.{proofs-of-each, each-proved, first-refused}
+use Rattle.palette_rules.proofs.Turns.{proofs-of-each, each-proved, one-asked, first-refused}
 use Rattle.palette_rules.proofs.Keys.{keys-are-32, keys-are-bytes, keys-counted}
 use Rattle.nodehash.specs.Node.{leafHash, innerHash}
 use Rattle.proofrecords.specs.ProofBytes.{stepsBytes, flagsOf, neighbourBytes, presenceBytes, absenceBytes, proofBytes, ProofForm}
@@ -41,7 +42,7 @@ use Rattle.promises.specs.Calls.{SoundBytes}
 use Rattle.promises.proofs.Calls.{sound-form}
 use Rattle.promises.specs.Headed.{byHeader}
 use Rattle.contracts.specs.Proves.{proveAnswer}
-use Rattle.contracts.specs.Palettes.{paletteAnswer, proofsBytes, palettedInto, lengthBytes}
+use Rattle.contracts.specs.Palettes.{paletteAnswer, proofsBytes}
 use Rattle.verify_rules.specs.Verify.{Judged, Told}
 use Rattle.contracts.specs.Contracts.{ReadsRoot, Proves, Palettes, Verifies}
 use Rattle.demands.specs.Claims.{treeOfVersion, grantsOfVersion}
@@ -56,8 +57,8 @@ use Rattle.demands.proofs.Showing.{root-of-tree, checker-on, verify-lef
 module _ {s : Bytes} {v : ℕ} {list room f : Bytes} {r : ℕ} {t g : Bytes} (w : Palettes s v list room f r t g) where
   pub refused-palette-writes-nothing : (r ≡ 0 → ⊥) → (t ≡ room) × (g ≡ f)
   refused-palette-writes-nothing h =
-      let e = refused-of (palettedInto s none v list room) (λ z. h (w .answer ∙ z)) in
-      (w .proofs ∙ ap (λ a. roomAfter proofsBytes a room) (e .1), w .told ∙ ap (λ a. lengthBytes a f) (e .1))
+      let e = refused-of (paletteAnswer s none v list (length room)) (λ z. h (w .exported .number ∙ z)) in
+      (w .proofs ∙ ap (λ a. roomAfter proofsBytes a room) (e .1), exported-kept (w .exported) h)
 
 -- by the header: 1 or 2 as a single call, else the rest
 in-header : (s : Bytes) (v : ℕ) (list : Bytes) (room : ℕ) {c o l : ℕ} → wholeKeys list ≡ true → headerOf counted s ≡ header c o l →
@@ -115,8 +116,7 @@ palette-never-0 st v keys room n e z = go (isKept st v) refl
   where
     fit : (a : Answer (List Proof)) → inTurn (proof st v) keys ≡ a → fittedTogether room a ≡ refused n → ⊥
     fit (refused m) f h =
-        let w = first-refused (proof st v) keys m f in
-        proof-nonzero st v (w .key) m (w .holds) (sym (with-number h) ∙ z)
+        let (k, e) = one-asked (proof st v) keys (first-refused (proof st v) keys m f) in proof-nonzero st v k m e (sym (with-number h) ∙ z)
     fit (accepted ps) f h = nine (ltb room (lengthTogether ps)) h
       where
         nine : (b : Bool) → cond b (refused 9) (accepted ps) ≡ refused n → ⊥
@@ -171,8 +171,8 @@ given-is s v list room ps = go (wholeKeys list) (headerOf counted s) (isKept (st
         }
 
 module _ {s : Bytes} {v : ℕ} {list room f t g : Bytes} (w : Palettes s v list room f 0 t g) where
-  pub there-are : (ps : List Proof) × (palettedInto s none v list room ≡ accepted ps)
-  there-are = accepted-of (palettedInto s none v list room) (λ n e. answer-never-0 s v list (length room) n e) (w .answer)
+  pub there-are : (ps : List Proof) × (paletteAnswer s none v list (length room) ≡ accepted ps)
+  there-are = accepted-of (paletteAnswer s none v list (length room)) (λ n e. answer-never-0 s v list (length room) n e) (w .exported .number)
 
   pub its-given : Given s v list (length room) (there-are .0)
   its-given = given-is s v list (length room) (there-are .0) (there-are .1)
@@ -184,7 +184,7 @@ module _ {s : Bytes} {v : ℕ} {list room f t g : Bytes} (w : Palettes s v list 
   told-is whole =
       let few = together-most (storeOf s) v (keysIn list) (there-are .0) (its-given .each) in
       let many = keys-counted list whole in
-      ap num (w .told ∙ ap (λ a. lengthBytes a f) (there-are .1)) ∙ num-le 4 (lengthTogether (there-are .0)) (omega arith)
+      ap num (exported-left (w .exported) (there-are .1) .1) ∙ num-le 4 (lengthTogether (there-are .0)) (omega arith)
 
 -- the single calls' proofs
 module _ (s : Bytes) (v : ℕ) (slots : All (SlotForm counted) (storeOf s .slots)) where
@@ -227,16 +227,16 @@ module _ {s : Bytes} {v : ℕ} where
       inTurn (proof (storeOf s) v) keys ≡ refused n
   first-in-turn h longs (refused-here {k} {room} {keys} room-for z x) =
       let e = single-refused (storeOf s) v k (length room) (proof (storeOf s) v k) room-for z refl
-      (x .answer ∙ ap (λ a. numberOf a) (single-header s v k (length room) (longs .0) h)) in
+      (x .exported .number ∙ ap (λ a. numberOf a) (single-header s v k (length room) (longs .0) h)) in
       ap (λ a. followed a (inTurn (proof (storeOf s) v) keys)) e
   first-in-turn h longs (refused-later {k} x more) =
       ap₂ followed (its-tests x .proved) (first-in-turn h (longs .1) more)
 
   -- where it is wrong, each single call gives the same number
   first-by-header : {m n : ℕ} {keys : List Bytes} → headerOf counted s ≡ refusal m → All (λ k. length k ≡ 32) keys → FirstRefusal s v keys n → n ≡ m
-  first-by-header h longs (refused-here {k} {room} room-for z x) = x .answer ∙ ap (λ a. numberOf a) (single-refusal s v k (length room) (longs .0) h)
+  first-by-header h longs (refused-here {k} {room} room-for z x) = x .exported .number ∙ ap (λ a. numberOf a) (single-refusal s v k (length room) (longs .0) h)
   first-by-header {m} h longs (refused-later {k} {room} x more) =
-      absurd (never-0 (1 ∷ 2 ∷ []) refl (header-numbers s h) (sym (x .answer ∙ ap (λ a. numberOf a) (single-refusal s v k (length room) (longs .0) h))))
+      absurd (never-0 (1 ∷ 2 ∷ []) refl (header-numbers s h) (sym (x .exported .number ∙ ap (λ a. numberOf a) (single-refusal s v k (length room) (longs .0) h))))
 
 -- a version that isn't kept refuses the first key with 8
 first-not-kept : (st : Store) (v : ℕ) (keys : List Bytes) {n : ℕ} → isKept st v ≡ false → inTurn (proof st v) keys ≡ refused n → n ≡ 8
@@ -269,9 +269,9 @@ module _ (s list : Bytes) (bytes : All Byte s) (asked : All Byte list) (whole : 
       )
 
   first : {room f t g : Bytes} {r n : ℕ} → Palettes s v list room f r t g → FirstRefusal s v (keysIn list) n → r ≡ n
-  first {room} {r = r} {n = n} w c = w .answer ∙ go (headerOf counted s) refl
+  first {room} {r = r} {n = n} w c = w .exported .number ∙ go (headerOf counted s) refl
     where
-      go : (h : Headed) → headerOf counted s ≡ h → numberOf (palettedInto s none v list room) ≡ n
+      go : (h : Headed) → headerOf counted s ≡ h → numberOf (paletteAnswer s none v list (length room)) ≡ n
       go (refusal m) e =
           ap (λ a. numberOf a) (by-refusal s v list (length room) whole e) ∙ sym (first-by-header e (keys-are-32 list) c)
       go (header a o l) e =
@@ -297,7 +297,7 @@ module _ (s list : Bytes) (bytes : All Byte s) (asked : All Byte list) (whole : 
         let ps = calls-proved s v slots c in (
           ps .0,
           ap length (joined-bytes s v slots (ps .0) keys c (ps .1)) ∙ together-long s v slots (keysIn list) (ps .0) keys (ps .1),
-          w .answer
+          w .exported .number
               ∙ ap (λ a. numberOf a)
               (in-header s v list (length room) whole (h .3)
               ∙ palette-kept (storeOf s) v (keysIn list) (length room) (h .4)
@@ -396,7 +396,7 @@ module _ (s : Bytes) (w : SoundBytes s) (v : ℕ) (kept : Kept (storeOf s) v) (s
         let ps = each-there (keysIn list) (keys-are-bytes list asked) in
         let few = together-most (storeOf s) v (keysIn list) (ps .0) (ps .1) in
         let fit : fittedTogether (length room) (accepted (ps .0)) ≡ accepted (ps .0) = rw (le-ltb (length room) (lengthTogether (ps .0)) (omega arith)) in
-        x .answer
+        x .exported .number
         ∙ ap (λ a. numberOf a)
         (in-header s v list (length room) whole (w .headed)
         ∙ palette-kept (storeOf s) v (keysIn list) (length room) (kept-is-kept (storeOf s) v kept)

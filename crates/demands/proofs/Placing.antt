@@ -26,7 +26,7 @@ use Rattle.promises.specs.Calls.{SoundBytes}
 use Rattle.promises.proofs.Calls.{sound-form, sound-back}
 use Rattle.contracts.specs.Contracts.{Applies}
 use Rattle.demands.specs.Claims.{treeOfVersion, latestOf}
-use Rattle.demands.specs.Placing.{slotFor, Places}
+use Rattle.demands.specs.Placing.{Places}
 use Rattle.demands.proofs.Refusals.{no-refusal}
 use Rattle.demands.proofs.Versions.{Makes, makes, store-is, after, sound}
 
@@ -45,6 +45,17 @@ retire-many new old now (x ∷ s) zero = refl
 retire-many new old now (free ∷ s) (suc i) = ap suc (retire-many new old now s i)
 retire-many new old now (used r ∷ s) (suc i) = retire-many new old now s i
 retire-many new old now (spoiled x ∷ s) (suc i) = retire-many new old now s i
+
+-- of the new records the one with n before it; a slot for which there is none stays free.
+abbrev slotFor : ℕ → List Record → Slot
+slotFor n [] = free
+slotFor zero (r ∷ rs) = used r
+slotFor (suc n) (r ∷ rs) = slotFor n rs
+
+slot-for : (n : ℕ) (rs : List Record) → slotFor n rs ≡ getD (map used rs) n free
+slot-for n [] = refl
+slot-for zero (r ∷ rs) = refl
+slot-for (suc n) (r ∷ rs) = slot-for n rs
 
 -- what stands in a slot that was free
 placed-free : (rs : List Record) (s : List Slot) (i : ℕ) → i < length s → getD s i free ≡ free →
@@ -125,7 +136,7 @@ module _ {number : ℕ} {batch s t g : Bytes} (small : number ≤ top32) (bytes 
       marked-bytes n r = retired-put counted r n
 
       filled : (i : ℕ) → i < length (old .slots) → getD (old .slots) i free ≡ free →
-          getD (new .slots) i free ≡ slotFor (freeSlots (take i (old .slots))) (newRecords leafHash innerHash number newTree)
+          getD (new .slots) i free ≡ getD (map used (newRecords leafHash innerHash number newTree)) (freeSlots (take i (old .slots))) free
       filled i h e =
           let was = recordsOf leafHash innerHash (treeAtVersion old (old .latest)) in
           let now = recordsOf leafHash innerHash (nextTree number (treeAtVersion old (old .latest)) (m .asks)) in
@@ -134,6 +145,7 @@ module _ {number : ℕ} {batch s t g : Bytes} (small : number ≤ top32) (bytes 
           ∙ placed-free _ (retire number was now (old .slots)) i (rw (length-map (old .slots) (onRecord (retireIn number was now))) h) (retire-free _ (old .slots) i h e)
           ∙ ap (λ n. slotFor n (recordsNeeded leafHash innerHash number (m .asks) old)) (retire-many number was now (old .slots) i)
           ∙ ap (slotFor (freeSlots (take i (old .slots)))) needed
+          ∙ slot-for (freeSlots (take i (old .slots))) (newRecords leafHash innerHash number newTree)
 
 -- An accepted batch retires, keeps and fills slots as 01 says.
 pub accepted-batch-places : (number : ℕ) (batch : Bytes) {s f t g : Bytes} → number ≤ top32 → All Byte s →

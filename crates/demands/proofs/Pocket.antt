@@ -12,13 +12,14 @@ use lib.Dec.{eqb, ltb}
 use borrow.Author.Tests.{eqb-true, eqb-false, eq-eqb}
 use Rattle.terms.specs.declared.Form.the-variants.{Counted as counted}
 use Rattle.terms.specs.Bits.{Bytes, Byte, All, Whole32}
-use Rattle.terms.specs.Fields.{le, num}
+use Rattle.terms.specs.Fields.{num}
 use Rattle.terms.specs.Records.{Proof}
 use Rattle.meaning.specs.Sound.{Kept}
 use Rattle.meaning.specs.Calls.{Answer, refused, accepted}
 use Rattle.meaning.specs.Reading.{Verdict, spoiltRecord, answerOf}
 use Rattle.meaning.specs.Proving.{HoldsGrant, proof, proofLength, fitted, prove}
-use Rattle.meaning.specs.Answers.{numberOf, foundAfter, foundBytes, toldOf, roomAfter}
+use Rattle.meaning.specs.Answers.{numberOf, foundBytes, roomAfter}
+use Rattle.meaning.proofs.Told.{seen, exports, exports-kept, one-exports, exported-as, exported-kept, one-exported}
 use Rattle.proofrecords.specs.ProofBytes.{ProofIs, proofBytes}
 use Rattle.proofrecords.proofs.Proofs.{one-proof-is}
 use Rattle.layout.specs.Headers.{Headed, refusal, header, headerOf}
@@ -28,23 +29,23 @@ use Rattle.promises.proofs.Calls.{sound-form}
 use Rattle.promises.specs.Headed.{byHeader}
 use Rattle.contracts.specs.Proves.{proveAnswer}
 use Rattle.pocket.specs.Pocket.{Outside, small, inProfile, pocketProve}
-use Rattle.pocket.proofs.Theorems.{inside-shows-short, outside-shows-long, pocket-proofs-have-2296-bytes}
-use Rattle.contracts.specs.Pocket.{pocketAnswer, pocketInto}
+use Rattle.pocket.proofs.Theorems.{not-both-sides, pocket-proofs-have-2296-bytes}
+use Rattle.contracts.specs.Pocket.{pocketAnswer}
 use Rattle.verify_rules.specs.Verify.{Judged, Told, not-32-bytes, not-in-form, in-form}
 use Rattle.verify_rules.specs.Pocket as told
 use Rattle.verify_rules.specs.Pocket.{PocketJudged}
 use Rattle.verify_rules.proofs.Told.{one-pocket-verdict}
 use Rattle.refusals.specs.Exactly.{Exactly, NoneOf, low, Names}
-use Rattle.refusals.specs.Rows.{Not32, StopsProve, TooLong, ProvedOutside, OutsidePocket}
+use Rattle.ways.specs.Ways.{ProofStopped}
+use Rattle.refusals.specs.Tables.{Not32, TooLong, ProvedOutside, OutsidePocket, pocketProveRows, pocketVerifyRows, testsOf}
 use Rattle.refusals.proofs.Exactly.{First, exactly}
 use Rattle.refusals.proofs.Headers.{records-formed}
 use Rattle.refusals.proofs.Stopped.{Stopped, stopped-first, stopped-names}
 use Rattle.refusals.proofs.Pocket.{pocket-judged-first, pocket-stopped}
 use Rattle.contracts.specs.Contracts.{ReadsRoot, Proves, Verifies, PocketProves, PocketVerifies}
-use Rattle.demands.specs.Tables.{pocketProveRows, pocketVerifyRows, testsOf}
 use Rattle.demands.specs.Claims.{grantsOfVersion}
 use Rattle.demands.specs.Pocket.{BesideTheFullCheck, BesideTheFullProver, PocketShown}
-use Rattle.demands.proofs.Refusals.{never-0, header-numbers, refused-of, found-kept}
+use Rattle.demands.proofs.Refusals.{never-0, header-numbers, refused-of}
 use Rattle.demands.proofs.Exact.{read-stopped, key-stopped}
 use Rattle.demands.proofs.Outcomes.{one-verify}
 use Rattle.demands.proofs.Forms.{proof-form}
@@ -54,38 +55,36 @@ use Rattle.demands.proofs.Showing.{sound-is-shown}
 module _ {a b : ℕ} where
   pub one-pocket-prove : {s : Bytes} {v : ℕ} {k room f t u g h : Bytes} → PocketProves s v k room f a t g → PocketProves s v k room f b u h →
       (a ≡ b) × (t ≡ u) × (g ≡ h)
-  one-pocket-prove x y = (x .answer ∙ sym (y .answer), x .proof ∙ sym (y .proof), x .told ∙ sym (y .told))
+  one-pocket-prove x y = let (e, d) = one-exported refl (x .exported) (y .exported) in (e, x .proof ∙ sym (y .proof), d)
 
   pub one-pocket-verify : {root k x f g h : Bytes} → PocketVerifies root k x f a g → PocketVerifies root k x f b h → (a ≡ b) × (g ≡ h)
-  one-pocket-verify {root} {k} {x} {f} u w =
-      let e = one-pocket-verdict root k x (u .verdict) (w .verdict) (u .told) (w .told) in
-      (u .answer ∙ ap (λ v. numberOf v) e ∙ sym (w .answer), u .found ∙ ap (λ v. foundAfter v f) e ∙ sym (w .found))
+  one-pocket-verify {root} {k} {x} u w = one-exports (one-pocket-verdict root k x) u w
 
 -- The prover: 12, 1, 2, 8, 14, 17 or 3, 19, 9, and the slot beside 3.
 module _ {s : Bytes} {v : ℕ} {k room f : Bytes} {r : ℕ} {t g : Bytes} (h : All Byte s) (w : PocketProves s v k room f r t g) where
-  pocket-answers : Stopped (testsOf (pocketProveRows s v k room)) ((19, ProvedOutside s v k) ∷ (9, TooLong s v k room) ∷ []) (StopsProve s v k) r
+  pocket-answers : Stopped (testsOf (pocketProveRows s v k room)) ((19, ProvedOutside s v k) ∷ (9, TooLong s v k room) ∷ []) (ProofStopped (storeOf s) v k) r
   unfolding pocketAnswer
   pocket-answers =
-      subst (Stopped (testsOf (pocketProveRows s v k room)) ((19, ProvedOutside s v k) ∷ (9, TooLong s v k room) ∷ []) (StopsProve s v k)) (sym (w .answer))
+      subst (Stopped (testsOf (pocketProveRows s v k room)) ((19, ProvedOutside s v k) ∷ (9, TooLong s v k room) ∷ []) (ProofStopped (storeOf s) v k)) (sym (w .exported .number))
       (key-stopped k (byHeader (headerOf counted s) (pocketProve (storeOf s) v k (length room)))
       (read-stopped s (pocketProve (storeOf s) v k (length room)) (λ c o l e. pocket-stopped s (records-formed s h e) v k room)))
 
   pub pocket-prove-exactly : Exactly (pocketProveRows s v k room) (low r)
   pocket-prove-exactly = exactly (pocketProveRows s v k room) (low r) refl (stopped-first refl refl pocket-answers)
 
-  pub pocket-prove-names-slot : Names (λ i. NoneOf (testsOf (pocketProveRows s v k room)) × StopsProve s v k (spoiltRecord i)) r
+  pub pocket-prove-names-slot : Names (λ i. NoneOf (testsOf (pocketProveRows s v k room)) × ProofStopped (storeOf s) v k (spoiltRecord i)) r
   pocket-prove-names-slot = stopped-names refl refl pocket-answers
 
 pub refused-pocket-prove-writes-nothing : {s : Bytes} {v : ℕ} {k room f : Bytes} {r : ℕ} {t g : Bytes} → PocketProves s v k room f r t g → (r ≡ 0 → ⊥) →
     (t ≡ room) × (g ≡ f)
-refused-pocket-prove-writes-nothing {s} {v} {k} {room} {f} w h =
-    let e = refused-of (pocketInto s v k room) (λ z. h (w .answer ∙ z)) in
-    (w .proof ∙ ap (λ a. roomAfter proofBytes a room) (e .1), w .told ∙ ap (λ a. toldOf (λ p. le 4 (proofLength p)) a f) (e .1))
+refused-pocket-prove-writes-nothing {s} {v} {k} {room} w h =
+    let e = refused-of (pocketAnswer s v k (length room)) (λ z. h (w .exported .number ∙ z)) in
+    (w .proof ∙ ap (λ a. roomAfter proofBytes a room) (e .1), exported-kept (w .exported) h)
 
 -- The check: 12, 10, 19, 11.
 pub pocket-verify-exactly : {root k x f : Bytes} {r : ℕ} {g : Bytes} → PocketVerifies root k x f r g → Exactly (pocketVerifyRows root k x) r
 pocket-verify-exactly {root} {k} {x} {r = r} w =
-    exactly (pocketVerifyRows root k x) r refl (subst (First (pocketVerifyRows root k x)) (sym (w .answer)) (go (w .told)))
+    exactly (pocketVerifyRows root k x) r refl (subst (First (pocketVerifyRows root k x)) (sym (seen w .exported .number)) (go (seen w .said)))
   where
     go : {a : Answer Verdict} → Told PocketJudged root k x a → First (pocketVerifyRows root k x) (numberOf a)
     go (not-32-bytes n) = inl (λ z. n (z .0, z .1 .0), refl)
@@ -93,7 +92,7 @@ pocket-verify-exactly {root} {k} {x} {r = r} w =
     go (in-form {p} s is h) = inr (λ z. z (s .0, (s .1, tt)), inr (λ f. f p is, pocket-judged-first p is h))
 
 pub refused-pocket-verify-writes-nothing : {root k x f : Bytes} {r : ℕ} {g : Bytes} → PocketVerifies root k x f r g → (r ≡ 0 → ⊥) → g ≡ f
-refused-pocket-verify-writes-nothing w = found-kept (w .verdict) (w .answer) (w .found)
+refused-pocket-verify-writes-nothing w = exports-kept w
 
 -- a proof that isn't outside is inside
 not-outside : (p : Proof) → (Outside p → ⊥) → small p ≡ true
@@ -101,7 +100,7 @@ not-outside p h = go (small p) refl
   where
     go : (b : Bool) → small p ≡ b → b ≡ true
     go true e = refl
-    go false e = absurd (h (outside-shows-long p e))
+    go false e = absurd (h e)
 
 -- The check beside the full one.
 module _ (root k x : Bytes) where
@@ -112,7 +111,7 @@ module _ (root k x : Bytes) where
   as-full h (in-form s is (told.inside n j)) = in-form s is j
 
   pub as-verifies : {f g : Bytes} {r : ℕ} → (OutsidePocket x → ⊥) → PocketVerifies root k x f r g → Verifies root k x f r g
-  as-verifies h w = record { verdict = w .verdict; told = as-full h (w .told); answer = w .answer; found = w .found }
+  as-verifies h w = exports (seen w .answer) (as-full h (seen w .said)) (seen w .exported)
 
   inside : {f g g₁ : Bytes} {r r₁ : ℕ} → (OutsidePocket x → ⊥) → PocketVerifies root k x f r g → Verifies root k x f r₁ g₁ → (r ≡ r₁) × (g ≡ g₁)
   inside h w y = one-verify (as-verifies h w) y
@@ -144,7 +143,7 @@ module _ (root k x : Bytes) where
       go h = h .0 .1 o
 
   accepted-short : {f g : Bytes} → PocketVerifies root k x f 0 g → length x ≤ 2296
-  accepted-short w = go (w .told) (w .answer)
+  accepted-short w = go (seen w .said) (seen w .exported .number)
     where
       go : {a : Answer Verdict} → Told PocketJudged root k x a → 0 ≡ numberOf a → length x ≤ 2296
       go (not-32-bytes n) e = absurd (omega arith)
@@ -175,22 +174,20 @@ module _ (s : Bytes) (v : ℕ) (k : Bytes) where
       (same-in-profile room (proof (storeOf s) v k) (λ p e. not-outside p (λ o. h (p, e, o))))
 
   as-proves : {room f t g : Bytes} {r : ℕ} → (ProvedOutside s v k → ⊥) → PocketProves s v k room f r t g → Proves s v k room f r t g
-  as-proves {room} {f} h w =
-      let e = as-proved (length room) h in record {
-        answer = w .answer ∙ ap (λ a. numberOf a) e;
-        proof = w .proof ∙ ap (λ a. roomAfter proofBytes a room) e;
-        told = w .told ∙ ap (λ a. toldOf (λ p. le 4 (proofLength p)) a f) e;
-      }
+  as-proves {room} h w =
+      let e = as-proved (length room) h in
+      record { exported = exported-as e (w .exported); proof = w .proof ∙ ap (λ a. roomAfter proofBytes a room) e }
 
   prover-inside : {room f t t₁ g g₁ : Bytes} {r r₁ : ℕ} → (ProvedOutside s v k → ⊥) → PocketProves s v k room f r t g → Proves s v k room f r₁ t₁ g₁ →
       (r ≡ r₁) × (t ≡ t₁) × (g ≡ g₁)
   prover-inside h w y =
-      let z = as-proves h w in (z .answer ∙ sym (y .answer), z .proof ∙ sym (y .proof), z .told ∙ sym (y .told))
+      let z = as-proves h w in
+      let (e, d) = one-exported refl (z .exported) (y .exported) in (e, z .proof ∙ sym (y .proof), d)
 
   -- where it answers 0, the proof there is isn't outside
   given-inside : {room f t g : Bytes} → PocketProves s v k room f 0 t g → ProvedOutside s v k → ⊥
   unfolding pocketAnswer pocketProve
-  given-inside {room} w (p, e, o) = go (eqb (length k) 32) (headerOf counted s) (small p) refl header-not-0 (w .answer ∙ ap (λ a. numberOf (cond (eqb (length k) 32) (byHeader (headerOf counted s) (fitted (length room) (inProfile a))) (refused 12))) e)
+  given-inside {room} w (p, e, o) = go (eqb (length k) 32) (headerOf counted s) (small p) refl header-not-0 (w .exported .number ∙ ap (λ a. numberOf (cond (eqb (length k) 32) (byHeader (headerOf counted s) (fitted (length room) (inProfile a))) (refused 12))) e)
     where
       header-not-0 : (n : ℕ) → headerOf counted s ≡ refusal n → n ≡ 0 → ⊥
       header-not-0 n e = never-0 (1 ∷ 2 ∷ []) refl (header-numbers s e)
@@ -200,7 +197,7 @@ module _ (s : Bytes) (v : ℕ) (k : Bytes) where
       go false x c d f z = absurd (omega arith)
       go true (refusal n) c d f z = f n refl (sym z)
       go true (header a b l) false d f z = absurd (omega arith)
-      go true (header a b l) true d f z = inside-shows-short p d o
+      go true (header a b l) true d f z = not-both-sides p d o
 
   prover-short : {room f t g : Bytes} → PocketProves s v k room f 0 t g → num g ≤ 2296
   prover-short w =
@@ -218,7 +215,7 @@ module _ (s : Bytes) (v : ℕ) (k : Bytes) where
 
 -- On a sound store, in a kept version that holds a grant.
 module _ {s : Bytes} (w : SoundBytes s) (v : ℕ) (kept : Kept (storeOf s) v) (k : Bytes) (whole : Whole32 k) (some : HoldsGrant (storeOf s) v) where
-  into : (room : Bytes) → pocketInto s v k room ≡ pocketProve (storeOf s) v k (length room)
+  into : (room : Bytes) → pocketAnswer s v k (length room) ≡ pocketProve (storeOf s) v k (length room)
   unfolding pocketAnswer
   into room = rw (eq-eqb (length k) 32 (whole .0), w .headed)
 
@@ -240,11 +237,11 @@ module _ {s : Bytes} (w : SoundBytes s) (v : ℕ) (kept : Kept (storeOf s) v) (k
   unfolding pocketProve
   shown-19 {room} {r = r} x =
       let is : r ≡ numberOf (fitted (length room) (cond (small proved) (accepted proved) (refused 19))) =
-      x .answer ∙ ap (λ a. numberOf a) (into room) ∙ ap (λ a. numberOf (fitted (length room) (inProfile a))) is-proved in
+      x .exported .number ∙ ap (λ a. numberOf a) (into room) ∙ ap (λ a. numberOf (fitted (length room) (inProfile a))) is-proved in
       (there is, back is)
     where
       there : r ≡ numberOf (fitted (length room) (cond (small proved) (accepted proved) (refused 19))) → r ≡ 19 → ProvedOutside s v k
-      there is e = (proved, is-proved, outside-shows-long proved (fitted-19 (length room) (small proved) (sym is ∙ e)))
+      there is e = (proved, is-proved, (fitted-19 (length room) (small proved) (sym is ∙ e)))
 
       back : r ≡ numberOf (fitted (length room) (cond (small proved) (accepted proved) (refused 19))) → ProvedOutside s v k → r ≡ 19
       back is (p, e, o) = go (small proved) refl is
@@ -254,7 +251,7 @@ module _ {s : Bytes} (w : SoundBytes s) (v : ℕ) (kept : Kept (storeOf s) v) (k
 
           go : (b : Bool) → small proved ≡ b → r ≡ numberOf (fitted (length room) (cond b (accepted proved) (refused 19))) → r ≡ 19
           go false f z = z
-          go true f z = absurd (inside-shows-short proved f (subst Outside same o))
+          go true f z = absurd (not-both-sides proved f (subst Outside same o))
 
   with-room : {room f t g : Bytes} {r : ℕ} → (ProvedOutside s v k → ⊥) → 2296 ≤ length room → PocketProves s v k room f r t g → r ≡ 0
   with-room h long x =

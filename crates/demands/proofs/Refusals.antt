@@ -12,13 +12,12 @@ use lib.Dec.{eqb, ltb}
 use borrow.Author.Tests.{eqb-false}
 use Rattle.terms.specs.declared.Form.the-variants.{Counted as counted}
 use Rattle.terms.specs.Bits.{Bytes, left, right, sameBytes}
-use Rattle.terms.specs.Fields.{le}
 use Rattle.terms.specs.Records.{Ask, Proof, Store}
 use Rattle.terms.proofs.Tests.{and-right}
 use Rattle.meaning.specs.Calls.{Answer, refused, accepted, Result, isKept, apply, prune}
 use Rattle.meaning.specs.Sight.{scan}
-use Rattle.meaning.specs.Reading.{Trouble, lostRecord, spoiltRecord, strayLeaf, beside, refusalOf, Verdict, End, broken, atLeaf, atGap, walk, seen}
-use Rattle.meaning.specs.Proving.{Sought, lostWay, nobody, somebody, neighbour, absenceFrom, absenceAt, proveEnd, proveSeen, proof, proofLength, fitted, prove}
+use Rattle.meaning.specs.Reading.{Trouble, lostRecord, spoiltRecord, strayLeaf, beside, refusalOf, End, walkStopped, atLeaf, atGap, walk, seen}
+use Rattle.meaning.specs.Proving.{Sought, searchStopped, nobody, somebody, neighbour, absenceFrom, absenceAt, proveEnd, proveSeen, proof, proofLength, fitted, prove}
 use Rattle.meaning.proofs.Empty.{proof-by-searches}
 use Rattle.histories.specs.Claims.{ApplyRefuses, not-in-form, not-ascending, not-above-latest, no-room}
 use Rattle.histories.proofs.Theorems.{apply-refuses-exactly, prune-refuses-exactly}
@@ -29,17 +28,13 @@ use Rattle.layout.proofs.Headers.{header-refused}
 use Rattle.proofrecords.specs.ProofBytes.{proofBytes}
 use Rattle.changed.specs.Changes.{listBytes}
 use Rattle.contracts.specs.Format.{formatAnswer, formatBytes}
-use Rattle.promises.specs.Calls.{Does, wrong-header, not-sound, refuses, Exports, exports-refusal, exports-answer}
+use Rattle.promises.specs.Calls.{Does, wrong-header, not-sound, refuses}
 use Rattle.promises.proofs.Calls.{refused-writes-nothing}
-use Rattle.meaning.specs.Answers.{numberOf, toldOf, foundAfter, roomAfter}
+use Rattle.meaning.specs.Answers.{numberOf, roomAfter, Exports, exports-refusal, exports-answer}
+use Rattle.meaning.proofs.Told.{exported-kept, exports-kept}
 use Rattle.promises.specs.Headed.{byHeader}
-use Rattle.contracts.specs.Reads.{rootAnswer, keyAnswer, rootBytes}
-use Rattle.contracts.specs.Numbers.{numberAnswer, positionAnswer, grantBytes}
-use Rattle.contracts.specs.Proves.{proveAnswer, provedInto, lengthBytes}
+use Rattle.contracts.specs.Proves.{proveAnswer}
 use Rattle.contracts.specs.Changes as compared
-use Rattle.contracts.specs.Changes.{countBytes}
-use Rattle.finding_rules.specs.Call.{findingBytes}
-use Rattle.verify_rows.specs.Rows.{overFront}
 use Rattle.rescue_bytes.proofs.Outcomes.{refused-export-leaves}
 use Rattle.move_rules.proofs.Outcomes as move
 use Rattle.contracts.specs.Contracts.{Formats, Applies, Prunes, ReadsRoot, ReadsKey, Counts, ReadsAt, Proves, Changes, Rescues, MovesOver, MovesBack, Verifies, VerifiesMany, Finds}
@@ -113,7 +108,7 @@ module _ {A : Type 0} {call : Store → Result A} {s : Bytes} where
   does-numbers ns own (not-sound e g) = inr (inr (inl refl))
   does-numbers ns {m} own (refuses w e) = inr (inr (inr (own (storeOf s) m e)))
 
-  export-writes-nothing : {told : A → Bytes} {f t g : Bytes} {r : ℕ} → Exports call told s f r t g → (r ≡ 0 → ⊥) → (t ≡ s) × (g ≡ f)
+  export-writes-nothing : {told : A → Bytes} {f t g : Bytes} {r : ℕ} → Exports (λ a. Does call s a t) told f r g → (r ≡ 0 → ⊥) → (t ≡ s) × (g ≡ f)
   export-writes-nothing (exports-refusal d) h = (refused-writes-nothing d, refl)
   export-writes-nothing (exports-answer d) h = absurd (h refl)
 
@@ -143,30 +138,21 @@ module _ (n : ℕ) {s f t g : Bytes} {r : ℕ} (w : Prunes n s f r t g) where
 -- A root read.
 module _ {s : Bytes} {v : ℕ} {f : Bytes} {r : ℕ} {g : Bytes} (w : ReadsRoot s v f r g) where
   pub refused-root-writes-nothing : (r ≡ 0 → ⊥) → g ≡ f
-  refused-root-writes-nothing h =
-      let e = refused-of (rootAnswer s none v) (λ z. h (w .answer ∙ z)) in w .root ∙ ap (λ a. rootBytes a f) (e .1)
-
--- What a key's answer leaves of an array.
-pub found-kept : {f g : Bytes} {r : ℕ} (a : Answer Verdict) → r ≡ numberOf a → g ≡ foundAfter a f → (r ≡ 0 → ⊥) → g ≡ f
-found-kept {f} a e h n = let d = refused-of a (λ z. n (e ∙ z)) in h ∙ ap (λ b. foundAfter b f) (d .1)
+  refused-root-writes-nothing = exported-kept (w .exported)
 
 -- A key read.
 module _ {s : Bytes} {v : ℕ} {k f : Bytes} {r : ℕ} {g : Bytes} (w : ReadsKey s v k f r g) where
   pub refused-get-writes-nothing : (r ≡ 0 → ⊥) → g ≡ f
-  refused-get-writes-nothing = found-kept (keyAnswer s none v k) (w .answer) (w .found)
-
--- What an answer tells of an array.
-told-kept : {A : Type 0} (told : A → Bytes) {f g : Bytes} {r : ℕ} (a : Answer A) → r ≡ numberOf a → g ≡ toldOf told a f → (r ≡ 0 → ⊥) → g ≡ f
-told-kept told {f = f} a e h n = let d = refused-of a (λ z. n (e ∙ z)) in h ∙ ap (λ b. toldOf told b f) (d .1)
+  refused-get-writes-nothing = exported-kept (w .exported)
 
 -- The two reads by counts.
 module _ {s : Bytes} {v : ℕ} {f : Bytes} {r : ℕ} {g : Bytes} (w : Counts s v f r g) where
   pub refused-count-writes-nothing : (r ≡ 0 → ⊥) → g ≡ f
-  refused-count-writes-nothing = told-kept (le 8) (numberAnswer s none v) (w .answer) (w .count)
+  refused-count-writes-nothing = exported-kept (w .exported)
 
 module _ {s : Bytes} {v i : ℕ} {f : Bytes} {r : ℕ} {g : Bytes} (w : ReadsAt s v i f r g) where
   pub refused-at-writes-nothing : (r ≡ 0 → ⊥) → g ≡ f
-  refused-at-writes-nothing = told-kept grantBytes (positionAnswer s none v i) (w .answer) (w .grant)
+  refused-at-writes-nothing = exported-kept (w .exported)
 
 -- Proving: no refusal is 0.
 stopped-nonzero : (t : Trouble) → refusalOf t ≡ 0 → ⊥
@@ -182,17 +168,17 @@ refused-nonzero : (m : ℕ) → (m ≡ 0 → ⊥) → NeverZero (refused m)
 refused-nonzero m h n e z = h (sym (with-number e) ∙ z)
 
 absence-nonzero : (k : Bytes) (x y : Sought) → NeverZero (absenceFrom k x y)
-absence-nonzero k (lostWay t) y n e = refused-nonzero (refusalOf t) (stopped-nonzero t) n e
-absence-nonzero k nobody (lostWay t) n e = refused-nonzero (refusalOf t) (stopped-nonzero t) n e
+absence-nonzero k (searchStopped t) y n e = refused-nonzero (refusalOf t) (stopped-nonzero t) n e
+absence-nonzero k nobody (searchStopped t) n e = refused-nonzero (refusalOf t) (stopped-nonzero t) n e
 absence-nonzero k nobody nobody n e = refused-nonzero 14 (λ z. omega arith) n e
 absence-nonzero k nobody (somebody q) n e = no-refusal e
-absence-nonzero k (somebody p) (lostWay t) n e = refused-nonzero (refusalOf t) (stopped-nonzero t) n e
+absence-nonzero k (somebody p) (searchStopped t) n e = refused-nonzero (refusalOf t) (stopped-nonzero t) n e
 absence-nonzero k (somebody p) nobody n e = no-refusal e
 absence-nonzero k (somebody p) (somebody q) n e = no-refusal e
 
 end-nonzero : (k : Bytes) (e : End) → NeverZero (proveEnd k e)
 unfolding absenceAt
-end-nonzero k (broken t) n h = refused-nonzero (refusalOf t) (stopped-nonzero t) n h
+end-nonzero k (walkStopped t) n h = refused-nonzero (refusalOf t) (stopped-nonzero t) n h
 end-nonzero k (atGap trail) n h = absence-nonzero k (neighbour left k (atGap trail)) (neighbour right k (atGap trail)) n h
 end-nonzero k (atLeaf l x trail) n h = go (sameBytes k l) _ h
   where
@@ -230,15 +216,15 @@ prove-nonzero s v k room n = go (eqb (length k) 32) (headerOf counted s) (λ m. 
 module _ {s : Bytes} {v : ℕ} {k room f : Bytes} {r : ℕ} {t g : Bytes} (w : Proves s v k room f r t g) where
   pub refused-prove-writes-nothing : (r ≡ 0 → ⊥) → (t ≡ room) × (g ≡ f)
   refused-prove-writes-nothing h =
-      let e = refused-of (provedInto s none v k room) (λ z. h (w .answer ∙ z)) in
-      (w .proof ∙ ap (λ a. roomAfter proofBytes a room) (e .1), w .told ∙ ap (λ a. lengthBytes a f) (e .1))
+      let e = refused-of (proveAnswer s none v k (length room)) (λ z. h (w .exported .number ∙ z)) in
+      (w .proof ∙ ap (λ a. roomAfter proofBytes a room) (e .1), exported-kept (w .exported) h)
 
 -- A comparison.
 module _ {first second limit : ℕ} {s room f : Bytes} {r : ℕ} {t g : Bytes} (w : Changes first second limit s room f r t g) where
   pub refused-changes-writes-nothing : (r ≡ 0 → ⊥) → (t ≡ room) × (g ≡ f)
   refused-changes-writes-nothing h =
-      let e = refused-of (w .answer) (λ z. h (w .number ∙ z)) in
-      (w .list ∙ ap (λ a. roomAfter listBytes a room) (e .1), w .told ∙ ap (λ a. countBytes a f) (e .1))
+      let e = refused-of (w .answer) (λ z. h (w .exported .number ∙ z)) in
+      (w .list ∙ ap (λ a. roomAfter listBytes a room) (e .1), exported-kept (w .exported) h)
 
 -- A rescue.
 pub refused-rescue-writes-nothing : {oldest latest : ℕ} {s old f t g : Bytes} {r : ℕ} → Rescues oldest latest s old f r t g → (r ≡ 0 → ⊥) →
@@ -248,8 +234,7 @@ refused-rescue-writes-nothing w h = refused-export-leaves w h
 -- What is found of a proof.
 module _ {s : Bytes} {v : ℕ} {k x f : Bytes} {r : ℕ} {g : Bytes} (w : Finds s v k x f r g) where
   pub refused-finding-writes-nothing : (r ≡ 0 → ⊥) → g ≡ f
-  refused-finding-writes-nothing h =
-      let e = refused-of (w .answer) (λ z. h (w .number ∙ z)) in w .told ∙ ap (λ a. toldOf findingBytes a f) (e .1)
+  refused-finding-writes-nothing = exports-kept w
 
 -- A move.
 pub refused-over-writes-nothing : {s old t : Bytes} {r : ℕ} → MovesOver s old r t → (r ≡ 0 → ⊥) → t ≡ old
@@ -261,11 +246,9 @@ refused-back-writes-nothing w h = move.refused-writes-nothing w h
 -- The proof check.
 module _ {root k x f : Bytes} {r : ℕ} {g : Bytes} (w : Verifies root k x f r g) where
   pub refused-verify-writes-nothing : (r ≡ 0 → ⊥) → g ≡ f
-  refused-verify-writes-nothing = found-kept (w .verdict) (w .answer) (w .found)
+  refused-verify-writes-nothing = exports-kept w
 
 -- Many proofs at once.
 module _ {root list row old : Bytes} {r : ℕ} {new : Bytes} (w : VerifiesMany root list row old r new) where
   pub refused-verify-many-writes-nothing : (r ≡ 0 → ⊥) → new ≡ old
-  refused-verify-many-writes-nothing h =
-      let e = refused-of (w .answers) (λ z. h (w .answer ∙ z)) in
-      w .buffer ∙ ap (λ a. toldOf (λ b. overFront b old) a old) (e .1)
+  refused-verify-many-writes-nothing = exports-kept w

@@ -6,12 +6,10 @@ use mathlib.Core.Path.{_≡_, refl, ap, sym, _∙_, subst}
 use lib.ListN.{length}
 use Rattle.terms.specs.Bits.{Bytes, Byte, All}
 use Rattle.terms.specs.Form.{top32}
-use Rattle.meaning.specs.Tree.{hash, unversioned, grantsIn}
+use Rattle.meaning.specs.Tree.{grantsIn}
 use Rattle.meaning.specs.Sound.{Kept}
 use Rattle.meaning.specs.Calls.{Answer, refused, accepted}
-use Rattle.meaning.specs.Reading.{answerOf}
-use Rattle.meaning.specs.Answers.{foundBytes}
-use Rattle.nodehash.specs.Node.{leafHash, innerHash}
+use Rattle.meaning.specs.Answers.{exports-refusal, exports-answer}
 use Rattle.layout.specs.Stores.{storeOf}
 use Rattle.promises.specs.Calls.{SoundBytes}
 use Rattle.rescue_bytes.specs.Rescues as rescue
@@ -21,9 +19,9 @@ use Rattle.rescue_bytes.proofs.Outcomes.{accepted-report, former-never-matter}
 use Rattle.rescue_bytes.proofs.Worth as worths
 use Rattle.rescue_bytes.proofs.Again.{GaveBack, sound-comes-back, rescued-comes-back}
 use Rattle.contracts.specs.Contracts.{Rescues}
-use Rattle.demands.specs.Claims.{Rescued, GivenBack}
+use Rattle.demands.specs.Claims.{ReadsFor, Rescued, GivenBack}
 use Rattle.demands.proofs.Stored.{stored-sound}
-use Rattle.demands.proofs.Showing.{root-of-tree, key-of-grants}
+use Rattle.demands.proofs.Reading.{sound-reads-for}
 
 -- An accepted rescue is worth what 02 says.
 pub accepted-rescue-is-worth : {oldest latest : ℕ} {s old f t g : Bytes} → All Byte s → latest ≤ top32 → Rescues oldest latest s old f 0 t g →
@@ -38,10 +36,7 @@ accepted-rescue-is-worth {oldest} {latest} {s} {old} {f} {t} {g} h n w =
       worth = y;
       sound = sound;
       told = e;
-      reads-root = λ {v} a b z.
-          let k = root-of-tree sound (kept v a b) z in (k .0, k .1 ∙ ap (λ u. hash leafHash innerHash (unversioned u)) (y .trees v (kept v a b)));
-      reads-key = λ {v} {k} a b whole z.
-          let m = key-of-grants sound (kept v a b) whole z in (m .0, m .1 ∙ ap (λ u. foundBytes (answerOf k (grantsIn u))) (y .trees v (kept v a b)));
+      reads = λ v a b. subst (ReadsFor t v) (ap grantsIn (y .trees v (kept v a b))) (sound-reads-for sound v (kept v a b));
     }
 
 -- The target's former bytes never matter.
@@ -58,8 +53,8 @@ same-report e = cc
 
 given-back : {oldest latest first : ℕ} {s old f t g : Bytes} {r : ℕ} → Rescues oldest latest s old f r t g →
     ((a : Answer Report) → rescue.Rescues oldest latest s old a t → GaveBack first s a t) → GivenBack first s r t g
-given-back (rescue.exports-refusal w) k = let (x, (q, e, m, c)) = k _ w in not-both e
-given-back (rescue.exports-report {r = r} w) k =
+given-back (exports-refusal w) k = let (x, (q, e, m, c)) = k _ w in not-both e
+given-back (exports-answer {a = r} w) k =
     let (x, (q, e, m, c)) = k _ w in
     let same : r ≡ q = same-report e in
     record { accepts = refl; bytes = x; report = r; told = refl; begins = ap (λ y. y .first) same ∙ m; as-it-was = subst AsItWas (sym same) c }

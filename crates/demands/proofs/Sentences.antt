@@ -15,6 +15,7 @@ use Rattle.meaning.specs.Sound.{Kept}
 use Rattle.meaning.specs.Calls.{Answer, accepted}
 use Rattle.meaning.specs.Reading.{Verdict}
 use Rattle.meaning.specs.Answers.{numberOf, roomAfter}
+use Rattle.meaning.proofs.Told.{exported-left, seen}
 use Rattle.shown.proofs.Theorems.{kept-test}
 use Rattle.proofrecords.specs.ProofBytes.{absenceKind, absenceHead, flagsOf, neighbourBytes, proofBytes, absenceBytes, ProofForm}
 use Rattle.layout.specs.Headers.{header, headerOf}
@@ -22,7 +23,7 @@ use Rattle.layout.specs.Stores.{storeOf}
 use Rattle.verify_rules.specs.Verify.{Judged, Told, not-32-bytes, not-in-form, in-form}
 use Rattle.palette_rules.specs.Palette.{wholeKeys, keysIn, palette}
 use Rattle.meaning.specs.Proving.{proof}
-use Rattle.contracts.specs.Palettes.{paletteAnswer, lengthBytes, proofsBytes}
+use Rattle.contracts.specs.Palettes.{paletteAnswer, proofsBytes}
 use Rattle.contracts.specs.Contracts.{Verifies, Palettes}
 use Rattle.demands.proofs.Given.{kindOf, kind-is}
 
@@ -53,7 +54,7 @@ flags-of a =
 -- 2026-03: 'From now on flags 0 is off form (10)', also under the zero root and with another key in it.
 pub flags-0-is-off-form : {root k x f g : Bytes} {r : ℕ} → length root ≡ 32 → length k ≡ 32 → field 4 2 x ≡ absenceKind →
     field 6 2 x ≡ 0 → Verifies root k x f r g → r ≡ 10
-flags-0-is-off-form {root} {k} {x} e d kind flags w = w .answer ∙ go (w .told)
+flags-0-is-off-form {root} {k} {x} e d kind flags w = seen w .exported .number ∙ go (seen w .said)
   where
     flagged : (p : Proof) → ProofForm p → field 4 2 (proofBytes p) ≡ absenceKind → field 6 2 (proofBytes p) ≡ 0 → ⊥
     flagged (presence q) h a b = omega (arith, a, kind-alone (presence q))
@@ -69,6 +70,6 @@ flags-0-is-off-form {root} {k} {x} e d kind flags w = w .answer ∙ go (w .told)
 pub no-keys-are-accepted : {s room f t g : Bytes} {v r c o l : ℕ} → headerOf counted s ≡ header c o l → Kept (storeOf s) v →
     Palettes s v [] room f r t g → (r ≡ 0) × (t ≡ room) × (g ≡ le 4 0)
 unfolding paletteAnswer palette wholeKeys keysIn proof
-no-keys-are-accepted {s} {room} {f} {v = v} headed kept w =
+no-keys-are-accepted {s} {room} {v = v} headed kept w =
     let is : paletteAnswer s none v [] (length room) ≡ accepted [] = rw (headed, kept-test (storeOf s) v kept) (rw (le-ltb (length room) 0 (omega arith))) in
-    (w .answer ∙ ap (λ a. numberOf a) is, w .proofs ∙ ap (λ a. roomAfter proofsBytes a room) is, w .told ∙ ap (λ a. lengthBytes a f) is)
+    let (e, d) = exported-left (w .exported) is in (e, w .proofs ∙ ap (λ a. roomAfter proofsBytes a room) is, d)

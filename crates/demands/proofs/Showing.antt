@@ -21,32 +21,32 @@ use Rattle.meaning.specs.Proving.{HoldsGrant, proof, proofLength, fitted, prove
 use Rattle.meaning.specs.Checking.{checked}
 use Rattle.shown.proofs.Walks.{present-absent}
 use Rattle.shown.proofs.Verdicts.{accepted-same, Agrees}
-use Rattle.shown.proofs.Theorems.{proof-agrees-with-read, proofs-have-17080-bytes, given-with-room, nine-without-room, root-read-is-hash, key-read-is-answer, shown, empty-root-is-zeros, empty-is-fourteen, fourteen-exactly-without-grant}
+use Rattle.shown.proofs.Theorems.{proof-agrees-with-read, proofs-have-17080-bytes, given-with-room, nine-without-room, root-read-is-hash, key-read-is-answer, shown, empty-is-fourteen, fourteen-exactly-without-grant}
 use Rattle.nodehash.specs.Node.{leafHash, innerHash}
 use Rattle.proofrecords.specs.ProofBytes.{presenceKind, absenceKind, proofBytes, ProofForm}
 use Rattle.layout.specs.Stores.{storeOf}
 use Rattle.promises.specs.Calls.{SoundBytes}
 use Rattle.promises.proofs.Calls.{sound-form}
-use Rattle.contracts.specs.Reads.{rootAnswer, keyAnswer, rootBytes}
+use Rattle.contracts.specs.Reads.{rootAnswer, keyAnswer}
 use Rattle.contracts.proofs.Reading.{root-read-of-sound, key-read-of-sound}
-use Rattle.contracts.specs.Proves.{proveAnswer, provedInto}
+use Rattle.contracts.specs.Proves.{proveAnswer}
 use Rattle.verify_rules.specs.Verify.{Judged, Told, in-form}
 use Rattle.verify_rules.proofs.Told.{judged-exactly, one-verdict}
-use Rattle.meaning.specs.Answers.{numberOf, foundBytes, foundAfter}
+use Rattle.meaning.specs.Answers.{numberOf, toldOf, foundBytes}
+use Rattle.meaning.proofs.Told.{exported-left, exports-left}
 use Rattle.contracts.specs.Contracts.{ReadsRoot, ReadsKey, Proves, Verifies}
-use Rattle.demands.specs.Claims.{treeOfVersion, grantsOfVersion, Shown, NothingToShow}
-use Rattle.demands.proofs.Refusals.{refused-prove-writes-nothing}
+use Rattle.demands.specs.Claims.{treeOfVersion, grantsOfVersion, Shown}
 use Rattle.demands.proofs.Hashes.{hash-whole}
 use Rattle.demands.proofs.Forms.{proof-form}
 use Rattle.demands.proofs.Given.{kindOf, its-proof, its-tests, kind-told, front-is}
 
 -- what an accepted answer leaves
 root-left : {s : Bytes} {v : ℕ} {f : Bytes} {r : ℕ} {g h : Bytes} → ReadsRoot s v f r g → rootAnswer s none v ≡ accepted h → (r ≡ 0) × (g ≡ h)
-root-left {f = f} x e = (x .answer ∙ ap (λ a. numberOf a) e, x .root ∙ ap (λ a. rootBytes a f) e)
+root-left x e = exported-left (x .exported) e
 
 key-left : {s : Bytes} {v : ℕ} {k f : Bytes} {r : ℕ} {g : Bytes} {a : Verdict} → ReadsKey s v k f r g → keyAnswer s none v k ≡ accepted a →
     (r ≡ 0) × (g ≡ foundBytes a)
-key-left {f = f} x e = (x .answer ∙ ap (λ b. numberOf b) e, x .found ∙ ap (λ b. foundAfter b f) e)
+key-left x e = exported-left (x .exported) e
 
 -- On the bytes of a sound store, for a kept version, the reads answer what its tree says.
 module _ {s : Bytes} (w : SoundBytes s) {v : ℕ} (kept : Kept (storeOf s) v) where
@@ -73,11 +73,10 @@ checker-on root k p {a} r l h e = in-form (r, l) (record { bytes = refl; form = 
 
 pub verify-left : {root k x f : Bytes} {r : ℕ} {g : Bytes} {a : Verdict} → Verifies root k x f r g → Told Judged root k x (accepted a) →
     (r ≡ 0) × (g ≡ foundBytes a)
-verify-left {root} {k} {x} {f} {a = a} w t =
-    let e = one-verdict root k x (w .verdict) (accepted a) (w .told) t in (w .answer ∙ ap (λ b. numberOf b) e, w .found ∙ ap (λ b. foundAfter b f) e)
+verify-left {root} {k} {x} w t = exports-left (one-verdict root k x) w t
 
 module _ {s : Bytes} (w : SoundBytes s) (v : ℕ) (kept : Kept (storeOf s) v) (k : Bytes) (whole : Whole32 k) where
-  proved-into : (room : Bytes) → provedInto s none v k room ≡ prove (storeOf s) v k (length room)
+  proved-into : (room : Bytes) → proveAnswer s none v k (length room) ≡ prove (storeOf s) v k (length room)
   unfolding proveAnswer prove proof
   proved-into room = rw (eq-eqb (length k) 32 (whole .0), w .headed)
 
@@ -85,7 +84,7 @@ module _ {s : Bytes} (w : SoundBytes s) (v : ℕ) (kept : Kept (storeOf s) v) (k
   empty-refused : {room f t g : Bytes} {r : ℕ} → grantsOfVersion s v ≡ [] → Proves s v k room f r t g → r ≡ 14
   unfolding prove
   empty-refused {room} e x =
-      x .answer
+      x .exported .number
       ∙ ap (λ a. numberOf a)
       (proved-into room ∙ ap (fitted (length room)) (empty-is-fourteen leafHash innerHash (storeOf s) (w .sound) v kept k whole e))
 
@@ -105,20 +104,7 @@ module _ {s : Bytes} (w : SoundBytes s) (v : ℕ) (kept : Kept (storeOf s) v) (k
       there : r ≡ 14 → grantsOfVersion s v ≡ []
       there e =
           fourteen-exactly-without-grant leafHash innerHash (storeOf s) (w .sound) v kept k whole .0
-          (go (proof (storeOf s) v k) refl (sym (ap (λ a. numberOf a) (proved-into room)) ∙ sym (x .answer) ∙ e))
-
-  pub sound-has-nothing-to-show : grantsOfVersion s v ≡ [] → NothingToShow s v k
-  sound-has-nothing-to-show e = record {
-    reads-root = λ x.
-        let a = root-of-tree w kept x in (
-          a .0,
-          a .1 ∙ accepted-same _ _ (sym (root-read-is-hash leafHash innerHash (storeOf s) (w .sound) v kept)
-              ∙ empty-root-is-zeros leafHash innerHash (storeOf s) (w .sound) v kept k whole e),
-        );
-    reads-key = λ x. let a = key-of-grants w kept whole x in (a .0, a .1 ∙ ap (λ gs. foundBytes (answerOf k gs)) e);
-    refused = λ x.
-        let n = empty-refused e x in let u = refused-prove-writes-nothing x (λ z. omega arith) in (n, u .0, u .1);
-  }
+          (go (proof (storeOf s) v k) refl (sym (ap (λ a. numberOf a) (proved-into room)) ∙ sym (x .exported .number) ∙ e))
 
 module _ {s : Bytes} (w : SoundBytes s) (v : ℕ) (kept : Kept (storeOf s) v) (k : Bytes) (whole : Whole32 k) (some : HoldsGrant (storeOf s) v) where
   its : (p : Proof) × (proof (storeOf s) v k ≡ accepted p) ×
@@ -127,7 +113,7 @@ module _ {s : Bytes} (w : SoundBytes s) (v : ℕ) (kept : Kept (storeOf s) v) (k
 
   with-room : {room f t g : Bytes} {r : ℕ} → Proves s v k room f r t g → proofLength (its .0) ≤ length room → r ≡ 0
   with-room {room} x h =
-      x .answer ∙ ap (λ a. numberOf a) (proved-into w v kept k whole room ∙ given-with-room (storeOf s) v k (its .0) (length room) (its .1) h)
+      x .exported .number ∙ ap (λ a. numberOf a) (proved-into w v kept k whole room ∙ given-with-room (storeOf s) v k (its .0) (length room) (its .1) h)
 
   -- it is the one that is given
   module _ {room f t g : Bytes} (x : Proves s v k room f 0 t g) where
@@ -143,7 +129,7 @@ module _ {s : Bytes} (w : SoundBytes s) (v : ℕ) (kept : Kept (storeOf s) v) (k
 
   without-room : {room f t g : Bytes} {r : ℕ} → Proves s v k room f r t g → length room < proofLength (its .0) → r ≡ 9
   without-room {room} x h =
-      x .answer ∙ ap (λ a. numberOf a) (proved-into w v kept k whole room ∙ nine-without-room (storeOf s) v k (its .0) (length room) (its .1) h)
+      x .exported .number ∙ ap (λ a. numberOf a) (proved-into w v kept k whole room ∙ nine-without-room (storeOf s) v k (its .0) (length room) (its .1) h)
 
   short : {room f t g : Bytes} {r : ℕ} → Proves s v k room f r t g → (r ≡ 9) ↔ (length room < proofLength (its .0))
   short {room} {r = r} x = (λ e. go (ltb (length room) (proofLength (its .0))) refl e, λ h. without-room x h)
@@ -181,9 +167,8 @@ module _ {s : Bytes} (w : SoundBytes s) (v : ℕ) (kept : Kept (storeOf s) v) (k
         (a .0, b .0, b .1)
 
   -- Given room, for every version that holds a grant, the prover shows a grant exactly if the key is in the version, else its absence; and the checker accepts it.
-  pub sound-is-shown : Shown s v k
+  pub sound-is-shown : Shown s v k (answerOf k (grantsOfVersion s v))
   sound-is-shown = record {
-    reads-key = key-of-grants w kept whole;
     proved = its .0;
     is-proved = its .1;
     given = λ x. given x;
@@ -196,11 +181,11 @@ module _ {s : Bytes} (w : SoundBytes s) (v : ℕ) (kept : Kept (storeOf s) v) (k
 
 -- a proof that agrees with what is read
 as-read : (p : Proof) (k : Bytes) (a : Answer Verdict) {n r : ℕ} (f : Bytes) {h : Bytes} → n ≡ kindOf p → Agrees k a p → r ≡ numberOf a →
-    h ≡ foundAfter a f → (r ≡ 0) × ((n ≡ presenceKind) ↔ ((x : Bytes) × (h ≡ 1 ∷ x)))
+    h ≡ toldOf foundBytes a f → (r ≡ 0) × ((n ≡ presenceKind) ↔ ((x : Bytes) × (h ≡ 1 ∷ x)))
 as-read (presence q) k a f e g d c =
-    (d ∙ ap (λ b. numberOf b) (g .1), (λ z. (q .value, c ∙ ap (λ b. foundAfter b f) (g .1)), λ z. e))
+    (d ∙ ap (λ b. numberOf b) (g .1), (λ z. (q .value, c ∙ ap (λ b. toldOf foundBytes b f) (g .1)), λ z. e))
 as-read (absence b) k a f {h} e g d c =
-    (d ∙ ap (λ b. numberOf b) (g .1), (λ z. absurd (omega arith), λ z. unlike (sym (z .1) ∙ c ∙ ap (λ b. foundAfter b f) (g .1))))
+    (d ∙ ap (λ b. numberOf b) (g .1), (λ z. absurd (omega arith), λ z. unlike (sym (z .1) ∙ c ∙ ap (λ b. toldOf foundBytes b f) (g .1))))
   where
     unlike : {A : Type 0} {x y : Bytes} → 1 ∷ x ≡ 0 ∷ y → A
     unlike i = let z : _≡_ {A = ℕ} 0 1 = cc in absurd (omega arith)
@@ -213,4 +198,4 @@ proof-shows-what-is-read {s} {v} {k} {f₁ = f₁} x y =
     let w = its-tests x in
     let same : readKey (storeOf s) v k ≡ keyAnswer s none v k = rw (eq-eqb (length k) 32 (w .key), w .headed) in
     let agrees = subst (λ a. Agrees k a (its-proof x)) same (proof-agrees-with-read (storeOf s) v k (its-proof x) (w .proved)) in
-    as-read (its-proof x) k (keyAnswer s none v k) f₁ (kind-told x) agrees (y .answer) (y .found)
+    as-read (its-proof x) k (keyAnswer s none v k) f₁ (kind-told x) agrees (y .exported .number) (y .exported .told)

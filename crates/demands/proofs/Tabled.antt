@@ -12,8 +12,9 @@ use borrow.Author.Tests.{eqb-false}
 use Rattle.terms.specs.declared.Form.the-variants.{Counted as counted}
 use Rattle.terms.specs.Bits.{Bytes}
 use Rattle.terms.specs.Records.{Store}
+use Rattle.meaning.specs.Sound.{Sound}
 use Rattle.meaning.specs.Calls.{Answer, refused, accepted, Result, apply, prune}
-use Rattle.meaning.specs.Answers.{numberOf}
+use Rattle.meaning.specs.Answers.{numberOf, Exports, exports-refusal, exports-answer}
 use Rattle.nodehash.specs.Node.{leafHash, innerHash}
 use Rattle.layout.specs.Sizes.{roomOf}
 use Rattle.layout.specs.Headers.{Headed, refusal, header, headerOf, sizeRight}
@@ -23,20 +24,21 @@ use Rattle.batch.proofs.Batches.{asks-one}
 use Rattle.contracts.specs.Format.{formatAnswer, formatBytes}
 use Rattle.contracts.specs.Apply.{told}
 use Rattle.promises.specs.Check as check
-use Rattle.promises.specs.Calls.{SoundBytes, wrong-header, not-sound, refuses, accepts, Exports, exports-answer}
-use Rattle.index_rules.specs.Tables.{Fits, RightFor, Opened, other-length, checked, Tells, not-opened, not-right, is-right, Builds, not-built, built, FormatsBoth, wrong-size, both-fresh, DoesBoth, not-told, refuses-both, accepts-both, ExportsBoth, both-refused, both-answered}
+use Rattle.promises.specs.Calls.{SoundBytes, wrong-header, not-sound, refuses, accepts, Does}
+use Rattle.index_rules.specs.Tables.{Fits, RightFor, Opened, other-length, checked, Tells, not-opened, not-right, is-right, Builds, not-built, built, FormatsBoth, wrong-size, both-fresh, DoesBoth, not-told, refuses-both, accepts-both}
 use Rattle.index_rules.proofs.Outcomes as outcomes
 use Rattle.refusals.specs.Exactly.{Table, Exactly, NoneOf}
-use Rattle.refusals.specs.Rows.{WrongLength, NotSound}
-use Rattle.refusals.specs.Orders.{batchRows, versionRows}
+use Rattle.refusals.specs.Tables.{formatRows, headerRows, soundRows, applyRows, pruneRows}
+use Rattle.refusals.proofs.Parts.{WrongLength, batchRows, versionRows}
 use Rattle.refusals.proofs.Exactly.{First, past, within, exactly}
 use Rattle.refusals.proofs.Headers.{length-wrong, length-right, Header, wrong-length, wrong-header as header-wrong, right, header-is}
 use Rattle.refusals.proofs.Batches.{batch-first}
 use Rattle.refusals.proofs.Walks.{prune-first}
 use Rattle.contracts.specs.Contracts.{Formats, Applies, Prunes, Indexes, TellsIndex, FormatsIndexed, AppliesIndexed, PrunesIndexed}
-use Rattle.demands.specs.Indexed.{WrongLengths, headerRowsBy}
+use Rattle.demands.specs.Indexed.{rowsBy}
+use Rattle.demands.proofs.Indexed.{WrongLengths}
 use Rattle.demands.proofs.Refusals.{never-0, apply-refusals, prune-refusals}
-use Rattle.demands.specs.Tabled.{WrongTable, indexRows, tellRows, formatRowsBy, applyRowsBy, pruneRowsBy, Together, formatted-both, built-for, then-formatted, then-applied, then-pruned, then-built, then-looked}
+use Rattle.demands.specs.Tabled.{tellRows, keepRows, Together, formatted-both, built-for, then-formatted, then-applied, then-pruned, then-built, then-looked}
 
 -- One outcome.
 module _ {s : Bytes} {table : List ℕ} {a b : ℕ} where
@@ -52,7 +54,7 @@ module _ {s : Bytes} {table : List ℕ} {a b : ℕ} where
   pub one-apply-indexed : (number : ℕ) (batch : Bytes) {f t t′ g h : Bytes} {u v : List ℕ} → AppliesIndexed number batch s table f a t u g →
       AppliesIndexed number batch s table f b t′ v h → (a ≡ b) × (t ≡ t′) × (u ≡ v) × (g ≡ h)
   one-apply-indexed number batch {f} {t′ = t′} {h = h} {v = v} x y =
-      outcomes.one-export-both (x .applied) (subst (λ o. ExportsBoth (apply leafHash innerHash number o) told s table f b t′ v h)
+      outcomes.one-export-both (x .applied) (subst (λ o. Exports (λ a. DoesBoth (apply leafHash innerHash number o) s table a t′ v) told f b h)
       (asks-one batch (y .asked) (x .asked) (y .asks) (x .asks)) (y .applied))
 
   pub one-prune-indexed : (n : ℕ) {f t t′ g h : Bytes} {u v : List ℕ} → PrunesIndexed n s table f a t u g →
@@ -61,9 +63,9 @@ module _ {s : Bytes} {table : List ℕ} {a b : ℕ} where
 
 -- A refused call writes neither the store, nor the table, nor its array.
 both-left : {A : Type 0} {call : Store → Result A} {told : A → Bytes} {s : Bytes} {table : List ℕ} {f : Bytes} {r : ℕ} {t : Bytes} {u : List ℕ} {g : Bytes} →
-    ExportsBoth call told s table f r t u g → (r ≡ 0 → ⊥) → (t ≡ s) × (u ≡ table) × (g ≡ f)
-both-left (both-refused d) z = let w = outcomes.refused-writes-neither d in (w .0, w .1, refl)
-both-left (both-answered d) z = absurd (z refl)
+    Exports (λ a. DoesBoth call s table a t u) told f r g → (r ≡ 0 → ⊥) → (t ≡ s) × (u ≡ table) × (g ≡ f)
+both-left (exports-refusal d) z = let w = outcomes.refused-writes-neither d in (w .0, w .1, refl)
+both-left (exports-answer d) z = absurd (z refl)
 
 module _ {s : Bytes} {table : List ℕ} {r : ℕ} (z : r ≡ 0 → ⊥) where
   pub refused-index-writes-nothing : {u : List ℕ} → Indexes s table r u → u ≡ table
@@ -103,20 +105,20 @@ clash e f = let z : _≡_ {A = ℕ} 0 1 = cc in absurd (omega arith)
 -- what a call that keeps a table was, where it was accepted
 module _ {A : Type 0} {call : Store → Result A} {told : A → Bytes} {s : Bytes} {table : List ℕ} {f : Bytes} where
   both-kept : {r : ℕ} {t g : Bytes} {u : List ℕ} → ((m : ℕ) → call (storeOf s) .answer ≡ refused m → m ≡ 0 → ⊥) →
-      ExportsBoth call told s table f r t u g → r ≡ 0 → Exports call told s f 0 t g × RightFor s table × RightFor t u
-  both-kept never (both-refused (not-told n o)) z = absurd (n z)
-  both-kept never (both-refused (refuses-both o (wrong-header e))) z = clash e (outcomes.told-sound o refl .headed)
-  both-kept never (both-refused (refuses-both o (not-sound e n))) z = absurd (n (outcomes.told-sound o refl .sound))
-  both-kept never (both-refused (refuses-both o (refuses w e))) z = absurd (never _ e z)
-  both-kept never (both-answered d) z = (exports-answer (outcomes.accepted-as-plain d), outcomes.accepted-was-right d, outcomes.accepted-right d)
+      Exports (λ a. DoesBoth call s table a t u) told f r g → r ≡ 0 → Exports (λ a. Does call s a t) told f 0 g × RightFor s table × RightFor t u
+  both-kept never (exports-refusal (not-told n o)) z = absurd (n z)
+  both-kept never (exports-refusal (refuses-both o (wrong-header e))) z = clash e (outcomes.told-sound o refl .headed)
+  both-kept never (exports-refusal (refuses-both o (not-sound e n))) z = absurd (n (outcomes.told-sound o refl .sound))
+  both-kept never (exports-refusal (refuses-both o (refuses w e))) z = absurd (never _ e z)
+  both-kept never (exports-answer d) z = (exports-answer (outcomes.accepted-as-plain d), outcomes.accepted-was-right d, outcomes.accepted-right d)
 
-  both-right : {r : ℕ} {t g : Bytes} {u : List ℕ} → ExportsBoth call told s table f r t u g → RightFor s table → RightFor t u
-  both-right (both-refused {u = u} d) q =
+  both-right : {r : ℕ} {t g : Bytes} {u : List ℕ} → Exports (λ a. DoesBoth call s table a t u) told f r g → RightFor s table → RightFor t u
+  both-right {u = u} (exports-refusal d) q =
       let w = outcomes.refused-writes-neither d in subst (λ x. RightFor x u) (sym (w .0)) (subst (RightFor s) (sym (w .1)) q)
-  both-right (both-answered d) q = outcomes.accepted-right d
+  both-right (exports-answer d) q = outcomes.accepted-right d
 
 pub apply-as-plain : (number : ℕ) (batch : Bytes) {s f t g : Bytes} {table u : List ℕ} {r : ℕ} (w : AppliesIndexed number batch s table f r t u g) → r ≡ 0 →
-    Exports (apply leafHash innerHash number (w .asked)) told s f 0 t g × RightFor s table × RightFor t u
+    Exports (λ a. Does (apply leafHash innerHash number (w .asked)) s a t) told f 0 g × RightFor s table × RightFor t u
 apply-as-plain number batch {s} w =
     both-kept (λ m e. never-0 (4 ∷ 5 ∷ 18 ∷ 7 ∷ []) refl (apply-refusals number (w .asked) (storeOf s) m e)) (w .applied)
 
@@ -153,48 +155,48 @@ same-refusal e = cc
 
 module _ (s : Bytes) (table : List ℕ) where
   lengths-wrong : (Fits s table → ⊥) → WrongLengths s table
-  lengths-wrong none n least most size many = none (many ∙ sym (room-of counted (length s) n size))
+  lengths-wrong none n least most (size, many) = none (many ∙ sym (room-of counted (length s) n size))
 
   lengths-right : Fits s table → (WrongLength s → ⊥) → WrongLengths s table → ⊥
-  lengths-right fits ok wrong = ok (λ n least most size. wrong n least most size (fits ∙ room-of counted (length s) n size))
+  lengths-right fits ok wrong = ok (λ n least most size. wrong n least most (size, fits ∙ room-of counted (length s) n size))
 
-  header-first : Fits s table → {h : Headed} → Header s h → (n : ℕ) → h ≡ refusal n → First (headerRowsBy s table) n
-  header-first fits (wrong-length w) n e = inl (λ m least most size its. w m least most size, same-refusal e)
+  header-first : Fits s table → {h : Headed} → Header s h → (n : ℕ) → h ≡ refusal n → First (rowsBy s table (headerRows s)) n
+  header-first fits (wrong-length w) n e = inl (λ m least most both. w m least most (both .0), same-refusal e)
   header-first fits (header-wrong ok w) n e = inr (lengths-right fits ok, inl (w, same-refusal e))
   header-first fits (right ok w) n e = clash e refl
 
-  header-none : Fits s table → {h : Headed} → Header s h → {c o l : ℕ} → h ≡ header c o l → NoneOf (headerRowsBy s table)
+  header-none : Fits s table → {h : Headed} → Header s h → {c o l : ℕ} → h ≡ header c o l → NoneOf (rowsBy s table (headerRows s))
   header-none fits (wrong-length w) e = clash refl e
   header-none fits (header-wrong ok w) e = clash refl e
   header-none fits (right ok w) e = (lengths-right fits ok, (w, tt))
 
-  opened-first : (more : Table) {r : ℕ} → Opened s table r → (r ≡ 0 → ⊥) → First (headerRowsBy s table ++ (3, NotSound s) ∷ more) r
-  opened-first more (other-length none) z = within (headerRowsBy s table) ((3, NotSound s) ∷ more) 1 (inl (lengths-wrong none, refl)) z
+  opened-first : (more : Table) {r : ℕ} → Opened s table r → (r ≡ 0 → ⊥) → First (rowsBy s table (headerRows s) ++ (3, Sound leafHash innerHash (storeOf s) → ⊥) ∷ more) r
+  opened-first more (other-length none) z = within (rowsBy s table (headerRows s)) ((3, Sound leafHash innerHash (storeOf s) → ⊥) ∷ more) 1 (inl (lengths-wrong none, refl)) z
   opened-first more {r} (checked fits (check.refused n e)) z =
-      within (headerRowsBy s table) ((3, NotSound s) ∷ more) n (header-first fits (header-is s) n e) z
+      within (rowsBy s table (headerRows s)) ((3, Sound leafHash innerHash (storeOf s) → ⊥) ∷ more) n (header-first fits (header-is s) n e) z
   opened-first more (checked fits (check.unsound c o l e f)) z =
-      past (headerRowsBy s table) ((3, NotSound s) ∷ more) 3 (header-none fits (header-is s) e) (inl (f, refl))
+      past (rowsBy s table (headerRows s)) ((3, Sound leafHash innerHash (storeOf s) → ⊥) ∷ more) 3 (header-none fits (header-is s) e) (inl (f, refl))
   opened-first more (checked fits (check.sound c o l e f)) z = absurd (z refl)
 
-  sound-past : (more : Table) {r : ℕ} (n : ℕ) → Opened s table r → r ≡ 0 → First more n → First (headerRowsBy s table ++ (3, NotSound s) ∷ more) n
+  sound-past : (more : Table) {r : ℕ} (n : ℕ) → Opened s table r → r ≡ 0 → First more n → First (rowsBy s table (headerRows s) ++ (3, Sound leafHash innerHash (storeOf s) → ⊥) ∷ more) n
   sound-past more n o z f =
       let w = outcomes.opened-sound o z in
-      past (headerRowsBy s table) ((3, NotSound s) ∷ more) n (header-none (outcomes.opened-fits o z) (header-is s) (w .headed)) (inr (λ b. b (w .sound), f))
+      past (rowsBy s table (headerRows s)) ((3, Sound leafHash innerHash (storeOf s) → ⊥) ∷ more) n (header-none (outcomes.opened-fits o z) (header-is s) (w .headed)) (inr (λ b. b (w .sound), f))
 
-  told-first : (more : Table) {r : ℕ} → Tells s table r → (r ≡ 0 → ⊥) → First (headerRowsBy s table ++ (3, NotSound s) ∷ (16, WrongTable s table) ∷ more) r
-  told-first more (not-opened n o) z = opened-first ((16, WrongTable s table) ∷ more) o z
-  told-first more (not-right o f) z = sound-past ((16, WrongTable s table) ∷ more) 16 o refl (inl (f, refl))
+  told-first : (more : Table) {r : ℕ} → Tells s table r → (r ≡ 0 → ⊥) → First (rowsBy s table (headerRows s) ++ (3, Sound leafHash innerHash (storeOf s) → ⊥) ∷ (16, RightFor s table → ⊥) ∷ more) r
+  told-first more (not-opened n o) z = opened-first ((16, RightFor s table → ⊥) ∷ more) o z
+  told-first more (not-right o f) z = sound-past ((16, RightFor s table → ⊥) ∷ more) 16 o refl (inl (f, refl))
   told-first more (is-right o q) z = absurd (z refl)
 
-  right-past : (more : Table) {r : ℕ} (n : ℕ) → Tells s table r → r ≡ 0 → First more n → First (headerRowsBy s table ++ (3, NotSound s) ∷ (16, WrongTable s table) ∷ more) n
+  right-past : (more : Table) {r : ℕ} (n : ℕ) → Tells s table r → r ≡ 0 → First more n → First (rowsBy s table (headerRows s) ++ (3, Sound leafHash innerHash (storeOf s) → ⊥) ∷ (16, RightFor s table → ⊥) ∷ more) n
   right-past more n (not-opened m o) z f = absurd (m z)
   right-past more n (not-right o x) z f = absurd (omega arith)
-  right-past more n (is-right o q) z f = sound-past ((16, WrongTable s table) ∷ more) n o refl (inr (λ w. w q, f))
+  right-past more n (is-right o q) z f = sound-past ((16, RightFor s table → ⊥) ∷ more) n o refl (inr (λ w. w q, f))
 
-  pub index-exactly : {r : ℕ} {u : List ℕ} → Indexes s table r u → Exactly (indexRows s table) r
-  index-exactly {r} w = exactly (indexRows s table) r refl (go w)
+  pub index-exactly : {r : ℕ} {u : List ℕ} → Indexes s table r u → Exactly (rowsBy s table (soundRows s)) r
+  index-exactly {r} w = exactly (rowsBy s table (soundRows s)) r refl (go w)
     where
-      go : {n : ℕ} {u : List ℕ} → Builds s table n u → First (indexRows s table) n
+      go : {n : ℕ} {u : List ℕ} → Builds s table n u → First (rowsBy s table (soundRows s)) n
       go (not-built z o) = opened-first [] o z
       go (built o q) = sound-past [] 0 o refl refl
 
@@ -206,31 +208,31 @@ module _ (s : Bytes) (table : List ℕ) where
       go (not-right o f) = told-first [] (not-right o f) (λ z. absurd (omega arith))
       go (is-right o q) = right-past [] 0 (is-right o q) refl refl
 
-  pub format-indexed-exactly : {r : ℕ} {t : Bytes} {u : List ℕ} → FormatsIndexed s table r t u → Exactly (formatRowsBy s table) r
-  format-indexed-exactly {r} w = exactly (formatRowsBy s table) r refl (go w)
+  pub format-indexed-exactly : {r : ℕ} {t : Bytes} {u : List ℕ} → FormatsIndexed s table r t u → Exactly (rowsBy s table (formatRows s)) r
+  format-indexed-exactly {r} w = exactly (rowsBy s table (formatRows s)) r refl (go w)
     where
-      go : {n : ℕ} {t : Bytes} {u : List ℕ} → FormatsBoth s table n t u → First (formatRowsBy s table) n
+      go : {n : ℕ} {t : Bytes} {u : List ℕ} → FormatsBoth s table n t u → First (rowsBy s table (formatRows s)) n
       go (wrong-size none) =
-          inl (λ n least most size many. none (size-right-of counted (length s) n size least most) (many ∙ sym (room-of counted (length s) n size)), refl)
+          inl (λ n least most (size, many). none (size-right-of counted (length s) n size least most) (many ∙ sym (room-of counted (length s) n size)), refl)
       go (both-fresh h f e q) = inr (lengths-right f (length-right s h), refl)
 
 both-first : {A : Type 0} (call : Store → Result A) {told : A → Bytes} (s : Bytes) (table : List ℕ) (more : Table) {f t g : Bytes} {u : List ℕ} {r : ℕ} →
-    First more (numberOf (call (storeOf s) .answer)) → ExportsBoth call told s table f r t u g →
-    First (headerRowsBy s table ++ (3, NotSound s) ∷ (16, WrongTable s table) ∷ more) r
-both-first call s table more h (both-refused (not-told n o)) = told-first s table more o n
-both-first call s table more h (both-refused (refuses-both o (wrong-header e))) = clash e (outcomes.told-sound o refl .headed)
-both-first call s table more h (both-refused (refuses-both o (not-sound e n))) = absurd (n (outcomes.told-sound o refl .sound))
-both-first call s table more h (both-refused {m} (refuses-both o (refuses w e))) =
+    First more (numberOf (call (storeOf s) .answer)) → Exports (λ a. DoesBoth call s table a t u) told f r g →
+    First (rowsBy s table (headerRows s) ++ (3, Sound leafHash innerHash (storeOf s) → ⊥) ∷ (16, RightFor s table → ⊥) ∷ more) r
+both-first call s table more h (exports-refusal (not-told n o)) = told-first s table more o n
+both-first call s table more h (exports-refusal (refuses-both o (wrong-header e))) = clash e (outcomes.told-sound o refl .headed)
+both-first call s table more h (exports-refusal (refuses-both o (not-sound e n))) = absurd (n (outcomes.told-sound o refl .sound))
+both-first call s table more h (exports-refusal {n = m} (refuses-both o (refuses w e))) =
     right-past s table more m o refl (subst (λ x. First more (numberOf x)) e h)
-both-first call s table more h (both-answered (accepts-both o (accepts w e) q)) =
+both-first call s table more h (exports-answer (accepts-both o (accepts w e) q)) =
     right-past s table more 0 o refl (subst (λ x. First more (numberOf x)) e h)
 
 pub apply-indexed-exactly : (number : ℕ) (batch : Bytes) {s f t g : Bytes} {table u : List ℕ} {r : ℕ} →
-    AppliesIndexed number batch s table f r t u g → Exactly (applyRowsBy number batch s table) r
+    AppliesIndexed number batch s table f r t u g → Exactly (keepRows s table (applyRows number batch s)) r
 apply-indexed-exactly number batch {s} {table = table} {r = r} w =
-    exactly (applyRowsBy number batch s table) r refl
+    exactly (keepRows s table (applyRows number batch s)) r refl
     (both-first (apply leafHash innerHash number (w .asked)) s table (batchRows number batch s) (batch-first number batch s (w .asked) (w .asks)) (w .applied))
 
-pub prune-indexed-exactly : (n : ℕ) {s f t g : Bytes} {table u : List ℕ} {r : ℕ} → PrunesIndexed n s table f r t u g → Exactly (pruneRowsBy n s table) r
+pub prune-indexed-exactly : (n : ℕ) {s f t g : Bytes} {table u : List ℕ} {r : ℕ} → PrunesIndexed n s table f r t u g → Exactly (keepRows s table (pruneRows n s)) r
 prune-indexed-exactly n {s} {table = table} {r = r} w =
-    exactly (pruneRowsBy n s table) r refl (both-first (prune n) s table (versionRows s n) (prune-first n s) w)
+    exactly (keepRows s table (pruneRows n s)) r refl (both-first (prune n) s table (versionRows s n) (prune-first n s) w)

@@ -6,7 +6,7 @@ use mathlib.Core.Path.{_≡_, refl, ap, sym, _∙_, subst}
 use mathlib.Core.List.{List, [], _∷_, _++_, append-nil}
 use mathlib.Core.Option.{Option, none, some}
 use lib.ListN.{length, getD}
-use Rattle.terms.specs.Bits.{Bytes, Whole32}
+use Rattle.terms.specs.Bits.{Bytes}
 use Rattle.terms.specs.Fields.{le, num, field, slice, flat}
 use Rattle.terms.specs.Records.{Ask, Slot, free, used, spoiled, Store}
 use Rattle.terms.specs.Form.{top32}
@@ -15,22 +15,21 @@ use Rattle.meaning.specs.Tree.{withBatch, treeOf, hash, unversioned, nextTree}
 use Rattle.meaning.specs.Store.{freeSlots, newRecords}
 use Rattle.meaning.specs.Sound.{Kept}
 use Rattle.meaning.specs.Calls.{Answer, accepted, refuse, Applied, apply}
-use Rattle.meaning.specs.Reading.{answerOf}
 use Rattle.histories.specs.Claims.{AfterApply}
 use Rattle.histories.proofs.Calls.{recordsNeeded, apply-cases}
 use Rattle.histories.proofs.Theorems.{sound-tree-of-grants, apply-keeps-sound}
 use Rattle.nodehash.specs.Node.{leafHash, innerHash}
 use Rattle.layout.specs.Stores.{storeOf, storeBytes}
 use Rattle.batch.specs.Asked.{AskedBy, Asks}
-use Rattle.promises.specs.Calls.{SoundBytes, accepts, Exports, exports-refusal, exports-answer}
+use Rattle.promises.specs.Calls.{SoundBytes, accepts, Does}
 use Rattle.contracts.specs.Apply.{answerBytes, told}
-use Rattle.meaning.specs.Answers.{foundBytes}
-use Rattle.contracts.specs.Contracts.{Applies, ReadsRoot, ReadsKey}
-use Rattle.demands.specs.Claims.{treeOfVersion, grantsOfVersion, latestOf, ReadsAs, ComparesAs, NextVersion}
+use Rattle.meaning.specs.Answers.{Exports, exports-refusal, exports-answer}
+use Rattle.contracts.specs.Contracts.{Applies}
+use Rattle.demands.specs.Claims.{treeOfVersion, grantsOfVersion, latestOf, ReadsFor, ReadsAs, ComparesAs, NextVersion}
 use Rattle.demands.proofs.Hashes.{leaf-hash-whole, inner-hash-whole, hash-whole}
 use Rattle.demands.proofs.Stored.{stored-is, stored-sound, apply-form}
 use Rattle.demands.proofs.Refusals.{no-refusal, never-0, apply-refusals, does-numbers}
-use Rattle.demands.proofs.Showing.{root-of-tree, key-of-grants}
+use Rattle.demands.proofs.Reading.{sound-reads-for}
 use Rattle.demands.proofs.Alike.{same-tree-reads-as, same-trees-compare-as}
 
 -- what an accepted batch makes, on the store of the bytes
@@ -47,7 +46,7 @@ pub makes : (number : ℕ) (batch : Bytes) {s f t g : Bytes} {r : ℕ} → Appli
 unfolding refuse
 makes number batch {s} {f} w = go (w .asked) (w .asks) (w .applied)
   where
-    go : (o : Option (List Ask)) → Asks batch o → {n : ℕ} {t g : Bytes} → Exports (apply leafHash innerHash number o) told s f n t g → n ≡ 0 → Makes number batch s t g
+    go : (o : Option (List Ask)) → Asks batch o → {n : ℕ} {t g : Bytes} → Exports (λ a. Does (apply leafHash innerHash number o) s a t) told f n g → n ≡ 0 → Makes number batch s t g
     go o x (exports-refusal d) z =
         absurd (never-0 (1 ∷ 2 ∷ 3 ∷ 4 ∷ 5 ∷ 18 ∷ 7 ∷ []) refl (does-numbers (4 ∷ 5 ∷ 18 ∷ 7 ∷ []) (apply-refusals number o) d) z)
     go none x (exports-answer (accepts was e)) z = no-refusal (sym e)
@@ -144,14 +143,10 @@ module _ {number : ℕ} {batch s t g : Bytes} (small : number ≤ top32) (m : Ma
       let few : m .answer .count ≤ top32 = omega (arith, after .count, free-most (storeOf s .slots), m .was .sound .size .1) in
       count-told (m .answer) (m .told-as) root32 few ∙ count-is number (m .asks) (storeOf s) (m .answer) (m .accepted-as) ∙ ap length needed
 
-  root-read : {f h : Bytes} {r : ℕ} → ReadsRoot t (field 0 4 g) f r h → (r ≡ 0) × (h ≡ slice 4 32 g)
-  root-read {f} {h} {r} x = let e = root-of-tree sound kept (subst (λ v. ReadsRoot t v f r h) version x) in (e .0, e .1 ∙ sym root)
-
-  key-read : {k f h : Bytes} {r : ℕ} → Whole32 k → ReadsKey t (field 0 4 g) k f r h →
-      (r ≡ 0) × (h ≡ foundBytes (answerOf k (withBatch (m .asks) (grantsOfVersion s (latestOf s)))))
-  key-read {k} {f} {h} {r} whole x =
-      let e = key-of-grants sound kept whole (subst (λ v. ReadsKey t v k f r h) version x) in
-      (e .0, e .1 ∙ ap (λ gs. foundBytes (answerOf k gs)) (after .grants))
+  reads : ReadsFor t number (withBatch (m .asks) (grantsOfVersion s (latestOf s)))
+  reads =
+      subst (λ v. ReadsFor t v (withBatch (m .asks) (grantsOfVersion s (latestOf s)))) (after .latest)
+      (subst (ReadsFor t (latestOf t)) (after .grants) (sound-reads-for sound (latestOf t) kept))
 
   still-kept : (v : ℕ) → Kept (storeOf s) v → Kept (storeOf t) v
   still-kept v k = (omega (arith, after .oldest, k .0), omega (arith, after .above, k .1))
@@ -179,14 +174,10 @@ module _ {number : ℕ} {batch s t g : Bytes} (small : number ≤ top32) (m : Ma
     answered = m .told-as;
     after = after;
     version = version ∙ after .latest;
-    latest = after .latest;
-    above = omega (arith, after .above, after .latest);
-    grants = after .grants;
     tree = tree;
+    reads = reads;
     root = root ∙ ap (hash leafHash innerHash) tree;
     count = count;
-    reads-root = root-read;
-    reads-key = key-read;
     older = older-reads;
     between = between-reads;
     compares = older-compare;

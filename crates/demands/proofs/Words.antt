@@ -16,18 +16,20 @@ use Rattle.terms.specs.Fields.{allZero, zeroBytes}
 use Rattle.terms.specs.Heads.{countIn, versionIn, sinceIn}
 use Rattle.terms.specs.Records.{Record, free, used, spoiled}
 use Rattle.terms.proofs.Tests.{and-left, and-right, is-false}
-use Rattle.meaning.specs.Store.{isNode, isRoot, rootOf}
+use Rattle.meaning.specs.Store.{isNode, isRoot, find, rootOf}
 use Rattle.meaning.proofs.Finding.{Lowest, miss, hit, lowest-is, hits}
-use Rattle.ways.specs.Ways.{Agrees, AgreesRoot, SpoiltIn, NoMatch, NoRoot}
+use Rattle.ways.specs.Ways.{Agrees, AgreesRoot, SpoiltIn}
 use Rattle.layout.specs.Sizes.{slotSize, roomOf}
 use Rattle.layout.specs.Headers.{sizeRight}
 use Rattle.layout.specs.Slots.{slotOf, leafIn, innerIn, recordIn}
 use Rattle.layout.specs.Stores.{slotIn, storeOf, Has}
 use Rattle.layout.proofs.Slots.{SlotCases, are-free, are-leaf, are-inner, are-spoiled, slot-cases}
 use Rattle.store.proofs.Slots.{slot-long, slot-bytes, slot-within, slot-is, slots-many}
-use Rattle.lookup.specs.Lookup.{isUsed, covers, rootHere}
+use Rattle.lookup.specs.Lookup.{isUsed}
+use Rattle.lookup_root.specs.Roots.{rootHere}
+use Rattle.lifetime.specs.Lifetime.{covers}
 use Rattle.lookup.proofs.Matching.{is-node}
-use Rattle.lookup.proofs.Rooting.{at-top}
+use Rattle.lookup_root.proofs.Rooting.{at-top}
 use Rattle.demands.specs.Words.{Used, LowestUsed}
 
 -- bytes that are all zero
@@ -113,11 +115,11 @@ covered {v} from since h (inr l) = rw (le-leb from v h, lt-leb since v l) (off (
 
 module _ (s : Bytes) (size : sizeRight counted (length s) ≡ true) (bytes : All Byte s) (v : ℕ) where
   -- A node: the slot named is the lowest used one whose version, bit count and bits fields agree.
-  pub spoilt-node-in-words : (p : Place) → length p ≤ 256 → NoMatch (storeOf s) v p → (i : ℕ) →
+  pub spoilt-node-in-words : (p : Place) → length p ≤ 256 → find v p (storeOf s .slots) ≡ none → (i : ℕ) →
       SpoiltIn (storeOf s) (Agrees v p) i ↔ LowestUsed s (Agrees v p) i
   unfolding countIn
   spoilt-node-in-words p short none-found = named-in-words s size (Agrees v p) (λ j r h e a. no-node j r h e (hits (storeOf s .slots) v p) none-found
-      (is-node counted (slotIn counted j s) (slot-long counted j s (slot-within h)) (slot-bytes counted j s bytes) v p short (a .version) (a .count) (a .bits) r e))
+      (is-node counted (slotIn counted j s) (slot-long counted j s (slot-within h)) (slot-bytes counted j s bytes) v p short (a .0) (a .1) (a .2) r e))
     where
       no-node : (j : ℕ) (r : Record) → Has counted s j → slotOf (slotIn counted j s) ≡ used r → {o : Option Record} → Lowest (storeOf s .slots) (isNode v p) o → o ≡ none →
           isNode v p r ≡ true → ⊥
@@ -125,16 +127,16 @@ module _ (s : Bytes) (size : sizeRight counted (length s) ≡ true) (bytes : All
       no-node j r h e (hit i q l g n) z t = Option·some-ne-none q z
 
   -- A root: the lowest used one that agrees by empty place and a lifetime that covers the version.
-  pub spoilt-root-in-words : NoRoot (storeOf s) v → (i : ℕ) → SpoiltIn (storeOf s) (AgreesRoot v) i ↔ LowestUsed s (AgreesRoot v) i
+  pub spoilt-root-in-words : rootOf (storeOf s) v ≡ none → (i : ℕ) → SpoiltIn (storeOf s) (AgreesRoot v) i ↔ LowestUsed s (AgreesRoot v) i
   unfolding rootOf
   spoilt-root-in-words none-found = named-in-words s size (AgreesRoot v) (λ j r h e a. no-root j r h e (lowest-is (isRoot v) (storeOf s .slots)) none-found (is-root j r h e a))
     where
       lives : (x : Bytes) → AgreesRoot v x → covers (versionIn x) (sinceIn x) v ≡ true
-      lives x a = covered (versionIn x) (sinceIn x) (a .version) (a .since)
+      lives x a = covered (versionIn x) (sinceIn x) (a .2) (a .3)
 
       is-root : (j : ℕ) (r : Record) → Has counted s j → slotOf (slotIn counted j s) ≡ used r → AgreesRoot v (slotIn counted j s) → isRoot v r ≡ true
       is-root j r h e a =
-          ap (rootHere v) (sym (slot-is h ∙ e)) ∙ sym (at-top h bytes v (a .count) (lives (slotIn counted j s) a)) ∙ ap isUsed e
+          ap (rootHere v) (sym (slot-is h ∙ e)) ∙ sym (at-top h bytes v (a .0) (lives (slotIn counted j s) a)) ∙ ap isUsed e
 
       no-root : (j : ℕ) (r : Record) → Has counted s j → slotOf (slotIn counted j s) ≡ used r → {o : Option Record} → Lowest (storeOf s .slots) (isRoot v) o → o ≡ none →
           isRoot v r ≡ true → ⊥

@@ -1,7 +1,6 @@
--- Demand 3: any sequence of public calls on one store, refused ones included. Each call is its contract, and the bytes
--- it leaves are those that the next one is lent. Assumes nothing.
+-- Demand 3: any sequence of public calls on one store, refused ones included, each by its contract. Assumes nothing.
 use Prim.Native.Nat.{ℕ, _-_, _≤_}
-use mathlib.Core.Bool.{Bool, true, false}
+use mathlib.Core.Bool.{Bool, false, cond}
 use mathlib.Core.List.{List, [], _∷_}
 use lib.Dec.{eqb}
 use Rattle.terms.specs.declared.Form.{Form}
@@ -9,12 +8,12 @@ use Rattle.terms.specs.declared.Form.the-variants.{Plain as plain, Counted as c
 use Rattle.terms.specs.Bits.{Bytes, Byte, All}
 use Rattle.terms.specs.Fields.{field}
 use Rattle.terms.specs.Form.{top32}
-use Rattle.meaning.specs.History.{Call, formatting, applying, pruning, taking, looking, Entry, entry, ledger}
-use Rattle.meaning.specs.Course.{held}
+use Rattle.meaning.specs.History.{Call, formatting, applying, pruning, taking, looking}
+use Rattle.meaning.specs.History.{Entry, entry, ledger, entriesFrom, held}
 use Rattle.histories.specs.Claims.{NoGap}
 use Rattle.layout.specs.Stores.{storeIn, storeOf}
+use Rattle.rescue_rules.specs.Rescue.{sourceTree}
 use Rattle.rescue_bytes.specs.Rescues.{slotsIn}
-use Rattle.rescue_bytes.specs.Claims.{runLedger}
 use Rattle.move_rules.specs.Claims.{SoundIn}
 use Rattle.contracts.specs.Contracts.{Formats, Applies, Prunes, Rescues, MovesOver, MovesBack}
 use Rattle.contracts.specs.Contracts.{FormatsIndexed, AppliesIndexed, PrunesIndexed}
@@ -22,7 +21,7 @@ use Rattle.contracts.specs.Contracts.{FormatsIndexed, AppliesIndexed, PrunesInd
 -- What a rescued store takes over: the grants of its versions, from the first that was reported to latest, by the
 -- source's trees.
 abbrev pub takenOver : Bytes → ℕ → Bytes → List Entry
-takenOver source latest g = runLedger (slotsIn source) (field 0 4 g) (latest - field 0 4 g)
+takenOver source latest g = entriesFrom (sourceTree (slotsIn source)) (field 0 4 g) (latest - field 0 4 g)
 
 -- A public call with any arguments, lent the bytes s whole and as the store, leaves the bytes t. A history notes of it
 -- what was asked and whether it was accepted, that is, answered with 0.
@@ -57,16 +56,11 @@ pub data Calls : Bytes → List (Call × Bool) → Bytes → Type 0 where
   then-called : {s t u : Bytes} {e : Call × Bool} {history : List (Call × Bool)} → Called s e t → Calls t history u →
       Calls s (e ∷ history) u
 
--- What a call did to the store: a refused one only looked.
-abbrev pub doneBy : Call → Bool → Call
-doneBy c true = c
-doneBy c false = looking
-
 -- None of them leaves a gap: each batch that was accepted was given the latest version of the bytes it was lent + 1,
 -- and no rescue and no move into the store was accepted.
 abbrev pub WithoutGaps : {s t : Bytes} {history : List (Call × Bool)} → Calls s history t → Type 0
 WithoutGaps none-yet = Unit {0}
-WithoutGaps {s} (then-called {e = e} c calls) = NoGap (doneBy (e .0) (e .1)) (storeOf s) × WithoutGaps calls
+WithoutGaps {s} (then-called {e = e} c calls) = cond (e .1) (NoGap (e .0) (storeOf s)) (Unit {0}) × WithoutGaps calls
 
 -- How a store of a form begins, and the grants by version that it begins with. A new one: format accepted some bytes,
 -- and there is the empty version 0; or a rescue into some bytes was accepted, and its history counts from the run's

@@ -6,7 +6,7 @@ use mathlib.Core.Bool.{Bool, true, false}
 use mathlib.Core.List.{List, [], _∷_, map}
 use mathlib.Core.Option.{some}
 use lib.ListN.{length, take}
-use Rattle.terms.specs.declared.Form.the-variants.{Plain as plain, Counted as counted}
+use Rattle.terms.specs.declared.Form.the-variants.{Counted as counted}
 use Rattle.terms.specs.Bits.{Bytes, Whole32, Place, All, before}
 use Rattle.terms.specs.Fields.{le, num, field, slice, zeroBytes}
 use Rattle.terms.specs.Records.{Grant, Ask, Record, Proof, zeros}
@@ -30,8 +30,7 @@ use Rattle.batch.specs.Asked.{AskedBy}
 use Rattle.promises.specs.Calls.{SoundBytes}
 use Rattle.rescue_rules.specs.Rescue.{sourceTree}
 use Rattle.rescue_bytes.specs.Rescues.{slotsIn, Report, reportBytes}
-use Rattle.rescue_bytes.specs.Claims.{Worth, AsItWas}
-use Rattle.move_rules.specs.Claims.{Moved}
+use Rattle.rescue_bytes.specs.Claims.{Worth}
 use Rattle.contracts.specs.Apply.{told}
 use Rattle.meaning.specs.Counting.{grantAt}
 use Rattle.meaning.specs.Answers.{foundBytes, numberOf, toldOf, roomAfter}
@@ -52,6 +51,49 @@ latestOf s = storeOf s .latest
 abbrev pub grantsWith : List Ask → Bytes → List Grant
 grantsWith asks s = withBatch asks (grantsOfVersion s (latestOf s))
 
+-- Grants in key order: each key before all that follow, so each once.
+abbrev pub InKeyOrder : List Grant → Type 0
+InKeyOrder [] = Unit {0}
+InKeyOrder (g ∷ gs) = All (λ h. before (g .key) (h .key) ≡ true) gs × InKeyOrder gs
+
+-- Demand 2: what is shown of a key in a kept version of a sound store, for every version that holds a grant (2026-03),
+-- where this is what the version's grants say of the key.
+pub record Shown (s : Bytes) (v : ℕ) (k : Bytes) (answer : Verdict) : Type 0 where
+  -- there is a proof, which is given exactly if there is room for it, and 9 exactly if the room is short; 17,080 bytes
+  -- are enough
+  pub proved : Proof
+  pub is-proved : proof (storeOf s) v k ≡ accepted proved
+  pub given : {room f t g : Bytes} {r : ℕ} → Proves s v k room f r t g → (r ≡ 0) ↔ (proofLength proved ≤ length room)
+  pub short : {room f t g : Bytes} {r : ℕ} → Proves s v k room f r t g → (r ≡ 9) ↔ (length room < proofLength proved)
+  pub room : {room f t g : Bytes} {r : ℕ} → Proves s v k room f r t g → 17080 ≤ length room → r ≡ 0
+  -- it shows a grant exactly if the key is in the version, else its absence
+  pub presence : {room f t g : Bytes} → Proves s v k room f 0 t g →
+      (field 4 2 t ≡ presenceKind) ↔ ((x : Bytes) × (answer ≡ present x))
+  pub absence : {room f t g : Bytes} → Proves s v k room f 0 t g → (field 4 2 t ≡ absenceKind) ↔ (answer ≡ absent)
+  -- and the checker accepts it against the version's root, and finds what the key read finds
+  pub checked : {room f t g f₁ root f₂ found : Bytes} {r₁ r₂ : ℕ} → Proves s v k room f 0 t g →
+      ReadsRoot s v f₁ r₁ root → Verifies root k (take (num g) t) f₂ r₂ found →
+      (r₁ ≡ 0) × (r₂ ≡ 0) × (found ≡ foundBytes answer)
+
+-- Demands 2 and 3: what is read and shown of a version of the bytes s are these grants.
+pub record ReadsFor (s : Bytes) (v : ℕ) (gs : List Grant) : Type 0 where
+  pub root : {f g : Bytes} {r : ℕ} → ReadsRoot s v f r g → (r ≡ 0) × (g ≡ hash leafHash innerHash (treeOf gs))
+  pub key : {k f g : Bytes} {r : ℕ} → Whole32 k → ReadsKey s v k f r g → (r ≡ 0) × (g ≡ foundBytes (answerOf k gs))
+  -- their number, and at position i the i-th of them in key order: 0 exactly if i is below the number, 20 exactly if it
+  -- isn't (2026-09)
+  pub number : {f g : Bytes} {r : ℕ} → Counts s v f r g → (r ≡ 0) × (g ≡ le 8 (length gs))
+  pub ordered : InKeyOrder gs
+  pub position : {i : ℕ} {f g : Bytes} {r : ℕ} → ReadsAt s v i f r g →
+      (r ≡ numberOf (grantAt gs i)) × (g ≡ toldOf grantBytes (grantAt gs i) f)
+  pub below : {i : ℕ} {f g : Bytes} {r : ℕ} → ReadsAt s v i f r g → (r ≡ 0) ↔ (i < length gs)
+  pub past : {i : ℕ} {f g : Bytes} {r : ℕ} → ReadsAt s v i f r g → (r ≡ 20) ↔ (length gs ≤ i)
+  -- with a grant every key is shown; without one the root is 32 zero bytes, and there is no proof, exactly: 14, with
+  -- nothing written (2026-03)
+  pub shows : (gs ≡ [] → ⊥) → (k : Bytes) → Whole32 k → Shown s v k (answerOf k gs)
+  pub zero-root : gs ≡ [] → {f g : Bytes} {r : ℕ} → ReadsRoot s v f r g → g ≡ zeros
+  pub shows-nothing : {k room f t g : Bytes} {r : ℕ} → Whole32 k → Proves s v k room f r t g →
+      ((r ≡ 14) ↔ (gs ≡ [])) × (r ≡ 14 → (t ≡ room) × (g ≡ f))
+
 -- Demand 3: the bytes t of a store after its history, from the grants by version that it began with.
 pub record AfterHistory (start : List Entry) (history : List (Call × Bool)) (t : Bytes) : Type 0 where
   -- the store is sound, and the bytes are its bytes
@@ -62,48 +104,19 @@ pub record AfterHistory (start : List Entry) (history : List (Call × Bool)) (t 
   -- each record stands in exactly the kept versions of its lifetime
   pub lifetimes : (v : ℕ) → Kept (storeOf t) v → (i : ℕ) (r : Record) → At (storeOf t) i r →
       NodeOf (r .version) (r .place) (treeOfVersion t v) [] ↔ Lives v r
-  -- the reads of a kept version answer for the grants that the history gives it
-  pub reads-root : {v : ℕ} {gs : List Grant} {f g : Bytes} {r : ℕ} → Kept (storeOf t) v →
-      grantsOf v (ledger history start) ≡ some gs →
-      ReadsRoot t v f r g → (r ≡ 0) × (g ≡ hash leafHash innerHash (treeOf gs))
-  pub reads-key : {v : ℕ} {gs : List Grant} {k f g : Bytes} {r : ℕ} → Kept (storeOf t) v →
-      grantsOf v (ledger history start) ≡ some gs →
-      Whole32 k → ReadsKey t v k f r g → (r ≡ 0) × (g ≡ foundBytes (answerOf k gs))
-  -- the number of those grants, and the grant at a position, 20 for one that isn't below their number (2026-09)
-  pub counts : {v : ℕ} {gs : List Grant} {f g : Bytes} {r : ℕ} → Kept (storeOf t) v →
-      grantsOf v (ledger history start) ≡ some gs →
-      Counts t v f r g → (r ≡ 0) × (g ≡ le 8 (length gs))
-  pub reads-at : {v i : ℕ} {gs : List Grant} {f g : Bytes} {r : ℕ} → Kept (storeOf t) v →
-      grantsOf v (ledger history start) ≡ some gs →
-      ReadsAt t v i f r g → (r ≡ numberOf (grantAt gs i)) × (g ≡ toldOf grantBytes (grantAt gs i) f)
-  -- and what an editor sees of a version with a grant: of any key a proof is given, where there is room, and with the
-  -- root read the proof check answers for those grants
-  pub shows : {v : ℕ} {gs : List Grant} {k room f u g f₁ root f₂ found : Bytes} {r r₁ r₂ : ℕ} → Kept (storeOf t) v →
-      grantsOf v (ledger history start) ≡ some gs → (gs ≡ [] → ⊥) → Whole32 k → 17080 ≤ length room →
-      Proves t v k room f r u g → ReadsRoot t v f₁ r₁ root →
-      Verifies root k (take (num g) u) f₂ r₂ found → (r ≡ 0) × (r₁ ≡ 0) × (r₂ ≡ 0) ×
-      (found ≡ foundBytes (answerOf k gs))
-  -- of a version without one there is no proof, exactly: 14, and the root is 32 zero bytes
-  pub shows-nothing : {v : ℕ} {gs : List Grant} {k room f u g : Bytes} {r : ℕ} → Kept (storeOf t) v →
-      grantsOf v (ledger history start) ≡ some gs →
-      Whole32 k → Proves t v k room f r u g → (r ≡ 14) ↔ (gs ≡ [])
-  pub zero-root : {v : ℕ} {f g : Bytes} {r : ℕ} → Kept (storeOf t) v → grantsOf v (ledger history start) ≡ some [] →
-      ReadsRoot t v f r g →
-      (r ≡ 0) × (g ≡ zeros)
+  -- a kept version reads for the grants that the history gives it
+  pub reads : {v : ℕ} {gs : List Grant} → Kept (storeOf t) v → grantsOf v (ledger history start) ≡ some gs →
+      ReadsFor t v gs
   -- no path is longer than 256 steps
   pub paths : (v : ℕ) → Kept (storeOf t) v → (w : ℕ) (p : Place) → NodeOf w p (treeOfVersion t v) [] → length p ≤ 256
   -- no proof is longer than 17,080 bytes
   pub proofs : {v : ℕ} {k room f u g : Bytes} → Proves t v k room f 0 u g → num g ≤ 17080
 
 -- Version v of the bytes t reads as version w of the bytes s (2026-13, and of each version that a call leaves as it
--- was): root, key, number and position; the proof of any key, and any palette, into the same room are the same bytes.
+-- was): for the same grants; the proof of any key, and any palette, into the same room are the same bytes.
 pub record ReadsAs (t : Bytes) (v : ℕ) (s : Bytes) (w : ℕ) : Type 0 where
-  pub root : {f h f₁ h₁ : Bytes} {r r₁ : ℕ} → ReadsRoot t v f r h → ReadsRoot s w f₁ r₁ h₁ →
-      (r ≡ 0) × (r₁ ≡ 0) × (h ≡ h₁)
-  pub key : {k f h f₁ h₁ : Bytes} {r r₁ : ℕ} → Whole32 k → ReadsKey t v k f r h → ReadsKey s w k f₁ r₁ h₁ →
-      (r ≡ 0) × (r₁ ≡ 0) × (h ≡ h₁)
-  pub number : {f h h₁ : Bytes} {r r₁ : ℕ} → Counts t v f r h → Counts s w f r₁ h₁ → (r ≡ r₁) × (h ≡ h₁)
-  pub position : {i : ℕ} {f h h₁ : Bytes} {r r₁ : ℕ} → ReadsAt t v i f r h → ReadsAt s w i f r₁ h₁ → (r ≡ r₁) × (h ≡ h₁)
+  pub grants : List Grant
+  pub reads : ReadsFor t v grants × ReadsFor s w grants
   pub proof : {k room f u u₁ g g₁ : Bytes} {r r₁ : ℕ} → Proves t v k room f r u g → Proves s w k room f r₁ u₁ g₁ →
       (r ≡ r₁) × (u ≡ u₁) × (g ≡ g₁)
   pub palette : {list room f u u₁ g g₁ : Bytes} {r r₁ : ℕ} → Palettes t v list room f r u g →
@@ -129,19 +142,13 @@ pub record NextVersion (number : ℕ) (batch s t g : Bytes) : Type 0 where
   pub answer : Applied
   pub answered : g ≡ told answer
   pub after : AfterApply leafHash innerHash number asks (storeOf s) answer (storeOf t)
-  -- the new version has the given number, which is above latest, and its grants are the old ones with the batch
+  -- the version told is the given number, and what is read of it are the old grants with the batch
   pub version : field 0 4 g ≡ number
-  pub latest : latestOf t ≡ number
-  pub above : latestOf s < number
-  pub grants : grantsOfVersion t (latestOf t) ≡ grantsWith asks s
   pub tree : unversioned (treeOfVersion t (latestOf t)) ≡ treeOf (grantsWith asks s)
+  pub reads : ReadsFor t number (grantsWith asks s)
   -- the root is that of those grants, and the count that of the new records
   pub root : slice 4 32 g ≡ hash leafHash innerHash (treeOf (grantsWith asks s))
   pub count : field 36 4 g ≡ length (newRecords leafHash innerHash (latestOf t) (treeOfVersion t (latestOf t)))
-  -- a root read of the new version answers the root that was told, and a key read what those grants say
-  pub reads-root : {f h : Bytes} {r : ℕ} → ReadsRoot t (field 0 4 g) f r h → (r ≡ 0) × (h ≡ slice 4 32 g)
-  pub reads-key : {k f h : Bytes} {r : ℕ} → Whole32 k → ReadsKey t (field 0 4 g) k f r h →
-      (r ≡ 0) × (h ≡ foundBytes (answerOf k (grantsWith asks s)))
   -- each older version reads as it did, and each one between as the latest before
   pub older : (v : ℕ) → Kept (storeOf s) v → ReadsAs t v s v
   pub between : (v : ℕ) → latestOf s ≤ v → v < number → ReadsAs t v s (latestOf s)
@@ -162,53 +169,6 @@ pub record Pruned (n : ℕ) (s t g : Bytes) : Type 0 where
       slotIn counted i t ≡ zeroBytes (slotSize counted)
   pub keeps : (i : ℕ) → i < length (storeOf s .slots) → ((r : Record) → At (storeOf s) i r → retiredBy n r ≡ false) →
       slotIn counted i t ≡ slotIn counted i s
-
--- Demand 2: what is shown of a key in a kept version of a sound store, for every version that holds a grant (2026-03).
-pub record Shown (s : Bytes) (v : ℕ) (k : Bytes) : Type 0 where
-  -- the key read answers what the version's grants say
-  pub reads-key : {f g : Bytes} {r : ℕ} → ReadsKey s v k f r g →
-      (r ≡ 0) × (g ≡ foundBytes (answerOf k (grantsOfVersion s v)))
-  -- there is a proof, which is given exactly if there is room for it, and 9 exactly if the room is short; 17,080 bytes
-  -- are enough
-  pub proved : Proof
-  pub is-proved : proof (storeOf s) v k ≡ accepted proved
-  pub given : {room f t g : Bytes} {r : ℕ} → Proves s v k room f r t g → (r ≡ 0) ↔ (proofLength proved ≤ length room)
-  pub short : {room f t g : Bytes} {r : ℕ} → Proves s v k room f r t g → (r ≡ 9) ↔ (length room < proofLength proved)
-  pub room : {room f t g : Bytes} {r : ℕ} → Proves s v k room f r t g → 17080 ≤ length room → r ≡ 0
-  -- it shows a grant exactly if the key is in the version, else its absence
-  pub presence : {room f t g : Bytes} → Proves s v k room f 0 t g →
-      (field 4 2 t ≡ presenceKind) ↔ ((x : Bytes) × (answerOf k (grantsOfVersion s v) ≡ present x))
-  pub absence : {room f t g : Bytes} → Proves s v k room f 0 t g →
-      (field 4 2 t ≡ absenceKind) ↔ (answerOf k (grantsOfVersion s v) ≡ absent)
-  -- and the checker accepts it against the version's root, and finds what the key read finds
-  pub checked : {room f t g f₁ root f₂ found : Bytes} {r₁ r₂ : ℕ} → Proves s v k room f 0 t g →
-      ReadsRoot s v f₁ r₁ root →
-      Verifies root k (take (num g) t) f₂ r₂ found →
-      (r₁ ≡ 0) × (r₂ ≡ 0) × (found ≡ foundBytes (answerOf k (grantsOfVersion s v)))
-
--- For a version that holds none: the root read answers zeros, the key read absent, and proving 14, with nothing
--- written.
-pub record NothingToShow (s : Bytes) (v : ℕ) (k : Bytes) : Type 0 where
-  pub reads-root : {f g : Bytes} {r : ℕ} → ReadsRoot s v f r g → (r ≡ 0) × (g ≡ zeros)
-  pub reads-key : {f g : Bytes} {r : ℕ} → ReadsKey s v k f r g → (r ≡ 0) × (g ≡ foundBytes absent)
-  pub refused : {room f t g : Bytes} {r : ℕ} → Proves s v k room f r t g → (r ≡ 14) × (t ≡ room) × (g ≡ f)
-
--- Grants in key order: each key before all that follow, so each once.
-abbrev pub InKeyOrder : List Grant → Type 0
-InKeyOrder [] = Unit {0}
-InKeyOrder (g ∷ gs) = All (λ h. before (g .key) (h .key) ≡ true) gs × InKeyOrder gs
-
--- Document 02, 2026-09: what is read by counts of a kept version of a sound store.
-pub record Numbered (s : Bytes) (v : ℕ) : Type 0 where
-  -- the number is that of the version's grants
-  pub number : {f g : Bytes} {r : ℕ} → Counts s v f r g → (r ≡ 0) × (g ≡ le 8 (length (grantsOfVersion s v)))
-  -- position i holds the i-th of them, in key order
-  pub ordered : InKeyOrder (grantsOfVersion s v)
-  pub position : {i : ℕ} {f g : Bytes} {r : ℕ} → ReadsAt s v i f r g →
-      (r ≡ numberOf (grantAt (grantsOfVersion s v) i)) × (g ≡ toldOf grantBytes (grantAt (grantsOfVersion s v) i) f)
-  -- 0 exactly if the position is below the number, 20 exactly if it isn't
-  pub below : {i : ℕ} {f g : Bytes} {r : ℕ} → ReadsAt s v i f r g → (r ≡ 0) ↔ (i < length (grantsOfVersion s v))
-  pub past : {i : ℕ} {f g : Bytes} {r : ℕ} → ReadsAt s v i f r g → (r ≡ 20) ↔ (length (grantsOfVersion s v) ≤ i)
 
 -- Demand 2: the proof check accepts the bytes x as a proof for the key k against a root, with this answer. The root and
 -- the key have 32 bytes, and x is one whole proof in form that holds.
@@ -239,16 +199,13 @@ pub record ListsChanges (first second limit : ℕ) (s room t g : Bytes) : Type 0
   pub few : visitsOf (storeOf s) first second ≤ 32769
 
 -- Document 02, 2026-08: a rescue of the source s that was accepted. The target t is worth what 02 says, the array g has
--- the report, and the reads of each version kept answer for the source's tree of that version.
+-- the report, and each version kept reads for the grants of the source's tree of that version.
 pub record Rescued (oldest latest : ℕ) (s t g : Bytes) : Type 0 where
   pub report : Report
   pub worth : Worth oldest latest s t report
   pub sound : SoundBytes t
   pub told : g ≡ reportBytes report
-  pub reads-root : {v : ℕ} {f h : Bytes} {r : ℕ} → report .first ≤ v → v ≤ latest → ReadsRoot t v f r h →
-      (r ≡ 0) × (h ≡ hash leafHash innerHash (unversioned (sourceTree (slotsIn s) v)))
-  pub reads-key : {v : ℕ} {k f h : Bytes} {r : ℕ} → report .first ≤ v → v ≤ latest → Whole32 k → ReadsKey t v k f r h →
-      (r ≡ 0) × (h ≡ foundBytes (answerOf k (grantsIn (sourceTree (slotsIn s) v))))
+  pub reads : (v : ℕ) → report .first ≤ v → v ≤ latest → ReadsFor t v (grantsIn (sourceTree (slotsIn s) v))
 
 -- A rescue of the source s that gave it back: accepted, the same bytes, from this version on, nothing changed and
 -- nothing left out.
@@ -258,13 +215,4 @@ pub record GivenBack (first : ℕ) (s : Bytes) (r : ℕ) (t g : Bytes) : Type 0 
   pub report : Report
   pub told : g ≡ reportBytes report
   pub begins : report .first ≡ first
-  pub as-it-was : AsItWas report
-
--- Document 02, 2026-10: the source s, of the old form, was moved over, or the source s back into it, and t are the
--- bytes that were left of the target: sound, with the same slots, trees, roots, reads, comparisons and proofs; moved
--- on, it is the source again, byte for byte.
-abbrev pub MovedOver : Bytes → Bytes → Type 0
-MovedOver s t = Moved plain s t
-
-abbrev pub MovedBack : Bytes → Bytes → Type 0
-MovedBack s t = Moved counted s t
+  pub as-it-was : (report .numbers .other ≡ 0) × (report .numbers .out ≡ 0)

@@ -1,13 +1,11 @@
--- Document 01, 'The desk's example', over the bytes: what the contracts of apply, prune and the root read say of each
--- row of the table. Assumes nothing.
+-- Document 01, 'The desk's example', over the bytes: each row by the contract of its call. Assumes nothing.
 use Prim.Native.Nat.{ℕ}
 use mathlib.Core.Path.{_≡_}
 use mathlib.Core.Logic.{_↔_}
-use Rattle.terms.specs.Bits.{Bytes, All}
+use Rattle.terms.specs.Bits.{Bytes}
 use Rattle.terms.specs.Fields.{le}
 use Rattle.meaning.specs.Answers.{numberOf, toldOf}
-use Rattle.meaning.specs.Desk.{Row, applies, prunes, reads, table}
-use Rattle.nodehash.specs.Node.{leafHash, innerHash}
+use Rattle.meaning.specs.Desk.{Row, applies, prunes, reads}
 use Rattle.layout.specs.Stores.{storeBytes}
 use Rattle.batch.specs.Asked.{asksBytes}
 use Rattle.contracts.specs.Apply.{told}
@@ -23,7 +21,3 @@ RowOverBytes (prunes st n answer end) = (f : Bytes) (r : ℕ) (t g : Bytes) →
     Prunes n (storeBytes st) f r t g ↔ ((r ≡ numberOf answer) × (t ≡ storeBytes end) × (g ≡ toldOf (le 4) answer f))
 RowOverBytes (reads st v answer) = (f : Bytes) (r : ℕ) (g : Bytes) →
     ReadsRoot (storeBytes st) v f r g ↔ ((r ≡ numberOf answer) × (g ≡ toldOf (λ root. root) answer f))
-
--- The table over the bytes, its hashes those of nodes.
-abbrev pub DeskOverBytes : Type 0
-DeskOverBytes = All RowOverBytes (table leafHash innerHash)

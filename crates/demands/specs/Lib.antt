@@ -1,5 +1,4 @@
 pub mod Calls
-pub mod Tables
 pub mod Words
 pub mod Quarter
 pub mod Pocket

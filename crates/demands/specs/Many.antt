@@ -1,5 +1,4 @@
--- Many proofs checked at once: what the call is beside single checks, and on what a palette gives, in the words of
--- their contracts. Assumes nothing.
+-- Many proofs checked at once: beside single checks, and on what a palette gives. Assumes nothing.
 use Prim.Native.Nat.{ℕ, _*_, _≤_}
 use mathlib.Core.Path.{_≡_}
 use mathlib.Core.List.{List, [], _∷_, _++_, map}

@@ -4,67 +4,57 @@ use Prim.Native.Nat.{ℕ, _≤_}
 use mathlib.Core.Path.{_≡_}
 use mathlib.Core.Logic.{_↔_}
 use mathlib.Core.Bool.{true}
-use mathlib.Core.List.{_++_}
+use mathlib.Core.List.{List, _∷_, _++_, map}
 use lib.ListN.{length, take, drop}
-use Rattle.terms.specs.Bits.{Bytes}
+use Rattle.terms.specs.Bits.{Bytes, All}
 use Rattle.terms.specs.Fields.{le, num}
-use Rattle.terms.specs.Records.{Presence, Proof}
+use Rattle.terms.specs.Records.{Proof}
 use Rattle.meaning.specs.Answers.{foundBytes}
-use Rattle.checker.specs.Holding.{Leads}
 use Rattle.sha256.specs.Sha256.{sha256}
-use Rattle.nodehash.specs.Node.{leafHash, innerHash}
-use Rattle.messages.specs.Message.{mostBytes, ownPresence}
-use Rattle.messages.specs.Lending.{Lent, rawProof, recordOf, lentIn}
-use Rattle.messages.specs.Spots.{spotsIn, Stand}
-use Rattle.message_rules.specs.Contracts.{Encodes, spotsBytes}
-use Rattle.partner.specs.Verifying.{isRoot, calculated}
-use Rattle.partner.specs.Ours.{ourSpec, existenceOf, commitmentOf, commitmentBytes, askedKey, verdictOf, partnerAccepts}
+use Rattle.messages.specs.Message.{mostBytes}
+use Rattle.messages.specs.Parts.{askedIn, leavesIn, twoLeaves, StandsIn}
+use Rattle.message_rules.specs.Contracts.{Encodes, recordOf, Lends, answerBytes}
+use Rattle.partner.specs.Ours.{partnerAccepts, verdictOf}
 use Rattle.contracts.specs.Contracts.{Verifies, WritesMessage, ReadsMessage}
 
--- A partner's check, ICS 23's with our ProofSpec, and ours agree on a proof q of which m is the message and x our
--- record.
-pub record PartnerAgrees (x m : Bytes) (q : Proof) : Type 0 where
-  -- the message is the encoding of what it says in ICS 23's terms
-  pub encoded : commitmentBytes (commitmentOf q) ≡ m
+-- A partner's check, ICS 23's with our ProofSpec, and ours agree on the message of a proof q of which x is our record.
+pub record PartnerAgrees (x : Bytes) (q : Proof) : Type 0 where
   -- the partner accepts it under a root, for the key that it is about, exactly if ours accepts the record under it
-  pub agrees : {root f g : Bytes} {r : ℕ} → Verifies root (sha256 (askedKey q)) x f r g →
+  pub agrees : {root f g : Bytes} {r : ℕ} → Verifies root (sha256 (askedIn q .bytes)) x f r g →
       (partnerAccepts sha256 root q ≡ true) ↔ (r ≡ 0)
   -- and then with that answer: present with the value's hash, or absent
-  pub found : {root f g : Bytes} → Verifies root (sha256 (askedKey q)) x f 0 g → g ≡ foundBytes (verdictOf sha256 q)
+  pub found : {root f g : Bytes} → Verifies root (sha256 (askedIn q .bytes)) x f 0 g →
+      g ≡ foundBytes (verdictOf sha256 q)
 
--- The record x was written as a message: the room was left as t, and g says how long the message is.
-pub record MessageGiven (x : Bytes) (lent : Lent) (t g : Bytes) : Type 0 where
-  -- it is the message of a proof with the raw keys and values that were lent
+-- The record x was written as a message, lent some raw keys and values: the room was left as t, and g says how long the
+-- message is.
+pub record MessageGiven (x asked : Bytes) (leaves : List Bytes) (t g : Bytes) : Type 0 where
+  -- it is the message of a proof whose record is x and whose raw keys and values are those lent
   pub proof : Proof
-  pub encodes : Encodes (take (num g) t) (rawProof lent proof)
+  pub encodes : Encodes x (take (num g) t) proof
+  pub lends : Lends x asked leaves proof
   -- at most 14,868 bytes of a presence, 29,999 of an absence
-  pub at-most : num g ≤ mostBytes (rawProof lent proof)
+  pub at-most : num g ≤ mostBytes proof
   -- reading gives back what was written: our record byte for byte, and where the raw keys and values stand
   pub given-back : {room f t₁ g₁ : Bytes} {r : ℕ} → length x ≤ length room →
       ReadsMessage (take (num g) t) room f r t₁ g₁ →
-      (r ≡ 0) × (t₁ ≡ x ++ drop (length x) room) × (g₁ ≡ le 4 (length x) ++ spotsBytes (spotsIn (rawProof lent proof)))
-  pub stands : Stand (take (num g) t) (spotsIn (rawProof lent proof)) (lentIn (rawProof lent proof))
+      (r ≡ 0) × (t₁ ≡ x ++ drop (length x) room) × (g₁ ≡ answerBytes proof)
+  pub stands : All (StandsIn (take (num g) t)) (askedIn proof ∷ leavesIn proof)
   -- the reading is accepted exactly when our own record would be
   pub accepted : {room f t₁ g₁ root k f₂ g₂ : Bytes} {r r₂ : ℕ} → length x ≤ length room →
       ReadsMessage (take (num g) t) room f r t₁ g₁ →
       Verifies root k (take (length x) t₁) f₂ r₂ g₂ ↔ Verifies root k x f₂ r₂ g₂
   -- and a partner accepts the message exactly when ours accepts the record
-  pub partner : PartnerAgrees x (take (num g) t) (rawProof lent proof)
+  pub partner : PartnerAgrees x proof
 
 -- The bytes m were read as a message: the room was left as t, and g says first how long our own record of it is.
 pub record MessageTaken (m t g : Bytes) : Type 0 where
-  -- they are the message of a proof with raw keys and values, and our own record of it stands in the room
+  -- they are the message of a proof with raw keys and values, of which our own record stands in the room
   pub proof : Proof
-  pub encodes : Encodes m proof
-  pub record-is : take (num (take 4 g)) t ≡ recordOf sha256 proof
+  pub encodes : Encodes (take (num (take 4 g)) t) m proof
   -- what is read was written so: the record, lent the raw keys and values that the message holds, makes the message
   pub written-so : {room f t₁ g₁ : Bytes} {r : ℕ} → length m ≤ length room →
-      WritesMessage (recordOf sha256 proof) (lentIn proof) room f r t₁ g₁ →
+      WritesMessage (recordOf proof) (askedIn proof .bytes) (map (λ p. p .bytes) (twoLeaves proof)) room f r t₁ g₁ →
       (r ≡ 0) × (t₁ ≡ m ++ drop (length m) room) × (g₁ ≡ le 4 (length m))
   -- a partner accepts the message exactly when ours accepts the record
-  pub partner : PartnerAgrees (take (num (take 4 g)) t) m proof
-
--- A partner's check is led to a root by an existence proof of a message exactly if our own record of it is.
-pub record LedAlike (p : Presence) : Type 0 where
-  pub led : (root : Bytes) → (isRoot root (calculated ourSpec sha256 (existenceOf p)) ≡ true) ↔
-      Leads leafHash innerHash root (sha256 (p .key)) (ownPresence sha256 p)
+  pub partner : PartnerAgrees (take (num (take 4 g)) t) proof

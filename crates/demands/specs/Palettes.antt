@@ -1,5 +1,4 @@
--- Document 02, request 2026-04: what a palette is beside single calls, in the words of their contracts. Assumes
--- nothing.
+-- Document 02, 2026-04: what a palette is beside single calls, in the words of their contracts. Assumes nothing.
 use Prim.Native.Nat.{ℕ, zero, suc, _*_, _≤_, _<_}
 use mathlib.Core.Path.{_≡_}
 use mathlib.Core.Logic.{_↔_}

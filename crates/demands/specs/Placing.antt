@@ -1,12 +1,12 @@
 -- Document 01, 'Retirement' and 'Placing', slot by slot, of a batch that was accepted. Assumes nothing.
-use Prim.Native.Nat.{ℕ, zero, suc, _<_}
+use Prim.Native.Nat.{ℕ, _<_}
 use mathlib.Core.Path.{_≡_}
-use mathlib.Core.List.{List, [], _∷_}
+use mathlib.Core.List.{[], map}
 use lib.ListN.{length, getD, take}
 use Rattle.terms.specs.declared.Form.the-variants.{Counted as counted}
 use Rattle.terms.specs.Bits.{Bytes}
 use Rattle.terms.specs.Fields.{le}
-use Rattle.terms.specs.Records.{Record, Slot, free, used}
+use Rattle.terms.specs.Records.{Record, free, used}
 use Rattle.meaning.specs.Store.{freeSlots, newRecords}
 use Rattle.meaning.specs.Sound.{At, NodeOf}
 use Rattle.fields.specs.Written.{written}
@@ -15,12 +15,6 @@ use Rattle.layout.specs.Sizes.{retiredAt}
 use Rattle.layout.specs.Slots.{slotBytes}
 use Rattle.layout.specs.Stores.{slotIn, storeOf}
 use Rattle.demands.specs.Claims.{treeOfVersion, latestOf}
-
--- Of the new records the one with n before it; a slot for which there is none stays free.
-abbrev pub slotFor : ℕ → List Record → Slot
-slotFor n [] = free
-slotFor zero (r ∷ rs) = used r
-slotFor (suc n) (r ∷ rs) = slotFor n rs
 
 -- A batch was applied to the bytes s as a number and accepted, and t are the bytes left.
 pub record Places (number : ℕ) (s t : Bytes) : Type 0 where
@@ -35,8 +29,8 @@ pub record Places (number : ℕ) (s t : Bytes) : Type 0 where
       (NodeOf (r .version) (r .place) (treeOfVersion s (latestOf s)) [] →
       NodeOf (r .version) (r .place) (treeOfVersion t number) []) →
       slotIn counted i t ≡ slotIn counted i s
-  -- the free slots take the new records from the lowest on, in 01's order; one that is left over stays free
+  -- a free slot with n free ones before it takes the new record with n before it, in 01's order; one left over stays
+  -- free
   pub fills : (i : ℕ) → i < length (storeOf s .slots) → getD (storeOf s .slots) i free ≡ free →
-      slotIn counted i t
-      ≡ slotBytes counted
-      (slotFor (freeSlots (take i (storeOf s .slots))) (newRecords leafHash innerHash number (treeOfVersion t number)))
+      slotIn counted i t ≡ slotBytes counted (getD (map used (newRecords leafHash innerHash number
+      (treeOfVersion t number))) (freeSlots (take i (storeOf s .slots))) free)

@@ -1,5 +1,4 @@
--- Document 02, request 2026-14: what the pocket prover and the pocket check are beside the full ones, in the words of
--- their contracts. Assumes nothing.
+-- Document 02, 2026-14: the pocket prover and check beside the full ones, over the contracts. Assumes nothing.
 use Prim.Native.Nat.{ℕ, _≤_}
 use mathlib.Core.Path.{_≡_}
 use mathlib.Core.Logic.{_↔_}
@@ -8,7 +7,7 @@ use Rattle.terms.specs.Bits.{Bytes}
 use Rattle.terms.specs.Fields.{num}
 use Rattle.meaning.specs.Reading.{answerOf}
 use Rattle.meaning.specs.Answers.{foundBytes}
-use Rattle.refusals.specs.Rows.{OutsidePocket, ProvedOutside}
+use Rattle.refusals.specs.Tables.{OutsidePocket, ProvedOutside}
 use Rattle.contracts.specs.Contracts.{ReadsRoot, Proves, Verifies, PocketProves, PocketVerifies}
 use Rattle.demands.specs.Claims.{grantsOfVersion}
 

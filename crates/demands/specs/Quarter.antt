@@ -1,5 +1,4 @@
--- Document 02, request 2026-14: what the figures of a range are that were given, in the words of the contract. Assumes
--- nothing.
+-- Document 02, 2026-14: what the figures of a range are that were given, over the contract. Assumes nothing.
 use Prim.Native.Nat.{ℕ, _+_, _*_, _-_, _≤_}
 use mathlib.Core.Path.{_≡_}
 use mathlib.Core.List.{[]}
@@ -9,7 +8,7 @@ use Rattle.terms.specs.Fields.{field, slice, zeroBytes}
 use Rattle.meaning.specs.Tree.{VTree}
 use Rattle.quarter.specs.Figures as quarter
 use Rattle.quarter.specs.Figures.{versions, different, nodesOver, recordsOver}
-use Rattle.refusals.specs.Rows.{KeptRange}
+use Rattle.refusals.specs.Tables.{KeptRange}
 use Rattle.layout.specs.Stores.{storeOf}
 use Rattle.promises.specs.Calls.{SoundBytes}
 use Rattle.demands.specs.Claims.{treeOfVersion, grantsOfVersion}

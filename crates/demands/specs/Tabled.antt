@@ -3,42 +3,24 @@
 use Prim.Native.Nat.{ℕ, _≤_}
 use mathlib.Core.Bool.{Bool, false}
 use mathlib.Core.List.{List, [], _∷_, _++_}
-use lib.Dec.{eqb}
+use lib.ListN.{drop}
 use Rattle.terms.specs.Bits.{Bytes}
 use Rattle.terms.specs.Form.{top32}
 use Rattle.meaning.specs.History.{Call, looking, Entry}
 use Rattle.index_rules.specs.Tables.{RightFor}
 use Rattle.refusals.specs.Exactly.{Table}
-use Rattle.refusals.specs.Rows.{NotSound}
-use Rattle.refusals.specs.Orders.{batchRows, versionRows}
+use Rattle.refusals.specs.Tables.{soundRows}
 use Rattle.contracts.specs.Contracts.{Indexes, FormatsIndexed, AppliesIndexed, PrunesIndexed}
-use Rattle.demands.specs.Indexed.{WrongLengths, headerRowsBy}
+use Rattle.demands.specs.Indexed.{rowsBy}
 use Rattle.demands.specs.Calls.{Called, Life}
 
--- 16: the table isn't the right one of the store.
-abbrev pub WrongTable : Bytes → List ℕ → Type 0
-WrongTable s table = RightFor s table → ⊥
-
--- Building: 1, 2; then 3 by full soundness.
-abbrev pub indexRows : Bytes → List ℕ → Table
-indexRows s table = headerRowsBy s table ++ (3, NotSound s) ∷ []
-
--- Telling: 1, 2, 3, 16.
+-- Telling: 1, 2, 3; then 16, the table isn't the right one of the store.
 abbrev pub tellRows : Bytes → List ℕ → Table
-tellRows s table = headerRowsBy s table ++ (3, NotSound s) ∷ (16, WrongTable s table) ∷ []
+tellRows s table = rowsBy s table (soundRows s) ++ (16, RightFor s table → ⊥) ∷ []
 
--- Format: 1.
-abbrev pub formatRowsBy : Bytes → List ℕ → Table
-formatRowsBy s table = (1, WrongLengths s table) ∷ []
-
--- Apply: 1, 2, 3, 16; then 4, 5, 18, 7.
-abbrev pub applyRowsBy : ℕ → Bytes → Bytes → List ℕ → Table
-applyRowsBy number batch s table =
-    headerRowsBy s table ++ (3, NotSound s) ∷ (16, WrongTable s table) ∷ batchRows number batch s
-
--- Prune: 1, 2, 3, 16; then 8.
-abbrev pub pruneRowsBy : ℕ → Bytes → List ℕ → Table
-pruneRowsBy n s table = headerRowsBy s table ++ (3, NotSound s) ∷ (16, WrongTable s table) ∷ versionRows s n
+-- Apply and prune: 1, 2, 3, 16; then the plain call's after 3.
+abbrev pub keepRows : Bytes → List ℕ → Table → Table
+keepRows s table rows = tellRows s table ++ drop 3 rows
 
 -- A store and a table that only public calls wrote, each lent both: they begin by a format of both that was accepted,
 -- or by a table built for a store with a life of its own; then come calls that keep both, calls that build the table

@@ -10,15 +10,15 @@ use Rattle.terms.proofs.Fields.{length-le}
 use Rattle.fields.specs.Written.{written}
 use Rattle.fields.proofs.Written.{fields-fill}
 use Rattle.meaning.specs.Calls.{Answer, refused, accepted}
-use Rattle.meaning.specs.Answers.{numberOf}
+use Rattle.meaning.proofs.Told.{exported-refusal, exported-answer}
 use Rattle.quarter.specs.Figures.{Quarter}
-use Rattle.figures.specs.Figures.{Totals, totals, figuredSays, totalsOf, Tells}
-use Rattle.figures.specs.declared.Figured as declared
-use Rattle.figures.specs.declared.Figured.the-variants.{Refused, Told}
-use Rattle.contracts.specs.Figures.{totalsBytes, totalsAfter, Figures}
+use Rattle.figures_sound.specs.Figures.{Totals, totals, figuredSays, totalsOf, Tells}
+use Rattle.figures_sound.specs.declared.Figured as declared
+use Rattle.figures_sound.specs.declared.Figured.the-variants.{Refused, Told}
+use Rattle.contracts.specs.Figures.{Figures}
 
 -- two numbers of four bytes
-pub totals-put : (d n : ℕ) (f f₁ f₂ : Bytes) → length f ≡ 8 → f₁ ≡ written 0 (le 4 d) f → f₂ ≡ written 4 (le 4 n) f₁ → f₂ ≡ totalsBytes d n
+pub totals-put : (d n : ℕ) (f f₁ f₂ : Bytes) → length f ≡ 8 → f₁ ≡ written 0 (le 4 d) f → f₂ ≡ written 4 (le 4 n) f₁ → f₂ ≡ le 4 d ++ le 4 n
 totals-put d n f f₁ f₂ l a b =
     b
     ∙ ap (written 4 (le 4 n)) a
@@ -37,13 +37,12 @@ module _ {first last : ℕ} {s room after : Bytes} {r : declared.Figured} (w : T
           let same : n ≡ m = cc in record {
             answer = w .answer;
             does = w .does;
-            number = same ∙ sym (ap (λ x. numberOf x) f);
+            exported = exported-refusal (ap refused same ∙ sym f);
             numbers = w .bytes;
-            told = sym (ap (λ x. totalsAfter x old) f);
           }
       go (accepted q) f g = let z : _≡_ {A = ℕ} 0 1 = cc in absurd (omega arith)
 
-  pub figures-told : {d n : ℕ} {new : Bytes} → r ≡ Told d n → new ≡ totalsBytes d n → Figures first last s room old 0 after new
+  pub figures-told : {d n : ℕ} {new : Bytes} → r ≡ Told d n → new ≡ le 4 d ++ le 4 n → Figures first last s room old 0 after new
   figures-told {d} {n} {new} e x = go (w .answer) refl (sym (ap figuredSays e) ∙ w .says)
     where
       go : (a : Answer Quarter) → w .answer ≡ a → accepted (totals d n) ≡ totalsOf a → Figures first last s room old 0 after new
@@ -55,7 +54,6 @@ module _ {first last : ℕ} {s room after : Bytes} {r : declared.Figured} (w : T
           record {
             answer = w .answer;
             does = w .does;
-            number = sym (ap (λ x. numberOf x) f);
+            exported = exported-answer (sym f) (x ∙ ap₂ (λ y z. le 4 y ++ le 4 z) d-is n-is);
             numbers = w .bytes;
-            told = x ∙ ap₂ totalsBytes d-is n-is ∙ sym (ap (λ y. totalsAfter y old) f);
           }

@@ -1,4 +1,1 @@
-pub mod Ranges
-pub mod Writing
-pub mod Answers
 pub mod Exported

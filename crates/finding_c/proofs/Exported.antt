@@ -1,10 +1,10 @@
 -- The number and the 131 bytes, by the case of the answer. Assumes nothing.
 use Prim.Native.Nat.{ℕ}
-use mathlib.Core.Path.{_≡_, refl, ap, sym, _∙_}
+use mathlib.Core.Path.{_≡_, ap, sym, _∙_}
 use lib.ListN.{length}
 use Rattle.terms.specs.Bits.{Bytes}
 use Rattle.terms.specs.Fields.{zeroBytes}
-use Rattle.meaning.specs.Answers.{numberOf, toldOf}
+use Rattle.meaning.proofs.Told.{exported-refusal, exported-answer, exports}
 use Rattle.forged_message.specs.declared.Message.{Message}
 use Rattle.forged_nodes.specs.declared.Named as declared-named
 use Rattle.forged_nodes.specs.declared.Named.the-variants.{Nothing, Two, Zero}
@@ -34,17 +34,7 @@ module _ (m : declared-named.Named) where
 
 module _ (a : declared.Found) {s : Bytes} {v : ℕ} {k x : Bytes} (answers : Answers s v k x (foundSays a)) (f : Bytes) where
   pub finding-refused : {n : ℕ} → a ≡ Refused n → Finds s v k x f n f
-  finding-refused e = record {
-    answer = foundSays a;
-    answers = answers;
-    number = sym (ap (λ q. numberOf (foundSays q)) e);
-    told = sym (ap (λ q. toldOf findingBytes (foundSays q) f) e);
-  }
+  finding-refused e = exports (foundSays a) answers (exported-refusal (sym (ap foundSays e)))
 
   pub finding-given : {m : declared-named.Named} {g : Bytes} → a ≡ Of m → g ≡ findingBytes (namedSays m) → Finds s v k x f 0 g
-  finding-given e w = record {
-    answer = foundSays a;
-    answers = answers;
-    number = sym (ap (λ q. numberOf (foundSays q)) e);
-    told = w ∙ sym (ap (λ q. toldOf findingBytes (foundSays q) f) e);
-  }
+  finding-given e w = exports (foundSays a) answers (exported-answer (sym (ap foundSays e)) w)

@@ -24,6 +24,7 @@ use Rattle.proofrecords.specs.ProofBytes.{proofIn, ProofIs}
 use Rattle.proofrecords.proofs.Proofs.{proof-is, no-proof-is, one-proof-is}
 use Rattle.forgery.specs.Messages.{leafHash, innerHash}
 use Rattle.forgery.specs.Finding.{Finding, finding}
+use Rattle.forgery.proofs.Theorems.{found-so, only-found}
 use Rattle.finding_rules.specs.Call.{versionRoot, HoldsAt, FoundIn, not-kept, no-grant, not-in-form, not-holding, holding}
 use Rattle.finding_rules.specs.Reading.{noGrant, foundOf, foundAgainst, finds}
 
@@ -66,7 +67,7 @@ module _ (H : Bytes → Bytes) (st : Store) (v : ℕ) (k x : Bytes) where
       held i g p w (refused n) e =
           subst (λ m. FoundIn H st v k x (refused m)) (sym (refused-with-11 (leafHash H) (innerHash H) (versionRoot H st v) k p e))
           (not-holding i g w (λ a h. not-both (sym e ∙ accepted-so p a .1 h)))
-      held i g p w (accepted a) e = holding i g w (accepted-so p a .0 e)
+      held i g p w (accepted a) e = holding i g w (accepted-so p a .0 e) (found-so H st v p .0) (found-so H st v p .1)
 
       form : Kept st v → HoldsGrant st v → (o : Option Proof) → proofIn x ≡ o → FoundIn H st v k x (foundAgainst H st v k o)
       form i g none e = not-in-form i g (no-proof-is x e)
@@ -88,21 +89,21 @@ module _ (H : Bytes → Bytes) (st : Store) (v : ℕ) (k x : Bytes) where
   only-8 n (no-grant i e) = absurd (n i)
   only-8 n (not-in-form i g m) = absurd (n i)
   only-8 n (not-holding i g w m) = absurd (n i)
-  only-8 n (holding i g w h) = absurd (n i)
+  only-8 n (holding i g w h t l) = absurd (n i)
 
   only-14 : {c : Answer Finding} → Kept st v → grantsIn (treeAtVersion st v) ≡ [] → FoundIn H st v k x c → refused 14 ≡ c
   only-14 i e (not-kept m) = absurd (m i)
   only-14 i e (no-grant j f) = refl
   only-14 i e (not-in-form j g m) = absurd (g e)
   only-14 i e (not-holding j g w m) = absurd (g e)
-  only-14 i e (holding j g w h) = absurd (g e)
+  only-14 i e (holding j g w h t l) = absurd (g e)
 
   only-10 : {c : Answer Finding} → Kept st v → HoldsGrant st v → ((p : Proof) → ProofIs x p → ⊥) → FoundIn H st v k x c → refused 10 ≡ c
   only-10 i g n (not-kept m) = absurd (m i)
   only-10 i g n (no-grant j f) = absurd (g f)
   only-10 i g n (not-in-form j f m) = refl
   only-10 i g n (not-holding {p} j f w m) = absurd (n p w)
-  only-10 i g n (holding {p} j f w h) = absurd (n p w)
+  only-10 i g n (holding {p} j f w h t l) = absurd (n p w)
 
   fails : (p : Proof) → ((a : Verdict) → HoldsAt H st v k p a → ⊥) → foundOf H st v p (tested p) ≡ refused 11
   fails p n = go (tested p) refl
@@ -119,14 +120,15 @@ module _ (H : Bytes → Bytes) (st : Store) (v : ℕ) (k x : Bytes) where
   only-what-holds i g w (no-grant j f) = absurd (g f)
   only-what-holds {p = p} i g w (not-in-form j f m) = absurd (m p w)
   only-what-holds {p = p} i g w (not-holding {p = q} j f u m) = ap (λ y. foundOf H st v y (tested y)) (one-proof-is x p q w u) ∙ fails q m
-  only-what-holds {p = p} i g w (holding {p = q} j f u h) = ap (λ y. foundOf H st v y (tested y)) (one-proof-is x p q w u) ∙ succeeds q h
+  only-what-holds {p = p} i g w (holding {p = q} j f u h t l) =
+      ap (λ y. foundOf H st v y (tested y)) (one-proof-is x p q w u) ∙ succeeds q h ∙ ap accepted (sym (only-found H st v q (t, l)))
 
   pub one-found : (a c : Answer Finding) → FoundIn H st v k x a → FoundIn H st v k x c → a ≡ c
   one-found _ c (not-kept n) t = only-8 n t
   one-found _ c (no-grant i e) t = only-14 i e t
   one-found _ c (not-in-form i g n) t = only-10 i g n t
   one-found _ c (not-holding {p} i g w n) t = sym (fails p n) ∙ only-what-holds i g w t
-  one-found _ c (holding {p} i g w h) t = sym (succeeds p h) ∙ only-what-holds i g w t
+  one-found _ c (holding {p} i g w h so lie) t = ap accepted (only-found H st v p (so, lie)) ∙ sym (succeeds p h) ∙ only-what-holds i g w t
 
   -- so what is found is exactly what is read.
   pub found-exactly : All Byte x → (a : Answer Finding) → FoundIn H st v k x a ↔ (a ≡ finds H v k (proofIn x) st)

@@ -14,8 +14,8 @@ use Rattle.meaning.specs.Reading.{Verdict}
 use Rattle.meaning.specs.Proving.{HoldsGrant}
 use Rattle.checker.specs.Holding.{Holds}
 use Rattle.proofrecords.specs.ProofBytes.{ProofIs}
-use Rattle.forgery.specs.Messages.{leafHash, innerHash}
-use Rattle.forgery.specs.Finding.{Finding, nothing, twoEqual, oneZero, finding}
+use Rattle.forgery.specs.Messages.{leafHash, innerHash, nodeMessages, checkedMessages}
+use Rattle.forgery.specs.Finding.{True, Finding, nothing, twoEqual, oneZero, searched}
 
 module _ (H : Bytes → Bytes) where
   -- The root of a version: the hash of its tree.
@@ -37,9 +37,11 @@ module _ (H : Bytes → Bytes) where
     -- 11: they are one that doesn't hold against the version's root
     not-holding : {p : Proof} → Kept st v → HoldsGrant st v → ProofIs x p → ((a : Verdict) → HoldsAt st v k p a → ⊥) →
         FoundIn st v k x (refused 11)
-    -- else what is found of it
-    holding : {p : Proof} {a : Verdict} → Kept st v → HoldsGrant st v → ProofIs x p → HoldsAt st v k p a →
-        FoundIn st v k x (accepted (finding H st v p))
+    -- else what is found of it: nothing if it is true of the version's grants, what the search names if it isn't
+    holding : {p : Proof} {a : Verdict} {f : Finding} → Kept st v → HoldsGrant st v → ProofIs x p → HoldsAt st v k p a →
+        (True (grantsIn (treeAtVersion st v)) p → f ≡ nothing) →
+        ((True (grantsIn (treeAtVersion st v)) p → ⊥) →
+        f ≡ searched H (nodeMessages v (st .slots)) (checkedMessages H p)) → FoundIn st v k x (accepted f)
 
 -- What is found, in 131 bytes: 0, or 1 and two messages, or 2 and one message; zero where there is none.
 unfoldable pub findingBytes : Finding → Bytes

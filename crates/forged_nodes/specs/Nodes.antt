@@ -3,19 +3,18 @@ use Prim.Native.Nat.{ℕ, _<_}
 use mathlib.Core.Path.{_≡_}
 use mathlib.Core.List.{List}
 use lib.ListN.{length, getD}
-use mathlib.Core.Bool.{Bool, true, false, _&&_, not}
+use mathlib.Core.Bool.{Bool, true, _&&_}
 use Rattle.terms.specs.Bits.{Bytes, sameBytes}
-use Rattle.terms.specs.Records.{Slot, free, used, spoiled, zeros}
+use Rattle.terms.specs.Records.{zeros}
 use Rattle.sha256.specs.Sha256.{sha256}
 use Rattle.terms.specs.declared.Form.the-variants.{Counted as counted}
 use Rattle.layout.specs.Sizes.{roomOf}
 use Rattle.layout.specs.Headers.{sizeRight}
 use Rattle.layout.specs.Slots.{slotOf}
 use Rattle.layout.specs.Stores.{slotIn}
-use Rattle.read_step.specs.Walk.{bodyIn}
-use Rattle.forgery.specs.Messages.{messageOf, standsIn}
 use Rattle.forgery.specs.Finding.{Finding, nothing, twoEqual, oneZero}
 use Rattle.forged_message.specs.Parts.{messageBytes, firstWord}
+use Rattle.forged_slot.specs.Slot.{standsHere, messageIn}
 use Rattle.forged_nodes.specs.declared.Named as declared
 use Rattle.forged_nodes.specs.declared.Named.the-variants.{Nothing, Two, Zero}
 
@@ -24,16 +23,6 @@ unfoldable pub namedSays : declared.Named → Finding
 namedSays Nothing = nothing
 namedSays (Two n m) = twoEqual (messageBytes n) (messageBytes m)
 namedSays (Zero m) = oneZero (messageBytes m)
-
--- A slot holds a record that is in v's tree.
-abbrev pub standsHere : ℕ → Slot → Bool
-standsHere v free = false
-standsHere v (used r) = standsIn v r
-standsHere v (spoiled x) = false
-
--- The message of a slot's bytes that are a record.
-abbrev pub messageIn : Bytes → Bytes
-messageIn x = messageOf (bodyIn x)
 
 -- A number is the first word of a node's hash; of what is no node it may be any.
 abbrev pub WordHere : ℕ → Bytes → ℕ → Type 0
@@ -48,10 +37,6 @@ pub record NotedTo (v : ℕ) (s : Bytes) (words : List ℕ) (n : ℕ) : Type 0 w
 abbrev pub Noted : ℕ → Bytes → List ℕ → Type 0
 Noted v s words = NotedTo v s words (roomOf counted (length s))
 
--- It is a node with another message than m and the same hash; or one with hash zero.
-unfoldable pub partnerHere : ℕ → Bytes → Bytes → Bool
-partnerHere v m x =
-    standsHere v (slotOf x) && (not (sameBytes (messageIn x) m) && sameBytes (sha256 (messageIn x)) (sha256 m))
-
+-- It is a node with hash zero.
 unfoldable pub zeroHere : ℕ → Bytes → Bool
 zeroHere v x = standsHere v (slotOf x) && sameBytes (sha256 (messageIn x)) zeros

@@ -4,7 +4,7 @@ use forged_message::Message;
 use forged_message::hash_of;
 use forged_message::hashes_to_zero;
 use forged_nodes::Named;
-use forged_nodes::partner;
+use forged_partner::partner;
 use hash::Hash;
 use hash::hash_at;
 use proofrecords::KEY_AT;

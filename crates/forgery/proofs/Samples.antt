@@ -6,7 +6,7 @@ use mathlib.Core.List.{List, [], _∷_}
 use mathlib.Core.Option.{none, some}
 use lib.ListN.{replicate}
 use Rattle.terms.specs.Bits.{Bytes, left, right}
-use Rattle.terms.specs.Records.{Proof, presence, Store, zeros}
+use Rattle.terms.specs.Records.{grant, Proof, presence, Store, zeros}
 use Rattle.meaning.specs.Tree.{hash, unversioned}
 use Rattle.meaning.specs.Store.{treeAtVersion}
 use Rattle.meaning.specs.Calls.{Answer, accepted}
@@ -41,18 +41,18 @@ B = of 128
 
 abbrev two : Store
 two = store 0 1
-    (lf (left ∷ []) 1 0 A (of 1)
-    ∷ lf (right ∷ []) 1 0 B (of 11)
-    ∷ nd [] 1 0 1 (of 28) 1 zeros 1 1
+    (lf (left ∷ []) 1 (grant A (of 1)) 0
+    ∷ lf (right ∷ []) 1 (grant B (of 11)) 0
+    ∷ nd [] 1 1 (of 28) 1 zeros 1 1 0
     ∷ [])
 
 -- A and C below 0, nothing below 1: C with value 1 has hash 3, the inner node 6, the root 18.
 abbrev gap : Store
 gap = store 0 1
-    (lf (left ∷ left ∷ []) 1 0 A (of 1)
-    ∷ lf (left ∷ right ∷ []) 1 0 C (of 1)
-    ∷ nd (left ∷ []) 1 0 1 (toy (leafMessage A (of 1))) 1 (toy (leafMessage C (of 1))) 1 1
-    ∷ nd [] 1 0 1 (toy (innerMessage (toy (leafMessage A (of 1))) (toy (leafMessage C (of 1))))) 0 zeros 2 0
+    (lf (left ∷ left ∷ []) 1 (grant A (of 1)) 0
+    ∷ lf (left ∷ right ∷ []) 1 (grant C (of 1)) 0
+    ∷ nd (left ∷ []) 1 1 (toy (leafMessage A (of 1))) 1 (toy (leafMessage C (of 1))) 1 1 0
+    ∷ nd [] 1 1 (toy (innerMessage (toy (leafMessage A (of 1))) (toy (leafMessage C (of 1))))) 0 zeros 2 0 0
     ∷ [])
 
 -- What the checker answers, and what is found.

@@ -23,7 +23,7 @@ use Rattle.checker.specs.Holding.{Holds, shown, only-left, only-right, both}
 use Rattle.checker.proofs.Theorems.{accepted-exactly-if-holds}
 use Rattle.proofrecords.specs.ProofBytes.{ProofForm}
 use Rattle.forgery.specs.Messages.{nodeMessages, leafHash, innerHash, treeMessages, checkedMessages}
-use Rattle.forgery.specs.Finding.{Saying, says, True, sameVerdict, allTrue, Finding, nothing, Among, NamedFrom, searched, finding}
+use Rattle.forgery.specs.Finding.{says, True, sameVerdict, allTrue, Finding, nothing, Among, NamedFrom, searched, finding}
 use Rattle.forgery.proofs.Sizes.{all-65}
 use Rattle.forgery.proofs.Lists.{Within, among-left, among-right}
 use Rattle.forgery.proofs.Search.{nothing-is-clean, searched-is-named}
@@ -41,19 +41,44 @@ same-verdict (present x) absent h = absurd (false≢true h)
 same-verdict absent (present y) h = absurd (false≢true h)
 same-verdict absent absent h = refl
 
-abbrev So : List Grant → Saying → Type 0
-So gs s = answerOf (s .key) gs ≡ s .verdict
+abbrev So : List Grant → Bytes × Verdict → Type 0
+So gs s = answerOf (s .0) gs ≡ s .1
 
-test-said : (gs : List Grant) (ss : List Saying) → All (So gs) ss → allTrue gs ss ≡ true
+test-said : (gs : List Grant) (ss : List (Bytes × Verdict)) → All (So gs) ss → allTrue gs ss ≡ true
 test-said gs [] h = refl
-test-said gs (s ∷ ss) h = rw (h .0, verdict-same (s .verdict), test-said gs ss (h .1))
+test-said gs (s ∷ ss) h = rw (h .0, verdict-same (s .1), test-said gs ss (h .1))
 
-said-test : (gs : List Grant) (ss : List Saying) → allTrue gs ss ≡ true → All (So gs) ss
+said-test : (gs : List Grant) (ss : List (Bytes × Verdict)) → allTrue gs ss ≡ true → All (So gs) ss
 said-test gs [] h = tt
 said-test gs (s ∷ ss) h = (
-  same-verdict _ _ (and-left (sameVerdict (answerOf (s .key) gs) (s .verdict)) (allTrue gs ss) h),
-  said-test gs ss (and-right (sameVerdict (answerOf (s .key) gs) (s .verdict)) (allTrue gs ss) h),
+  same-verdict _ _ (and-left (sameVerdict (answerOf (s .0) gs) (s .1)) (allTrue gs ss) h),
+  said-test gs ss (and-right (sameVerdict (answerOf (s .0) gs) (s .1)) (allTrue gs ss) h),
 )
+
+-- What is found is nothing if the proof is true, and what the search names if it isn't; and nothing else is so.
+module _ (H : Bytes → Bytes) (st : Store) (v : ℕ) (p : Proof) where
+  abbrev So-found : Finding → Type 0
+  So-found f =
+      (True (grantsIn (treeAtVersion st v)) p → f ≡ nothing)
+      × ((True (grantsIn (treeAtVersion st v)) p → ⊥) → f ≡ searched H (nodeMessages v (st .slots)) (checkedMessages H p))
+
+  pub found-so : So-found (finding H st v p)
+  unfolding finding
+  found-so = (λ h. rw (test-said (grantsIn (treeAtVersion st v)) (says p) h), go (allTrue (grantsIn (treeAtVersion st v)) (says p)) refl)
+    where
+      go : (b : Bool) → allTrue (grantsIn (treeAtVersion st v)) (says p) ≡ b → (True (grantsIn (treeAtVersion st v)) p → ⊥) →
+          cond b nothing (searched H (nodeMessages v (st .slots)) (checkedMessages H p)) ≡ searched H (nodeMessages v (st .slots)) (checkedMessages H p)
+      go true e lie = absurd (lie (said-test (grantsIn (treeAtVersion st v)) (says p) e))
+      go false e lie = refl
+
+  pub only-found : {f : Finding} → So-found f → f ≡ finding H st v p
+  only-found {f} so = go (allTrue (grantsIn (treeAtVersion st v)) (says p)) refl
+    where
+      go : (b : Bool) → allTrue (grantsIn (treeAtVersion st v)) (says p) ≡ b → f ≡ finding H st v p
+      go true e = let t = said-test (grantsIn (treeAtVersion st v)) (says p) e in so .0 t ∙ sym (found-so .0 t)
+      go false e =
+          let lie : True (grantsIn (treeAtVersion st v)) p → ⊥ = λ t. false≢true (sym e ∙ test-said (grantsIn (treeAtVersion st v)) (says p) t) in
+          so .1 lie ∙ sym (found-so .1 lie)
 
 module _ (H : Bytes → Bytes) (hash32 : (m : Bytes) → length (H m) ≡ 32) (st : Store) (ok : Sound (leafHash H) (innerHash H) st) (v : ℕ)
     (kept : Kept st v) where

@@ -1,5 +1,4 @@
--- Document 02, request 2026-12: what a proof says, what a finding is, and which finding is named where a proof says
--- something false. Assumes nothing.
+-- Document 02, 2026-12: what a proof says, what a finding is, and which one the search names. Assumes nothing.
 use Prim.Native.Nat.{ℕ}
 use mathlib.Core.Path.{_≡_}
 use mathlib.Core.Logic.{_⊎_}
@@ -13,38 +12,19 @@ use Rattle.meaning.specs.Store.{treeAtVersion}
 use Rattle.meaning.specs.Reading.{Verdict, present, absent, answerOf}
 use Rattle.forgery.specs.Messages.{nodeMessages, checkedMessages}
 
--- What is said of a key.
-pub record Saying : Type 0 where
-  pub key : Bytes
-  pub verdict : Verdict
-
-abbrev pub saying : Bytes → Verdict → Saying
-saying k v = record { key = k; verdict = v }
-
-abbrev pub neighbourSays : Option Presence → List Saying
+abbrev pub neighbourSays : Option Presence → List (Bytes × Verdict)
 neighbourSays none = []
-neighbourSays (some p) = saying (p .key) (present (p .value)) ∷ []
+neighbourSays (some p) = (p .key, present (p .value)) ∷ []
 
 -- What a proof says: of its key that it is present with the value, or absent; and of each neighbour that it is present
 -- with its value.
-abbrev pub says : Proof → List Saying
-says (presence p) = saying (p .key) (present (p .value)) ∷ []
-says (absence a) = saying (a .key) absent ∷ (neighbourSays (a .leftward) ++ neighbourSays (a .rightward))
+abbrev pub says : Proof → List (Bytes × Verdict)
+says (presence p) = (p .key, present (p .value)) ∷ []
+says (absence a) = (a .key, absent) ∷ (neighbourSays (a .leftward) ++ neighbourSays (a .rightward))
 
 -- It is true of a set of grants if they say the same of each key.
 abbrev pub True : List Grant → Proof → Type 0
-True gs p = All (λ s. answerOf (s .key) gs ≡ s .verdict) (says p)
-
--- The same as a test.
-abbrev pub sameVerdict : Verdict → Verdict → Bool
-sameVerdict (present x) (present y) = sameBytes x y
-sameVerdict (present x) absent = false
-sameVerdict absent (present y) = false
-sameVerdict absent absent = true
-
-abbrev pub allTrue : List Grant → List Saying → Bool
-allTrue gs [] = true
-allTrue gs (s ∷ rest) = sameVerdict (answerOf (s .key) gs) (s .verdict) && allTrue gs rest
+True gs p = All (λ s. answerOf (s .0) gs ≡ s .1) (says p)
 
 -- Nothing; two different messages with equal hash; or one whose hash is 32 zero bytes.
 pub data Finding : Type 0 where
@@ -62,6 +42,17 @@ abbrev pub orElse : Finding → Finding → Finding
 orElse nothing f = f
 orElse (twoEqual m n) f = twoEqual m n
 orElse (oneZero m) f = oneZero m
+
+-- The same as a test, and what is found by it. No public promise reaches these.
+abbrev pub sameVerdict : Verdict → Verdict → Bool
+sameVerdict (present x) (present y) = sameBytes x y
+sameVerdict (present x) absent = false
+sameVerdict absent (present y) = false
+sameVerdict absent absent = true
+
+abbrev pub allTrue : List Grant → List (Bytes × Verdict) → Bool
+allTrue gs [] = true
+allTrue gs (s ∷ rest) = sameVerdict (answerOf (s .0) gs) (s .1) && allTrue gs rest
 
 module _ (H : Bytes → Bytes) where
   -- What is found is named from a list of messages.

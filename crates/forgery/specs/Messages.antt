@@ -1,5 +1,4 @@
--- Document 02, request 2026-12: the 65-byte messages of a version's nodes, and the messages hashed while checking a
--- proof. The hash of a message is given: SHA-256 in the calls. Assumes nothing.
+-- Document 02, 2026-12: the messages of nodes and of a check; their hash is SHA-256 in the calls. Assumes nothing.
 use Prim.Native.Nat.{ℕ}
 use mathlib.Core.Bool.{Bool, cond, _&&_, not}
 use mathlib.Core.List.{List, [], _∷_, _++_}

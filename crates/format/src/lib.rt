@@ -1,7 +1,7 @@
 // Formatting: a store of any contents becomes a fresh one.
 use fields::clear;
-use layout::put_header;
-use layout::size_right;
+use header::put_header;
+use header_form::size_right;
 use refusal_numbers::WRONG_SIZE;
 use store::slot_count;
 use terms::Form;

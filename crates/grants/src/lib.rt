@@ -1,8 +1,9 @@
 // The public calls, for C, Rust and others to link. Each answers 0 where it is accepted, else document 01's number of refusal; a refused
 // call writes nothing, its answer included. A slice is passed as a pointer and a length, an array as a pointer alone.
 use terms::Form;
+ghost use mathlib.Core.List.{[], _∷_};
+ghost use mathlib.Core.Option.{some};
 ghost use Rattle.contracts.specs.Contracts.{Formats, Checks, Indexes, TellsIndex, FormatsIndexed, AppliesIndexed, PrunesIndexed, Applies, Prunes, ReadsRoot, ReadsKey, Counts, ReadsAt, Proves, Palettes, ReadsRootBy, ReadsKeyBy, CountsBy, ReadsAtBy, ProvesBy, PalettesBy, Changes, Rescues, MovesOver, MovesBack, Finds, Figures, PocketProves, Verifies, PocketVerifies, ShelfVerifies, VerifiesMany, WritesMessage, ReadsMessage, TellsVersion, Hashes};
-ghost use Rattle.message_rules.specs.Contracts.{lentOf};
 
 // Makes a fresh store of any bytes of the right length.
 #[no_mangle]
@@ -160,7 +161,7 @@ pub extern "C" fn grants_root_indexed(
     version: u32,
     root: &mut [u8; 32],
 ) -> u64
-    ensures { λ r. ⌜ ReadsRootBy (now (store .entry)) (now (index .entry)) version (now (root .entry)) r (now (root .exit)) ⌝ }
+    ensures { λ r. ⌜ ReadsRootBy (now (store .entry)) (some (now (index .entry))) version (now (root .entry)) r (now (root .exit)) ⌝ }
 {
     read_c::root_indexed(store, index, version, root)
 }
@@ -174,7 +175,7 @@ pub extern "C" fn grants_get_indexed(
     key: &[u8],
     found: &mut [u8; 33],
 ) -> u64
-    ensures { λ r. ⌜ ReadsKeyBy (now (store .entry)) (now (index .entry)) version (now (key .entry)) (now (found .entry)) r (now (found .exit)) ⌝ }
+    ensures { λ r. ⌜ ReadsKeyBy (now (store .entry)) (some (now (index .entry))) version (now (key .entry)) (now (found .entry)) r (now (found .exit)) ⌝ }
 {
     read_c::get_indexed(store, index, version, key, found)
 }
@@ -187,7 +188,7 @@ pub extern "C" fn grants_count_indexed(
     version: u32,
     count: &mut [u8; 8],
 ) -> u64
-    ensures { λ r. ⌜ CountsBy (now (store .entry)) (now (index .entry)) version (now (count .entry)) r (now (count .exit)) ⌝ }
+    ensures { λ r. ⌜ CountsBy (now (store .entry)) (some (now (index .entry))) version (now (count .entry)) r (now (count .exit)) ⌝ }
 {
     read_counts_c::count_indexed(store, index, version, count)
 }
@@ -201,7 +202,7 @@ pub extern "C" fn grants_at_indexed(
     position: u64,
     grant: &mut [u8; 64],
 ) -> u64
-    ensures { λ r. ⌜ ReadsAtBy (now (store .entry)) (now (index .entry)) version position (now (grant .entry)) r (now (grant .exit)) ⌝ }
+    ensures { λ r. ⌜ ReadsAtBy (now (store .entry)) (some (now (index .entry))) version position (now (grant .entry)) r (now (grant .exit)) ⌝ }
 {
     read_counts_c::at_indexed(store, index, version, position, grant)
 }
@@ -216,7 +217,7 @@ pub extern "C" fn grants_prove_indexed(
     room: &mut [u8],
     length: &mut [u8; 4],
 ) -> u64
-    ensures { λ r. ⌜ ProvesBy (now (store .entry)) (now (index .entry)) version (now (key .entry)) (now (room .entry)) (now (length .entry)) r (now (room .exit)) (now (length .exit)) ⌝ }
+    ensures { λ r. ⌜ ProvesBy (now (store .entry)) (some (now (index .entry))) version (now (key .entry)) (now (room .entry)) (now (length .entry)) r (now (room .exit)) (now (length .exit)) ⌝ }
 {
     prove_c::prove_indexed(store, index, version, key, room, length)
 }
@@ -231,7 +232,7 @@ pub extern "C" fn grants_palette_indexed(
     room: &mut [u8],
     length: &mut [u8; 4],
 ) -> u64
-    ensures { λ r. ⌜ PalettesBy (now (store .entry)) (now (index .entry)) version (now (keys .entry)) (now (room .entry)) (now (length .entry)) r (now (room .exit)) (now (length .exit)) ⌝ }
+    ensures { λ r. ⌜ PalettesBy (now (store .entry)) (some (now (index .entry))) version (now (keys .entry)) (now (room .entry)) (now (length .entry)) r (now (room .exit)) (now (length .exit)) ⌝ }
 {
     palette_c::palette_indexed(store, index, version, keys, room, length)
 }
@@ -396,7 +397,7 @@ pub extern "C" fn grants_ics23_write(
     room: &mut [u8],
     length: &mut [u8; 4],
 ) -> u32
-    ensures { λ r. ⌜ WritesMessage (now (proof .entry)) (lentOf (now (asked .entry)) (now (key1 .entry)) (now (value1 .entry)) (now (key2 .entry)) (now (value2 .entry))) (now (room .entry)) (now (length .entry)) r (now (room .exit)) (now (length .exit)) ⌝ }
+    ensures { λ r. ⌜ WritesMessage (now (proof .entry)) (now (asked .entry)) (now (key1 .entry) ∷ now (value1 .entry) ∷ now (key2 .entry) ∷ now (value2 .entry) ∷ []) (now (room .entry)) (now (length .entry)) r (now (room .exit)) (now (length .exit)) ⌝ }
 {
     message_c::written_out(proof, asked, key1, value1, key2, value2, room, length)
 }

@@ -16,8 +16,8 @@ use Rattle.meaning.specs.Tree.{grantsIn}
 use Rattle.meaning.specs.Store.{formatted, treeAtVersion}
 use Rattle.meaning.specs.Sound.{mostSlots, Kept, Hashes32, Sound}
 use Rattle.meaning.specs.Calls.{Applied, refuse}
-use Rattle.meaning.specs.History.{Call, formatting, applying, pruning, taking, looking, Entry, entry, keptBy, lasting, noted, ledger, grantsOf, Holds}
-use Rattle.meaning.specs.Course.{CallForm, isAccepted, after, took, run, history, heldFrom, held}
+use Rattle.meaning.specs.History.{Call, formatting, applying, pruning, taking, looking, Entry, entry, keptBy, lasting, noted, ledger, grantsOf, Holds, entriesFrom, held}
+use Rattle.meaning.specs.Course.{CallForm, isAccepted, after, took, run, history}
 use Rattle.meaning.proofs.Shaped.{shaped-treeOf}
 use Rattle.histories.specs.Claims.{AfterApply, AfterPrune}
 use Rattle.histories.proofs.Whole.{sound-whole, whole-sound}
@@ -43,27 +43,27 @@ last-or v m h = go (leb v m) refl
     go true e = inl (leb-true v m e)
     go false e = inr (omega (arith, leb-false v m e))
 
-from-gives : (st : Store) (o n v : ℕ) → o ≤ v → v ≤ o + n → grantsOf v (heldFrom st o n) ≡ some (holding st v)
+from-gives : (st : Store) (o n v : ℕ) → o ≤ v → v ≤ o + n → grantsOf v (entriesFrom (treeAtVersion st) o n) ≡ some (holding st v)
 from-gives st o zero v l h = let e : o ≡ v = omega arith in grants-here v (entry o (holding st o)) [] e ∙ ap (λ x. some (holding st x)) e
 from-gives st o (suc n) v l h = go (last-or v (o + n) (omega arith)) (λ k. from-gives st o n v l k)
   where
     top : Entry
     top = entry (o + suc n) (holding st (o + suc n))
 
-    go : (v ≤ o + n) ⊎ (v ≡ suc (o + n)) → (v ≤ o + n → grantsOf v (heldFrom st o n) ≡ some (holding st v)) →
-        grantsOf v (top ∷ heldFrom st o n) ≡ some (holding st v)
-    go (inl k) f = grants-there v top (heldFrom st o n) (λ e. omega arith) ∙ f k
-    go (inr k) f = let e : o + suc n ≡ v = omega arith in grants-here v top (heldFrom st o n) e ∙ ap (λ x. some (holding st x)) e
+    go : (v ≤ o + n) ⊎ (v ≡ suc (o + n)) → (v ≤ o + n → grantsOf v (entriesFrom (treeAtVersion st) o n) ≡ some (holding st v)) →
+        grantsOf v (top ∷ entriesFrom (treeAtVersion st) o n) ≡ some (holding st v)
+    go (inl k) f = grants-there v top (entriesFrom (treeAtVersion st) o n) (λ e. omega arith) ∙ f k
+    go (inr k) f = let e : o + suc n ≡ v = omega arith in grants-here v top (entriesFrom (treeAtVersion st) o n) e ∙ ap (λ x. some (holding st x)) e
 
-from-only : (st : Store) (o n v : ℕ) → ((o ≤ v) × (v ≤ o + n) → ⊥) → grantsOf v (heldFrom st o n) ≡ none
+from-only : (st : Store) (o n v : ℕ) → ((o ≤ v) × (v ≤ o + n) → ⊥) → grantsOf v (entriesFrom (treeAtVersion st) o n) ≡ none
 from-only st o zero v f = grants-there v (entry o (holding st o)) [] (λ e. f (omega arith, omega arith))
 from-only st o (suc n) v f =
-    grants-there v (entry (o + suc n) (holding st (o + suc n))) (heldFrom st o n) (λ e. f (omega arith, omega arith))
+    grants-there v (entry (o + suc n) (holding st (o + suc n))) (entriesFrom (treeAtVersion st) o n) (λ e. f (omega arith, omega arith))
     ∙ from-only st o n v (λ h. f (h .0, omega (arith, h .1)))
 
-from-newest : (st : Store) (o n : ℕ) → o + n ≡ st .latest → (rest : List Entry) × (heldFrom st o n ≡ newest st ∷ rest)
+from-newest : (st : Store) (o n : ℕ) → o + n ≡ st .latest → (rest : List Entry) × (entriesFrom (treeAtVersion st) o n ≡ newest st ∷ rest)
 from-newest st o zero e = ([], ap (λ x. entry x (holding st x) ∷ []) (omega arith))
-from-newest st o (suc n) e = (heldFrom st o n, ap (λ x. entry x (holding st x) ∷ heldFrom st o n) e)
+from-newest st o (suc n) e = (entriesFrom (treeAtVersion st) o n, ap (λ x. entry x (holding st x) ∷ entriesFrom (treeAtVersion st) o n) e)
 
 module _ (leafHash innerHash : Bytes → Bytes → Bytes) where
   -- what is kept from call to call: the ledger begins with the latest version and has the grants of each kept version, and no more

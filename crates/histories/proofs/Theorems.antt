@@ -19,8 +19,8 @@ use Rattle.meaning.specs.Calls.{Answer, refused, accepted, refuse, isKept, Appl
 use Rattle.meaning.specs.Sight.{sighted, rootSight, scan}
 use Rattle.meaning.specs.Reading.{Seen, seenAt, seenRoot, seen, walk, readEnd, readKey, rootRead, readRoot}
 use Rattle.meaning.specs.Proving.{proveSeen, emptyVersion, proof}
-use Rattle.meaning.specs.History.{Call, formatting, applying, pruning, looking, Entry, entry, ledger, grantsOf, Holds, taking}
-use Rattle.meaning.specs.Course.{CallForm, isAccepted, after, took, run, history, held}
+use Rattle.meaning.specs.History.{Call, formatting, applying, pruning, looking, Entry, entry, ledger, grantsOf, Holds, taking, held}
+use Rattle.meaning.specs.Course.{CallForm, isAccepted, after, took, run, history}
 use Rattle.meaning.proofs.Finding.{none-not}
 use Rattle.meaning.proofs.Roots.{root-at, root-none, root-some, top-root}
 use Rattle.meaning.proofs.Runs.{Ascending}

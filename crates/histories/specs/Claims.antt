@@ -1,5 +1,4 @@
--- What is claimed of apply and prune: when they refuse, and of the store after they accept; what it is to read alike;
--- when a number leaves no gap. Assumes nothing.
+-- What is claimed of apply and prune, refused or accepted, and of numbers without a gap. Assumes nothing.
 use Prim.Native.Nat.{ℕ, suc, _+_, _<_, _≤_}
 use mathlib.Core.Path.{_≡_}
 use mathlib.Core.Bool.{true, false}
@@ -31,12 +30,6 @@ NoGap (taking es) st = ⊥
 NoGap looking st = Unit {0}
 
 module _ (leafHash innerHash : Bytes → Bytes → Bytes) where
-  -- Two versions of a store read alike: the root, each key, each proof.
-  pub record ReadAlike (st : Store) (v w : ℕ) : Type 0 where
-    pub root : readRoot leafHash innerHash st v ≡ readRoot leafHash innerHash st w
-    pub keys : (k : Bytes) → readKey st v k ≡ readKey st w k
-    pub proofs : (k : Bytes) → proof st v k ≡ proof st w k
-
   -- Rows 4, 5, 18 and 7 of the numbers of refusal, each after those before it.
   pub data ApplyRefuses (number : ℕ) (st : Store) : Option (List Ask) → ℕ → Type 0 where
     not-in-form : ApplyRefuses number st none 4
@@ -82,3 +75,9 @@ module _ (leafHash innerHash : Bytes → Bytes → Bytes) where
     pub latest : st′ .latest ≡ st .latest
     pub trees : (v : ℕ) → Kept st′ v → treeAtVersion st′ v ≡ treeAtVersion st v
     pub count : freeSlots (st′ .slots) ≡ freeSlots (st .slots) + answer
+
+  -- Two versions of a store read alike: the root, each key, each proof.
+  pub record ReadAlike (st : Store) (v w : ℕ) : Type 0 where
+    pub root : readRoot leafHash innerHash st v ≡ readRoot leafHash innerHash st w
+    pub keys : (k : Bytes) → readKey st v k ≡ readKey st w k
+    pub proofs : (k : Bytes) → proof st v k ≡ proof st w k

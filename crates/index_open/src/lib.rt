@@ -2,10 +2,10 @@
 // capacity gives 1, with the store's own.
 use check_store::check;
 use format::format;
+use header_form::size_right;
 use index_keep::build;
 use index_look::is_right;
 use index_pick::fill;
-use layout::size_right;
 use refusal_numbers::WRONG_INDEX;
 use refusal_numbers::WRONG_SIZE;
 use store::slot_count;

@@ -11,6 +11,7 @@ use Rattle.terms.specs.declared.Form.the-variants.{Counted as counted}
 use Rattle.terms.specs.Bits.{Bytes}
 use Rattle.terms.specs.Records.{Store}
 use Rattle.meaning.specs.Calls.{Answer, refused, accepted, Result}
+use Rattle.meaning.specs.Answers.{Exports, exports-refusal, exports-answer}
 use Rattle.indexed.specs.Table.{Right}
 use Rattle.indexed.proofs.One.{one-right-table}
 use Rattle.layout.specs.Headers.{Headed, refusal, header, headerOf}
@@ -21,7 +22,7 @@ use Rattle.promises.specs.Check.{Checked}
 use Rattle.promises.specs.Check as check
 use Rattle.promises.specs.Calls.{SoundBytes, Does, wrong-header, not-sound, refuses, accepts}
 use Rattle.promises.proofs.Calls.{checked-sound, refused-writes-nothing, one-outcome}
-use Rattle.index_rules.specs.Tables.{Fits, RightFor, Opened, other-length, checked, Tells, not-opened, not-right, is-right, Builds, not-built, built, FormatsBoth, wrong-size, both-fresh, DoesBoth, not-told, refuses-both, accepts-both, ExportsBoth, both-refused, both-answered}
+use Rattle.index_rules.specs.Tables.{Fits, RightFor, Opened, other-length, checked, Tells, not-opened, not-right, is-right, Builds, not-built, built, FormatsBoth, wrong-size, both-fresh, DoesBoth, not-told, refuses-both, accepts-both}
 
 no-header : {A : Type 0} {x : Headed} {n m o l : ℕ} → x ≡ refusal n → x ≡ header m o l → A
 no-header e f = let z : _≡_ {A = ℕ} 0 1 = cc in absurd (omega arith)
@@ -171,9 +172,10 @@ module _ {A : Type 0} {call : Store → Result A} {s : Bytes} {table : List ℕ}
   accepted-was-right (accepts-both o c q) = told-right o refl
 
   module _ {told : A → Bytes} {f : Bytes} where
-    pub one-export-both : {a b : ℕ} {t t′ g h : Bytes} {u v : List ℕ} → ExportsBoth call told s table f a t u g → ExportsBoth call told s table f b t′ v h →
+    pub one-export-both : {a b : ℕ} {t t′ g h : Bytes} {u v : List ℕ} → Exports (λ x. DoesBoth call s table x t u) told f a g →
+        Exports (λ x. DoesBoth call s table x t′ v) told f b h →
         (a ≡ b) × (t ≡ t′) × (u ≡ v) × (g ≡ h)
-    one-export-both (both-refused x) (both-refused y) = let o = one-outcome-both x y in (same-number (o .0), o .1, o .2, refl)
-    one-export-both (both-refused x) (both-answered y) = not-answered (one-outcome-both x y .0)
-    one-export-both (both-answered x) (both-refused y) = not-answered (one-outcome-both y x .0)
-    one-export-both (both-answered x) (both-answered y) = let o = one-outcome-both x y in (refl, o .1, o .2, same-told told (o .0))
+    one-export-both (exports-refusal x) (exports-refusal y) = let o = one-outcome-both x y in (same-number (o .0), o .1, o .2, refl)
+    one-export-both (exports-refusal x) (exports-answer y) = not-answered (one-outcome-both x y .0)
+    one-export-both (exports-answer x) (exports-refusal y) = not-answered (one-outcome-both y x .0)
+    one-export-both (exports-answer x) (exports-answer y) = let o = one-outcome-both x y in (refl, o .1, o .2, same-told told (o .0))

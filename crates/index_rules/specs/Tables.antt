@@ -1,6 +1,5 @@
--- Document 02, request 2026-05: what the calls that keep a table of slot numbers answer for any bytes and any table,
--- and what they leave of both. Order: 1, with a table of another length, 2, 3; then 16; then the call's own. Assumes
--- nothing.
+-- Document 02, request 2026-05: the calls that keep a table of slot numbers, over any bytes and any table. Order: 1,
+-- with a table of another length, 2, 3; then 16; then the call's own. Assumes nothing.
 use Prim.Native.Nat.{ℕ}
 use mathlib.Core.Path.{_≡_}
 use mathlib.Core.Bool.{true}
@@ -60,12 +59,3 @@ pub data DoesBoth {A : Type 0} (call : Store → Result A) (s : Bytes) (table : 
   -- the call without it is accepted: its answer, its bytes, and the right table of the store in them
   accepts-both : {a : A} {t : Bytes} {u : List ℕ} → Tells s table 0 → Does call s (accepted a) t → RightFor t u →
       DoesBoth call s table (accepted a) t u
-
--- The same call for C: it answers 0 where it is accepted, else the number of refusal; what is told goes to the array f,
--- which a refused call leaves.
-pub data ExportsBoth {A : Type 0} (call : Store → Result A) (told : A → Bytes) (s : Bytes) (table : List ℕ)
-    (f : Bytes) : ℕ → Bytes → List ℕ → Bytes → Type 0 where
-  both-refused : {m : ℕ} {t : Bytes} {u : List ℕ} → DoesBoth call s table (refused m) t u →
-      ExportsBoth call told s table f m t u f
-  both-answered : {a : A} {t : Bytes} {u : List ℕ} → DoesBoth call s table (accepted a) t u →
-      ExportsBoth call told s table f 0 t u (told a)

@@ -1,1 +1,1 @@
-pub mod Looked
+pub mod Searching

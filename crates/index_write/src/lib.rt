@@ -1,7 +1,7 @@
 // Applying a batch and pruning with the table kept right, document 02, request 2026-05: 16 is tested after 3 and before what is the call's own. Refused, neither the
 // store nor the table is written.
-use apply_c::put_answer;
-use apply_publish::Applied;
+use apply_answer::Applied;
+use apply_put::put_answer;
 use apply_sound::apply_sound;
 use fields::put_u32;
 use index_keep::keep_fewer;

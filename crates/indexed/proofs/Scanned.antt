@@ -13,7 +13,7 @@ use Rattle.terms.specs.Bits.{Bytes, Side, Place, longer}
 use Rattle.terms.specs.Records.{Grant, Child, Record, Slot, free, Store}
 use Rattle.meaning.specs.Store.{isNode, isRoot, lowest, rootOf}
 use Rattle.meaning.specs.Sight.{Sight, matches, nothing, spoilt, Looking, rootSight, nodeSight, scan}
-use Rattle.meaning.specs.Reading.{Seen, gap, lost, lostRecord, refusalOf, seenChild, seenAt, seenRoot, seen}
+use Rattle.meaning.specs.Reading.{Seen, gap, stoppedBy, lostRecord, refusalOf, seenChild, seenAt, seenRoot, seen}
 use Rattle.meaning.specs.Sound.{At, Kept, Sound}
 use Rattle.meaning.specs.Calls.{Answer, refused}
 use Rattle.meaning.specs.Counting.{weight, numberAt, atBody, atSight, descend, positionAt}
@@ -107,7 +107,7 @@ descend-alike (suc n) look look′ e p c i =
 -- what is seen below a root depends on how nodes are found alone
 pub seen-at-alike : (n : ℕ) (a b : Looking) → a .node ≡ b .node → (p : Place) (c : Child) → seenAt n a p c ≡ seenAt n b p c
 seen-at-alike zero a b e p c =
-    ap (λ (f : ℕ → Place → Sight). cond (eqb (c .version) 0) gap (seenChild p (f (c .version) p) (λ b d. lost lostRecord))) e
+    ap (λ (f : ℕ → Place → Sight). cond (eqb (c .version) 0) gap (seenChild p (f (c .version) p) (λ b d. stoppedBy lostRecord))) e
 seen-at-alike (suc n) a b e p c =
     ap₂ (λ (f : ℕ → Place → Sight) (kid : Side → Child → Seen). cond (eqb (c .version) 0) gap (seenChild p (f (c .version) p) kid)) e
     (fun-ext (λ s. fun-ext (λ d. seen-at-alike n a b e (longer s p) d)))

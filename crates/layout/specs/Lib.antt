@@ -2,4 +2,3 @@ pub mod Sizes
 pub mod Headers
 pub mod Slots
 pub mod Stores
-pub mod Answer

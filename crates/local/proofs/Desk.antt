@@ -13,7 +13,8 @@ use Rattle.terms.specs.Fields.{allOf}
 use Rattle.meaning.specs.Store.{formatted, marked, onRecord}
 use Rattle.meaning.specs.Local.{endsBefore}
 use Rattle.meaning.specs.Computed.{computed}
-use Rattle.meaning.specs.Desk.{s₁, s₂, s₃, s₄, s₅, s₆, s₇, s₈, s₉, s₁₂, g₅, g₉, g₇, g₁₂, g₁₅, g₁₃}
+use Rattle.meaning.specs.Desk.{s₁, s₂, s₃, s₄, s₅, s₆, s₇, s₈, s₉, s₁₂}
+use Rattle.meaning.specs.DeskGaps.{g₅, g₉, g₇, g₁₂, g₁₅, g₁₃}
 use Rattle.local.specs.Test.{isSame, holders, lifeTest, childTest, names, keptLife, isParent, lifeAbove, apart, rootApart, lifeCovered, whole32Test, childFormTest, formTest, headTest, linkTest, countsTest, recordTest, slotsTest, localTest}
 
 abbrev pub toyLeaf : Bytes → Bytes → Bytes

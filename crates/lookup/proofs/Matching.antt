@@ -3,7 +3,7 @@
 use Prim.Native.Nat.{ℕ, zero, suc, _+_, _<_, _≤_}
 use native.Mathlib.Omega.{arith}
 use mathlib.Core.Path.{_≡_, refl, ap, ap₂, sym, _∙_, subst}
-use mathlib.Core.Bool.{Bool, true, false, cond, true≢false}
+use mathlib.Core.Bool.{Bool, true, false, cond, _&&_, true≢false}
 use mathlib.Core.List.{[], _∷_}
 use lib.ListN.{length, getD, take, drop}
 use lib.Seq.{ext-getD, getD-drop, getD-take}
@@ -57,6 +57,11 @@ limit-small : (b : Body) → placeLimit b ≤ 256
 limit-small (leafBody k x) = omega arith
 limit-small (innerBody l r) = omega arith
 
+-- a place without bits is the root's
+pub no-bits : (p : Place) → length p ≡ 0 → p ≡ []
+no-bits [] e = refl
+no-bits (b ∷ p) e = absurd (omega arith)
+
 -- places with the same count and the same bytes are the same
 pub same-packed : (p q : Place) → length p ≤ 256 → length q ≤ 256 → length p ≡ length q → pack 32 p ≡ pack 32 q → p ≡ q
 same-packed p q a b n e =
@@ -72,6 +77,10 @@ place-is fm x l h r e p short b same =
 bits-at : (x : Bytes) (j : ℕ) → j < 32 → getD (slice 8 32 x) j 0 ≡ getD x (8 + j) 0
 unfolding slice
 bits-at x j h = getD-take 32 (drop 8 x) j 0 h ∙ getD-drop 8 x j 0
+
+pub and-false : (c : Bool) → (c && false) ≡ false
+and-false true = refl
+and-false false = refl
 
 -- a slot is no node (v, p)
 abbrev pub NoNode : Bytes → ℕ → Place → Type 0

@@ -5,13 +5,9 @@ use layout::sizes;
 use layout::slot_size;
 use layout::slot_start;
 use place::Place;
-use slots::is_inner;
-use slots::is_leaf;
-use store::count_at;
-use store::retired_at;
+use slots_form::is_inner;
+use slots_form::is_leaf;
 use store::slot_count;
-use store::slot_of;
-use store::version_at;
 use terms::Form;
 ghost use mathlib.Core.Path.{_≡_};
 ghost use mathlib.Core.Bool.{true};
@@ -19,8 +15,8 @@ ghost use lib.ListN.{length};
 ghost use Rattle.place.specs.Place.{placeOf, Proper};
 ghost use Rattle.layout.specs.Headers.{sizeRight};
 ghost use Rattle.layout.specs.Slots.{slotOf, SlotLong};
-ghost use Rattle.layout.specs.Stores.{storeIn, slotNo, Has};
-ghost use Rattle.lookup.specs.Lookup.{isUsed, covers, rootHere, FoundIn, RootIn};
+ghost use Rattle.layout.specs.Stores.{storeIn};
+ghost use Rattle.lookup.specs.Lookup.{isUsed, FoundIn};
 
 // Whether the bytes of a slot are a record in form.
 pub fn holds_record(s: &[u8]) -> bool
@@ -75,51 +71,4 @@ pub fn find(form: Form, store: &[u8], version: u32, place: Place) -> Found
         }
         i += 1;
     }
-}
-
-// Whether a lifetime from one version, retired since another, covers a version.
-pub fn covers(from: u32, since: u32, version: u32) -> bool
-    ensures { λ r. ⌜ r ≡ covers from since version ⌝ }
-{
-    if version < from {
-        return false;
-    }
-    if since == 0 {
-        return true;
-    }
-    version < since
-}
-
-// Whether slot i holds a root record whose lifetime covers a version: the cheap fields first.
-fn root_here(form: Form, store: &[u8], i: usize, version: u32) -> bool
-    requires { ⌜ Has form (now store) i ⌝ }
-    ensures { λ r. ⌜ r ≡ rootHere version (slotNo form i (now (store .entry))) ⌝ }
-{
-    if count_at(form, store, i) != 0 {
-        return false;
-    }
-    if !covers(
-        version_at(form, store, i),
-        retired_at(form, store, i),
-        version,
-    ) {
-        return false;
-    }
-    holds_record(slot_of(form, store, i))
-}
-
-// The root of a version: the lowest slot with a root record whose lifetime covers it.
-pub fn find_root(form: Form, store: &[u8], version: u32) -> Found
-    requires { ⌜ sizeRight form (length (now store)) ≡ true ⌝ }
-    ensures { λ r. ⌜ RootIn (storeIn form (now (store .entry))) version r ⌝ }
-{
-    let n = slot_count(form, store);
-    let mut j = 0;
-    while j < n {
-        if root_here(form, store, j, version) {
-            return Found::At(j);
-        }
-        j += 1;
-    }
-    Found::Nothing
 }

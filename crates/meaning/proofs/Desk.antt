@@ -6,7 +6,8 @@ use Rattle.meaning.specs.Computed.{computed}
 use Rattle.meaning.specs.Store.{formatted}
 use Rattle.meaning.specs.History.{entry, ledger}
 use Rattle.meaning.specs.Course.{run, history}
-use Rattle.meaning.specs.Desk.{RowHolds, table, gaps, notAbove, gapCalls, gapGranted, g₇}
+use Rattle.meaning.specs.Desk.{table}
+use Rattle.meaning.specs.DeskGaps.{RowHolds, gaps, notAbove, gapCalls, gapGranted, g₇}
 
 pub desk : (leafHash innerHash : Bytes → Bytes → Bytes) → All (RowHolds leafHash innerHash) (table leafHash innerHash)
 unfolding computed

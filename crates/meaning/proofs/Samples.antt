@@ -17,8 +17,44 @@ use Rattle.meaning.specs.Sight.{scan}
 use Rattle.meaning.specs.Counting.{readNumber, readPosition}
 use Rattle.meaning.specs.Proving.{step, presenceOf, absenceOf, proof, proofLength, prove}
 use Rattle.meaning.specs.Checking.{checked}
-use Rattle.meaning.specs.Desk.{keyOf, A, B, C, D, E, F, a, b, c, d, c′, lf, nd, store, hA, hB, hC, hD, hF, h01, h0, root₁, s₁, s₂, s₆, s₉, g₁₅}
+use Rattle.meaning.specs.Desk.{keyOf, lf, nd, store, h01, h0, root₁, s₁, s₂, s₆, s₉}
+use Rattle.meaning.specs.Desk as desk
+use Rattle.meaning.specs.DeskGaps.{g₁₅}
 use Rattle.meaning.specs.Computed.{computed}
+
+-- the desk's keys and values
+abbrev A : Bytes
+A = desk.A .key
+
+abbrev B : Bytes
+B = desk.B .key
+
+abbrev C : Bytes
+C = desk.C .key
+
+abbrev D : Bytes
+D = desk.D .key
+
+abbrev E : Bytes
+E = desk.E .key
+
+abbrev F : Bytes
+F = desk.F .key
+
+abbrev a : Bytes
+a = desk.A .value
+
+abbrev b : Bytes
+b = desk.B .value
+
+abbrev c : Bytes
+c = desk.C .value
+
+abbrev d : Bytes
+d = desk.D .value
+
+abbrev c′ : Bytes
+c′ = desk.C′ .value
 
 -- a key between B and C, and one right of all
 abbrev G : Bytes
@@ -39,13 +75,13 @@ module _ (leafHash innerHash : Bytes → Bytes → Bytes) where
 
   -- the paths of M1
   abbrev toA : Presence
-  toA = presenceOf A a (step left (h01 leafHash innerHash) ∷ step left (hD leafHash innerHash) ∷ [])
+  toA = presenceOf A a (step left (h01 leafHash innerHash) ∷ step left (desk.h leafHash innerHash desk.D) ∷ [])
 
   abbrev toB : Presence
-  toB = presenceOf B b (step left (hC leafHash innerHash) ∷ step right (hA leafHash innerHash) ∷ step left (hD leafHash innerHash) ∷ [])
+  toB = presenceOf B b (step left (desk.h leafHash innerHash desk.C) ∷ step right (desk.h leafHash innerHash desk.A) ∷ step left (desk.h leafHash innerHash desk.D) ∷ [])
 
   abbrev toC : Presence
-  toC = presenceOf C c (step right (hB leafHash innerHash) ∷ step right (hA leafHash innerHash) ∷ step left (hD leafHash innerHash) ∷ [])
+  toC = presenceOf C c (step right (desk.h leafHash innerHash desk.B) ∷ step right (desk.h leafHash innerHash desk.A) ∷ step left (desk.h leafHash innerHash desk.D) ∷ [])
 
   abbrev toD : Presence
   toD = presenceOf D d (step right (h0 leafHash innerHash) ∷ [])
@@ -63,9 +99,9 @@ module _ (leafHash innerHash : Bytes → Bytes → Bytes) where
   -- lone inner children have zero siblings: A is present, and B has A and F on its left, where the walk wanted to go right
   pub proofs-of-M9 : map (proof nine 1) (A ∷ B ∷ [])
       ≡ accepted (presence (presenceOf A a
-      (step left (hF leafHash innerHash) ∷ step left zeros ∷ step left zeros ∷ step left zeros ∷ [])))
+      (step left (desk.h leafHash innerHash desk.F) ∷ step left zeros ∷ step left zeros ∷ step left zeros ∷ [])))
       ∷ accepted (absenceOf B (some (presenceOf F b
-      (step right (hA leafHash innerHash) ∷ step left zeros ∷ step left zeros ∷ step left zeros ∷ []))) none)
+      (step right (desk.h leafHash innerHash desk.A) ∷ step left zeros ∷ step left zeros ∷ step left zeros ∷ []))) none)
       ∷ []
   unfolding computed
   proofs-of-M9 = refl
@@ -77,8 +113,8 @@ module _ (leafHash innerHash : Bytes → Bytes → Bytes) where
       ∷ accepted (absenceOf D (some (presenceOf C c′ [])) none)
       ∷ accepted (absenceOf A none (some (presenceOf C c′ [])))
       ∷ accepted (presence (presenceOf D d (step right (leafHash C c′) ∷ [])))
-      ∷ accepted (absenceOf B (some (presenceOf A a (step left (leafHash C c′) ∷ step left (hD leafHash innerHash) ∷ [])))
-      (some (presenceOf C c′ (step right (hA leafHash innerHash) ∷ step left (hD leafHash innerHash) ∷ []))))
+      ∷ accepted (absenceOf B (some (presenceOf A a (step left (leafHash C c′) ∷ step left (desk.h leafHash innerHash desk.D) ∷ [])))
+      (some (presenceOf C c′ (step right (desk.h leafHash innerHash desk.A) ∷ step left (desk.h leafHash innerHash desk.D) ∷ []))))
       ∷ []
   unfolding computed
   flags-of-M6 = refl
@@ -144,7 +180,7 @@ module _ (leafHash innerHash : Bytes → Bytes → Bytes) where
   unfolding computed
   proofs-of-spoilt = refl
 
-  pub in-form-wins : readKey (hidden (lf (false ∷ true ∷ false ∷ []) 1 0 B b ∷ [])) 1 B ≡ accepted (present b)
+  pub in-form-wins : readKey (hidden (lf (false ∷ true ∷ false ∷ []) 1 (grant B b) 0 ∷ [])) 1 B ≡ accepted (present b)
   unfolding computed
   in-form-wins = refl
 
@@ -154,7 +190,7 @@ module _ (leafHash innerHash : Bytes → Bytes → Bytes) where
 
   -- the first met: D's walk ends at the missing child 10, its left neighbour is the leaf 0, and its right one stands below 11
   abbrev gap : Slot → Slot → Store
-  gap x y = store 0 1 (x ∷ y ∷ nd (true ∷ []) 1 0 0 zeros 1 (hC leafHash innerHash) 0 1 ∷ nd [] 1 0 1 (hA leafHash innerHash) 1 (hB leafHash innerHash) 1 1 ∷ [])
+  gap x y = store 0 1 (x ∷ y ∷ nd (true ∷ []) 1 0 zeros 1 (desk.h leafHash innerHash desk.C) 0 1 0 ∷ nd [] 1 1 (desk.h leafHash innerHash desk.A) 1 (desk.h leafHash innerHash desk.B) 1 1 0 ∷ [])
 
   abbrev spoilt₀ : Slot
   spoilt₀ = head (false ∷ []) 1 0
@@ -162,7 +198,7 @@ module _ (leafHash innerHash : Bytes → Bytes → Bytes) where
   abbrev spoilt₁₁ : Slot
   spoilt₁₁ = head (true ∷ true ∷ []) 1 0
 
-  pub left-before-right : proof (gap spoilt₀ free) 1 D ∷ proof (gap free spoilt₁₁) 1 D ∷ proof (gap (lf (false ∷ []) 1 0 A a) spoilt₁₁) 1 D ∷ []
+  pub left-before-right : proof (gap spoilt₀ free) 1 D ∷ proof (gap free spoilt₁₁) 1 D ∷ proof (gap (lf (false ∷ []) 1 (grant A a) 0) spoilt₁₁) 1 D ∷ []
       ≡ refused (beside 3 0) ∷ refused 17 ∷ refused (beside 3 1) ∷ []
   unfolding computed
   left-before-right = refl
@@ -182,7 +218,7 @@ module _ (leafHash innerHash : Bytes → Bytes → Bytes) where
 
   -- a leaf whose key doesn't begin with its place gives 3 to the walk and to the descent
   abbrev misplaced : Store
-  misplaced = store 0 1 (lf (false ∷ []) 1 0 D d ∷ lf (true ∷ []) 1 0 E c ∷ nd [] 1 0 1 (hD leafHash innerHash) 1 (leafHash E c) 1 1 ∷ [])
+  misplaced = store 0 1 (lf (false ∷ []) 1 (grant D d) 0 ∷ lf (true ∷ []) 1 (grant E c) 0 ∷ nd [] 1 1 (desk.h leafHash innerHash desk.D) 1 (leafHash E c) 1 1 0 ∷ [])
 
   pub reads-of-misplaced : map (readKey misplaced 1) (A ∷ E ∷ D ∷ []) ≡ refused 3 ∷ accepted (present c) ∷ accepted absent ∷ []
   unfolding computed
@@ -207,10 +243,10 @@ module _ (leafHash innerHash : Bytes → Bytes → Bytes) where
   -- leaf 17, a misplaced one 3; no other leaf is looked at
   abbrev miscounted : ℕ → ℕ → Slot → Store
   miscounted l r x = store 0 1
-      (lf (false ∷ []) 1 0 A a ∷ x ∷ nd (true ∷ []) 1 0 0 zeros 1 (hD leafHash innerHash) l 1 ∷ nd [] 1 0 1 (hA leafHash innerHash) 1 (hD leafHash innerHash) 1 r ∷ [])
+      (lf (false ∷ []) 1 (grant A a) 0 ∷ x ∷ nd (true ∷ []) 1 0 zeros 1 (desk.h leafHash innerHash desk.D) l 1 0 ∷ nd [] 1 1 (desk.h leafHash innerHash desk.A) 1 (desk.h leafHash innerHash desk.D) 1 r 0 ∷ [])
 
   abbrev leafD : Slot
-  leafD = lf (true ∷ true ∷ []) 1 0 H d
+  leafD = lf (true ∷ true ∷ []) 1 (grant H d) 0
 
   pub positions-of-miscounted :
       readNumber (miscounted 0 4294967295 leafD) 1
@@ -224,7 +260,7 @@ module _ (leafHash innerHash : Bytes → Bytes → Bytes) where
       map (readPosition (miscounted 0 2 leafD) 1) (0 ∷ 1 ∷ 2 ∷ 3 ∷ [])
       ++ readPosition (miscounted 1 2 leafD) 1 1
       ∷ readPosition (miscounted 0 2 free) 1 1
-      ∷ readPosition (miscounted 0 2 (lf (true ∷ true ∷ []) 1 0 D d)) 1 1
+      ∷ readPosition (miscounted 0 2 (lf (true ∷ true ∷ []) 1 (grant D d) 0)) 1 1
       ∷ readPosition (miscounted 0 2 free) 1 0
       ∷ readPosition (miscounted 0 2 (head (true ∷ true ∷ []) 1 0)) 1 1
       ∷ []
@@ -313,7 +349,7 @@ pD = toD toyLeaf toyInner
 -- presence: another key, another value, another root, a step left out, a side turned
 pub presence-refused : check A (presence pA) ∷ check F (presence pA) ∷ check A (presence (presenceOf A b (pA .steps)))
     ∷ checked toyLeaf toyInner zeros A (presence pA) ∷ check A (presence (presenceOf A a (drop 1 (pA .steps))))
-    ∷ check A (presence (presenceOf A a (step right (h01 toyLeaf toyInner) ∷ step left (hD toyLeaf toyInner) ∷ []))) ∷ []
+    ∷ check A (presence (presenceOf A a (step right (h01 toyLeaf toyInner) ∷ step left (desk.h toyLeaf toyInner desk.D) ∷ []))) ∷ []
     ≡ accepted (present a) ∷ refused 11 ∷ refused 11 ∷ refused 11 ∷ refused 11 ∷ refused 11 ∷ []
 unfolding computed
 presence-refused = refl
@@ -337,8 +373,8 @@ equal-keys-refused = refl
 -- steps that agree in their side and not in their sibling are not equal: B's path with another last byte of D's hash leads to the root, too
 abbrev pB′ : Presence
 pB′ =
-    presenceOf B b (step left (hC toyLeaf toyInner) ∷ step right (hA toyLeaf toyInner) ∷ step left
-    (take 31 (hD toyLeaf toyInner) ++ (7 ∷ [])) ∷ [])
+    presenceOf B b (step left (desk.h toyLeaf toyInner desk.C) ∷ step right (desk.h toyLeaf toyInner desk.A) ∷ step left
+    (take 31 (desk.h toyLeaf toyInner desk.D) ++ (7 ∷ [])) ∷ [])
 
 pub unequal-steps-refused : check B (presence pB′) ∷ check F (absenceOf F (some pA) (some pB′)) ∷ []
     ≡ accepted (present b) ∷ refused 11 ∷ []

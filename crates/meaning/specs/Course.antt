@@ -1,6 +1,6 @@
 -- The course of a store under a list of calls, told from the store. No public promise reaches this file. Assumes
 -- nothing.
-use Prim.Native.Nat.{ℕ, zero, suc, _+_, _-_, _≤_}
+use Prim.Native.Nat.{_≤_}
 use mathlib.Core.Bool.{Bool, true, false}
 use mathlib.Core.List.{List, [], _∷_}
 use mathlib.Core.Option.{none, some}
@@ -8,10 +8,9 @@ use lib.ListN.{length}
 use Rattle.terms.specs.Bits.{Bytes, All}
 use Rattle.terms.specs.Records.{Store}
 use Rattle.terms.specs.Form.{AskForm, top32}
-use Rattle.meaning.specs.Tree.{grantsIn}
-use Rattle.meaning.specs.Store.{formatted, treeAtVersion}
+use Rattle.meaning.specs.Store.{formatted}
 use Rattle.meaning.specs.Calls.{Answer, refused, accepted, apply, prune}
-use Rattle.meaning.specs.History.{Entry, entry, Call, formatting, applying, pruning, taking, looking}
+use Rattle.meaning.specs.History.{Call, formatting, applying, pruning, taking, looking}
 
 -- The asks of a batch are in form, as those decoded from bytes are, and its number has four bytes.
 abbrev pub CallForm : Call → Type 0
@@ -53,12 +52,3 @@ module _ (leafHash innerHash : Bytes → Bytes → Bytes) where
   abbrev pub history : List Call → Store → List (Call × Bool)
   history [] st = []
   history (c ∷ calls) st = (c, took c st) ∷ history calls (after c st)
-
--- What a store holds by itself: the grants of its kept versions, the newest first, here of the versions o + n down to
--- o. A history that starts at a sound store starts with this.
-abbrev pub heldFrom : Store → ℕ → ℕ → List Entry
-heldFrom st o zero = entry o (grantsIn (treeAtVersion st o)) ∷ []
-heldFrom st o (suc n) = entry (o + suc n) (grantsIn (treeAtVersion st (o + suc n))) ∷ heldFrom st o n
-
-unfoldable pub held : Store → List Entry
-held st = heldFrom st (st .oldest) (st .latest - st .oldest)

@@ -1,5 +1,4 @@
--- Demand 3: histories. The calls on a store, and the grants that a history gives to each version, told from the calls
--- and from which of them were accepted. Assumes nothing.
+-- Demand 3: the grants that a history of calls, each accepted or not, gives to each version. Assumes nothing.
 use Prim.Native.Nat.{ℕ, zero, suc, _+_, _-_}
 use mathlib.Core.Path.{_≡_}
 use mathlib.Core.Bool.{Bool, cond}
@@ -8,7 +7,7 @@ use mathlib.Core.Option.{Option, none, some}
 use lib.Dec.{eqb, leb}
 use Rattle.terms.specs.Bits.{Bytes, filter}
 use Rattle.terms.specs.Records.{Grant, Ask, Store}
-use Rattle.meaning.specs.Tree.{withBatch, treeOf, unversioned, grantsIn}
+use Rattle.meaning.specs.Tree.{VTree, withBatch, treeOf, unversioned, grantsIn}
 use Rattle.meaning.specs.Store.{treeAtVersion}
 use Rattle.meaning.specs.Sound.{Sound, Kept}
 
@@ -61,6 +60,15 @@ ledger (c ∷ calls) es = ledger calls (cond (c .1) (noted (c .0) es) es)
 abbrev pub grantsOf : ℕ → List Entry → Option (List Grant)
 grantsOf v [] = none
 grantsOf v (e ∷ es) = cond (eqb (e .version) v) (some (e .grants)) (grantsOf v es)
+
+-- The grants of the versions o + n down to o, by their trees.
+abbrev pub entriesFrom : (ℕ → VTree) → ℕ → ℕ → List Entry
+entriesFrom trees o zero = entry o (grantsIn (trees o)) ∷ []
+entriesFrom trees o (suc n) = entry (o + suc n) (grantsIn (trees (o + suc n))) ∷ entriesFrom trees o n
+
+-- What a store holds by itself, in its kept versions. A history that starts at a sound store starts with this.
+unfoldable pub held : Store → List Entry
+held st = entriesFrom (treeAtVersion st) (st .oldest) (st .latest - st .oldest)
 
 -- A store holds what a ledger says: it is sound, each kept version's tree is the tree of its grants, and no other
 -- version has any.

@@ -12,6 +12,7 @@ pub mod History
 pub mod Course
 pub mod Local
 pub mod Desk
+pub mod DeskGaps
 pub mod Computed
 pub mod Answers
 pub mod Sized

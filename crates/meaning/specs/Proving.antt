@@ -18,14 +18,14 @@ use Rattle.meaning.specs.Reading.{
   lostRecord,
   refusalOf,
   Seen,
-  lost,
+  stoppedBy,
   gap,
   leafSeen,
   fork,
   seen,
   Pass,
   End,
-  broken,
+  walkStopped,
   atLeaf,
   atGap,
   walk,
@@ -45,7 +45,7 @@ abbrev pub stepUp : Pass → Step
 stepUp p = step (p .turn) (p .hashes (not (p .turn)))
 
 abbrev pub isGap : Seen → Bool
-isGap (lost t) = false
+isGap (stoppedBy t) = false
 isGap gap = true
 isGap (leafSeen k x) = false
 isGap (fork hashes kids) = false
@@ -56,24 +56,24 @@ raised steps p = presenceOf (p .key) (p .value) (p .steps ++ steps)
 
 -- A search that may meet trouble, find nobody, or find a neighbour's presence proof.
 pub data Sought : Type 0 where
-  lostWay : Trouble → Sought
+  searchStopped : Trouble → Sought
   nobody : Sought
   somebody : Presence → Sought
 
 -- A descent meets trouble, or comes to a leaf.
 pub data Descended : Type 0 where
-  stuck : Trouble → Descended
+  descentStopped : Trouble → Descended
   reached : Presence → Descended
 
 abbrev pub raisedBy : List Step → Descended → Descended
-raisedBy steps (stuck t) = stuck t
+raisedBy steps (descentStopped t) = descentStopped t
 raisedBy steps (reached p) = reached (raised steps p)
 
 -- The descent into a child: to side b where there is a child on side b, else to the other. An inner record in form has
 -- a child, so no descent from a present child ends at a missing one.
 abbrev pub descend : Side → Seen → Descended
-descend b (lost t) = stuck t
-descend b gap = stuck lostRecord
+descend b (stoppedBy t) = descentStopped t
+descend b gap = descentStopped lostRecord
 descend b (leafSeen k x) = reached (presenceOf k x [])
 descend b (fork hashes kids) =
     cond (isGap (kids b))
@@ -81,7 +81,7 @@ descend b (fork hashes kids) =
     (raisedBy (step b (hashes (not b)) ∷ []) (descend b (kids b)))
 
 abbrev pub sought : Descended → Sought
-sought (stuck t) = lostWay t
+sought (descentStopped t) = searchStopped t
 sought (reached p) = somebody p
 
 -- The walk turned away from side b at this node (or wanted to), and a child is present there.
@@ -103,7 +103,7 @@ beyond true l k = before k l
 
 -- The neighbour of a key on side b: the leaf at the end, if its key is on that side; else from the trail.
 abbrev pub neighbour : Side → Bytes → End → Sought
-neighbour b k (broken t) = lostWay t
+neighbour b k (walkStopped t) = searchStopped t
 neighbour b k (atLeaf l x trail) =
     cond (beyond b l k) (somebody (presenceOf l x (map stepUp trail))) (fromTrail b trail)
 neighbour b k (atGap trail) = fromTrail b trail
@@ -111,11 +111,11 @@ neighbour b k (atGap trail) = fromTrail b trail
 -- The proof of absence from what the two searches found; at least one neighbour is needed. The left one's trouble is
 -- met first.
 abbrev pub absenceFrom : Bytes → Sought → Sought → Answer Proof
-absenceFrom k (lostWay t) r = refused (refusalOf t)
-absenceFrom k nobody (lostWay t) = refused (refusalOf t)
+absenceFrom k (searchStopped t) r = refused (refusalOf t)
+absenceFrom k nobody (searchStopped t) = refused (refusalOf t)
 absenceFrom k nobody nobody = refused 14
 absenceFrom k nobody (somebody q) = accepted (absenceOf k none (some q))
-absenceFrom k (somebody p) (lostWay t) = refused (refusalOf t)
+absenceFrom k (somebody p) (searchStopped t) = refused (refusalOf t)
 absenceFrom k (somebody p) nobody = accepted (absenceOf k (some p) none)
 absenceFrom k (somebody p) (somebody q) = accepted (absenceOf k (some p) (some q))
 
@@ -124,7 +124,7 @@ absenceAt k e = absenceFrom k (neighbour left k e) (neighbour right k e)
 
 -- A presence proof if the walk ends at a leaf with the key, else an absence proof.
 abbrev pub proveEnd : Bytes → End → Answer Proof
-proveEnd k (broken t) = refused (refusalOf t)
+proveEnd k (walkStopped t) = refused (refusalOf t)
 proveEnd k (atLeaf l x trail) =
     cond (sameBytes k l) (accepted (presence (presenceOf l x (map stepUp trail)))) (absenceAt k (atLeaf l x trail))
 proveEnd k (atGap trail) = absenceAt k (atGap trail)

@@ -29,24 +29,25 @@ refusalOf strayLeaf = 3
 -- What a read sees at a place: trouble; no child; a leaf; or an inner node, with its children's hashes as stored and
 -- what is seen there, by the side.
 pub data Seen : Type 0 where
-  lost : Trouble → Seen
+  stoppedBy : Trouble → Seen
   gap : Seen
   leafSeen : Bytes → Bytes → Seen
   fork : (Side → Bytes) → (Side → Seen) → Seen
 
 abbrev pub seenBody : Place → Body → (Side → Child → Seen) → Seen
-seenBody p (leafBody k x) kid = cond (begins p k) (leafSeen k x) (lost strayLeaf)
+seenBody p (leafBody k x) kid = cond (begins p k) (leafSeen k x) (stoppedBy strayLeaf)
 seenBody p (innerBody l r) kid = fork (λ b. childOn b l r .hash) (λ b. kid b (childOn b l r))
 
 abbrev pub seenChild : Place → Sight → (Side → Child → Seen) → Seen
 seenChild p (matches r) kid = seenBody p (r .body) kid
-seenChild p nothing kid = lost lostRecord
-seenChild p (spoilt i) kid = lost (spoiltRecord i)
+seenChild p nothing kid = stoppedBy lostRecord
+seenChild p (spoilt i) kid = stoppedBy (spoiltRecord i)
 
 -- At a child, at a place which is n bits short of a key. Below the place of a whole key, which no inner record in form
 -- has, all is lost.
 abbrev pub seenAt : ℕ → Looking → Place → Child → Seen
-seenAt zero look p c = cond (eqb (c .version) 0) gap (seenChild p (look .node (c .version) p) (λ b d. lost lostRecord))
+seenAt zero look p c =
+    cond (eqb (c .version) 0) gap (seenChild p (look .node (c .version) p) (λ b d. stoppedBy lostRecord))
 seenAt (suc n) look p c =
     cond (eqb (c .version) 0) gap (seenChild p (look .node (c .version) p) (λ b d. seenAt n look (longer b p) d))
 
@@ -54,7 +55,7 @@ seenAt (suc n) look p c =
 abbrev pub seenRoot : Sight → (Side → Child → Seen) → Seen
 seenRoot (matches r) kid = seenBody [] (r .body) kid
 seenRoot nothing kid = gap
-seenRoot (spoilt i) kid = lost (spoiltRecord i)
+seenRoot (spoilt i) kid = stoppedBy (spoiltRecord i)
 
 unfoldable pub seen : Looking → ℕ → Seen
 seen look v = seenRoot (look .root v) (λ b d. seenAt 255 look (b ∷ []) d)
@@ -67,13 +68,13 @@ pub record Pass : Type 0 where
 
 -- Where a walk ends: refused, at a leaf, or at a missing child; with the nodes passed, the deepest first.
 pub data End : Type 0 where
-  broken : Trouble → End
+  walkStopped : Trouble → End
   atLeaf : Bytes → Bytes → List Pass → End
   atGap : List Pass → End
 
 -- The walk follows the key's bits, from bit i.
 abbrev pub walk : Bytes → ℕ → List Pass → Seen → End
-walk k i trail (lost t) = broken t
+walk k i trail (stoppedBy t) = walkStopped t
 walk k i trail gap = atGap trail
 walk k i trail (leafSeen l x) = atLeaf l x trail
 walk k i trail (fork hashes kids) =
@@ -85,7 +86,7 @@ pub data Verdict : Type 0 where
   absent : Verdict
 
 abbrev pub readEnd : Bytes → End → Answer Verdict
-readEnd k (broken t) = refused (refusalOf t)
+readEnd k (walkStopped t) = refused (refusalOf t)
 readEnd k (atLeaf l x trail) = accepted (cond (sameBytes k l) (present x) absent)
 readEnd k (atGap trail) = accepted absent
 

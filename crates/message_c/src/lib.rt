@@ -1,5 +1,6 @@
 // The two calls of messages for a caller in another language, document 02, request 2026-02: a number, and what they give in the caller's arrays.
-ghost use Rattle.message_rules.specs.Contracts.{lentOf, WritesMessage, ReadsMessage};
+ghost use mathlib.Core.List.{[], _∷_};
+ghost use Rattle.message_rules.specs.Contracts.{WritesMessage, ReadsMessage};
 use fields::put_u32;
 use message_read::grants_ics23_read;
 use message_write::Wrote;
@@ -17,7 +18,7 @@ pub fn grants_ics23_write(
     room: &mut [u8],
     length: &mut [u8; 4],
 ) -> u32
-    ensures { λ r. ⌜ WritesMessage (now (proof .entry)) (lentOf (now (asked .entry)) (now (key1 .entry)) (now (value1 .entry)) (now (key2 .entry)) (now (value2 .entry))) (now (room .entry)) (now (length .entry)) r (now (room .exit)) (now (length .exit)) ⌝ }
+    ensures { λ r. ⌜ WritesMessage (now (proof .entry)) (now (asked .entry)) (now (key1 .entry) ∷ now (value1 .entry) ∷ now (key2 .entry) ∷ now (value2 .entry) ∷ []) (now (room .entry)) (now (length .entry)) r (now (room .exit)) (now (length .exit)) ⌝ }
 {
     let wrote = write(proof, asked, key1, value1, key2, value2, room);
     match wrote {
@@ -40,7 +41,7 @@ pub fn written_out(
     room: &mut [u8],
     length: &mut [u8; 4],
 ) -> u32
-    ensures { λ r. ⌜ WritesMessage (now (proof .entry)) (lentOf (now (asked .entry)) (now (key1 .entry)) (now (value1 .entry)) (now (key2 .entry)) (now (value2 .entry))) (now (room .entry)) (now (length .entry)) r (now (room .exit)) (now (length .exit)) ⌝ }
+    ensures { λ r. ⌜ WritesMessage (now (proof .entry)) (now (asked .entry)) (now (key1 .entry) ∷ now (value1 .entry) ∷ now (key2 .entry) ∷ now (value2 .entry) ∷ []) (now (room .entry)) (now (length .entry)) r (now (room .exit)) (now (length .exit)) ⌝ }
 {
     grants_ics23_write(proof, asked, key1, value1, key2, value2, room, length)
 }

@@ -13,7 +13,8 @@ use Rattle.terms.specs.Fields.{slice}
 use Rattle.terms.specs.Records.{Presence}
 use Rattle.terms.proofs.Lists.{all-take, all-drop, drop-take}
 use Rattle.messages.specs.Wire.{messageField}
-use Rattle.messages.specs.Message.{existence, RawPresence}
+use Rattle.messages.specs.Message.{existence}
+use Rattle.messages.specs.Raws.{RawPresence}
 use Rattle.messages.specs.Reading.{onward, existenceIn, neighbourFrom, fieldFrom}
 use Rattle.messages.specs.Spots.{fieldHead}
 use Rattle.messages.proofs.Wires.{Near}

@@ -11,7 +11,8 @@ use Rattle.terms.specs.Bits.{Bytes}
 use Rattle.terms.specs.Fields.{allOf}
 use Rattle.terms.specs.Records.{Presence, Absence, Proof, presence, absence}
 use Rattle.messages.specs.Wire.{messageField}
-use Rattle.messages.specs.Message.{existence, nonexistence, RawPresence}
+use Rattle.messages.specs.Message.{existence, nonexistence}
+use Rattle.messages.specs.Raws.{RawPresence}
 use Rattle.messages.specs.Reading.{
   Front,
   onward,

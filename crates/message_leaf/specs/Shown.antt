@@ -9,7 +9,7 @@ use lib.ListN.{length, drop}
 use Rattle.terms.specs.Bits.{Bytes}
 use Rattle.terms.specs.Fields.{slice, allOf}
 use Rattle.terms.specs.Records.{Step, Presence}
-use Rattle.messages.specs.Message.{mostKey, mostValue, leafOp}
+use Rattle.messages.specs.Raws.{leafOp, mostKey, mostValue}
 use Rattle.messages.specs.Reading.{onward, onlyIf, stepIn, pathIn, lengthRight, existenceIn}
 use Rattle.messages.specs.Spots.{keySpot, valueSpot}
 use Rattle.message_leaf.specs.declared.Walked.{Walked}

@@ -17,7 +17,8 @@ use Rattle.sha256.specs.Sha256.{sha256}
 use Rattle.proofrecords.specs.ProofBytes.{StepForm, presenceTests, isPresence, presenceIn, stepCount, stepsIn}
 use Rattle.proofrecords.proofs.Lying.{first-at, fromStep, next-step, one-less, none-left}
 use Rattle.messages.specs.Wire.{varintIn, varint, numberTag, bytesTag, messageField, bytesField, numberField}
-use Rattle.messages.specs.Message.{leafOp, innerOp, path, existence}
+use Rattle.messages.specs.Message.{existence}
+use Rattle.messages.specs.Raws.{leafOp, innerOp, path}
 use Rattle.messages.specs.Reading.{lengthRight}
 use Rattle.messages.specs.Lending.{Leaf, hashesTo, leafFits, unlent}
 use Rattle.messages.proofs.Wires.{field-is}

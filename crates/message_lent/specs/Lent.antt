@@ -11,7 +11,7 @@ use Rattle.terms.specs.Records.{Presence}
 use Rattle.sha256.specs.Sha256.{sha256}
 use Rattle.proofrecords.specs.ProofBytes.{isPresence, presenceIn}
 use Rattle.messages.specs.Wire.{varint}
-use Rattle.messages.specs.Message.{path}
+use Rattle.messages.specs.Raws.{path}
 use Rattle.messages.specs.Lending.{Leaf, leafFits}
 
 abbrev pub leaf : Bytes → Bytes → Leaf

@@ -8,7 +8,7 @@ ghost use lib.Dec.{eqb};
 ghost use Rattle.terms.specs.Fields.{slice};
 ghost use Rattle.sha256.specs.Sha256.{sha256};
 ghost use Rattle.proofrecords.specs.ProofBytes.{isPresence, presenceIn};
-ghost use Rattle.messages.specs.Message.{path};
+ghost use Rattle.messages.specs.Raws.{path};
 ghost use Rattle.messages.specs.Lending.{hashesTo, leafFits, unlent};
 ghost use Rattle.message_lent.specs.Lent.{leaf, recordIn, InForm, neighbourFits, fieldLength, existenceLength, neighbourLength};
 use digest::digest;

@@ -16,9 +16,11 @@ use Rattle.terms.proofs.Fields.{length-slice, slice-slice, part-slice}
 use Rattle.proofrecords.specs.ProofBytes.{isPresence, presenceIn, stepCount, stepsIn}
 use Rattle.proofrecords.proofs.Lying.{first-at, fromStep, next-step, one-less, none-left}
 use Rattle.messages.specs.Wire.{varintIn, varint, numberTag, bytesTag, messageField, bytesField, numberField}
-use Rattle.messages.specs.Message.{leafOp, innerOp, path, existence, neighbourField}
+use Rattle.messages.specs.Message.{existence, neighbourField, leafBytes, existenceBytes}
+use Rattle.messages.specs.Raws.{leafOp, innerOp, path}
 use Rattle.messages.specs.Lending.{rawPresence, rawNeighbour}
 use Rattle.messages.proofs.Wires.{field-is, bytes-field-is}
+use Rattle.messages.proofs.Back.{path-is}
 use Rattle.message_rules.specs.Puts.{Puts, RoomFor}
 use Rattle.message_rules.proofs.Writing.{puts-none, puts-then, puts-length, puts-part}
 use Rattle.proofrecords.proofs.Forms.{presence-whole}
@@ -66,7 +68,7 @@ inner-parts y h = go (eqb (getD y 0 0) 1)
 
 -- our leaf op's field
 pub leaf-field : messageField 3 leafOp ≡ 26 ∷ 9 ∷ 8 ∷ 1 ∷ 16 ∷ 1 ∷ 24 ∷ 1 ∷ 42 ∷ 1 ∷ 1 ∷ []
-unfolding leafOp varintIn varint numberTag bytesTag messageField bytesField numberField
+unfolding leafBytes varintIn varint numberTag bytesTag messageField bytesField numberField
 leaf-field = refl
 
 -- step i where it lies
@@ -140,8 +142,8 @@ pathing-done {n} {p} {at} {s} {t} {i} {next} w h e =
 -- An existence proof, part after part.
 pub existence-parts : (k x : Bytes) (q : Presence) → Lendable k x →
     existence (rawPresence (leaf k x) q) ≡ messageField 1 k ++ (messageField 2 x ++ (messageField 3 leafOp ++ path (q .steps)))
-unfolding existence
-existence-parts k x q h = rw (bytes-field-is 1 k (h .key-some), bytes-field-is 2 x (h .value-some), append-nil (path (q .steps)))
+unfolding existenceBytes
+existence-parts k x q h = rw (bytes-field-is 1 k (h .key-some), bytes-field-is 2 x (h .value-some), path-is (q .steps))
 
 pub length-of-field : (n : ℕ) (x : Bytes) → n ≤ 15 → length (messageField n x) ≡ fieldLength (length x)
 unfolding fieldLength

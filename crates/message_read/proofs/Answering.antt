@@ -10,16 +10,20 @@ use borrow.Author.Tests.{lt-ltb, le-ltb}
 use Rattle.terms.specs.Bits.{Bytes, Byte, All}
 use Rattle.terms.specs.Fields.{le}
 use Rattle.terms.specs.Records.{Proof, presence, absence}
-use Rattle.meaning.specs.Calls.{refused, accepted}
+use Rattle.meaning.specs.Calls.{Answer, refused, accepted}
+use Rattle.meaning.specs.Answers.{numberOf, toldOf, roomAfter}
 use Rattle.fields.specs.Written.{written}
 use Rattle.sha256.specs.Sha256.{sha256}
-use Rattle.messages.specs.Message.{messageBytes, mostBytes, RawProof}
+use Rattle.messages.specs.Message.{messageBytes, mostBytes}
+use Rattle.messages.specs.Raws.{RawProof}
 use Rattle.messages.specs.Reading.{messageIn}
 use Rattle.messages.specs.Lending.{fitted, recordOf, readFrom}
 use Rattle.messages.specs.Spots.{spotsIn}
 use Rattle.messages.proofs.Back.{message-at-most, message-exactly, message-said}
-use Rattle.message_rules.specs.Contracts.{Encodes, Said, spotsBytes, ReadsMessage}
+use Rattle.message_rules.specs.Contracts.{Encodes, Which, read, answerBytes, ReadsMessage}
+use Rattle.message_rules.specs.Answers.{spotsBytes, readInto, answerBytes as answerOfSpots}
 use Rattle.message_rules.proofs.Writing.{written-front}
+use Rattle.message_rules.proofs.Ties.{encodes-raw, raw-encodes, read-as, told-as}
 use Rattle.message_form.specs.declared.Said.{Said as SaidCode}
 use Rattle.message_form.specs.Said.{proofAt, Placed, Says}
 use Rattle.message_read.specs.Reads.{ReadsAs}
@@ -42,18 +46,28 @@ most-bytes (presence p) = omega arith
 most-bytes (absence a) = omega arith
 
 -- what a message says is what it encodes
-pub encodes : {m : Bytes} {q : Proof} → All Byte m → messageIn m ≡ some q → Encodes m q
-encodes {m} {q} b e = let s = message-said m q b e in record { raw = s .0; is = s .1 }
+pub encodes : {m : Bytes} {q : Proof} → All Byte m → messageIn m ≡ some q → Encodes (recordOf sha256 q) m q
+encodes {m} {q} b e = let s = message-said m q b e in raw-encodes (s .0) (s .1)
 
-pub short : {m : Bytes} {q : Proof} → Encodes m q → length m ≤ 29999
-short {m} {q} e = omega (arith, message-at-most q (e .raw), most-bytes q, ap length (e .is))
+pub short : {m : Bytes} {q : Proof} → Encodes (recordOf sha256 q) m q → length m ≤ 29999
+short {m} {q} e = omega (arith, message-at-most q (encodes-raw e), most-bytes q, ap length (e .is))
 
-pub says-none : {m : Bytes} → All Byte m → messageIn m ≡ none → Said m none
-says-none {m} b e q k = Option·none-ne-some q (sym e ∙ message-exactly m q b .1 (k .raw, k .is))
+says-none : {m : Bytes} → All Byte m → messageIn m ≡ none → Which (λ q. Encodes (recordOf sha256 q) m q) none
+says-none {m} b e q k = Option·none-ne-some q (sym e ∙ message-exactly m q b .1 (encodes-raw k, k .is))
 
 pub reads-nothing : {m room f : Bytes} → All Byte m → messageIn m ≡ none → ReadsMessage m room f 10 room f
-unfolding readFrom
 reads-nothing b e = record { said = none; exactly = says-none b e; answer = refl; record-is = refl; told = refl }
 
-pub reads-as : {m room f t g : Bytes} {q : Proof} {r : ℕ} → Encodes m q → ReadsAs q room f r t g → ReadsMessage m room f r t g
-reads-as {m} {room} {f} {t} {g} {q} e a = record { said = some q; exactly = e; answer = a .answer; record-is = a .record-is; told = a .told }
+told-alike : (a : Answer Proof) (f : Bytes) → toldOf answerOfSpots a f ≡ toldOf answerBytes a f
+told-alike (refused n) f = refl
+told-alike (accepted q) f = told-as q
+
+pub reads-as : {m room f t g : Bytes} {q : Proof} {r : ℕ} → Encodes (recordOf sha256 q) m q → ReadsAs q room f r t g → ReadsMessage m room f r t g
+reads-as {m} {room} {f} {t} {g} {q} e a =
+    let same = read-as (some q) room in record {
+      said = some q;
+      exactly = e;
+      answer = a .answer ∙ ap (λ o. numberOf o) same;
+      record-is = a .record-is ∙ ap (λ o. roomAfter (recordOf sha256) o room) same;
+      told = a .told ∙ ap (λ o. toldOf answerOfSpots o f) same ∙ told-alike (read (some q) room) f;
+    }

@@ -12,11 +12,12 @@ use Rattle.terms.specs.Records.{Presence, Absence, presence, absence}
 use Rattle.terms.proofs.Fields.{length-le, length-slice}
 use Rattle.fields.specs.Written.{written}
 use Rattle.messages.specs.Wire.{messageField, bytesField}
-use Rattle.messages.specs.Message.{existence, nonexistence, neighbourField, RawPresence}
+use Rattle.messages.specs.Message.{existence, nonexistence, neighbourField}
+use Rattle.messages.specs.Raws.{RawPresence}
 use Rattle.messages.specs.Spots.{Spot, Spots, nowhere, fieldHead, keySpot, valueSpot, leafSpots, spotsIn}
 use Rattle.messages.proofs.Wires.{bytes-field-is}
 use Rattle.message_rules.proofs.Writing.{written-then, written-front}
-use Rattle.message_rules.specs.Contracts.{spotBytes, spotsBytes}
+use Rattle.message_rules.specs.Answers.{spotBytes, spotsBytes}
 use Rattle.message_leaf.specs.declared.Shown.{Shown}
 use Rattle.message_leaf.specs.Shown.{between, presenceAt, Inside, Nothing}
 use Rattle.message_form.specs.declared.Absent.{Absent}

@@ -4,11 +4,11 @@ use mathlib.Core.Path.{_≡_}
 use mathlib.Core.Option.{some}
 use Rattle.terms.specs.Bits.{Bytes}
 use Rattle.terms.specs.Records.{Proof}
-use Rattle.meaning.specs.Answers.{numberOf, toldOf}
+use Rattle.meaning.specs.Answers.{numberOf, toldOf, roomAfter}
 use Rattle.sha256.specs.Sha256.{sha256}
 use Rattle.messages.specs.Lending.{recordOf}
 use Rattle.messages.specs.Spots.{Spot, Spots}
-use Rattle.message_rules.specs.Contracts.{roomAfter, readInto, answerBytes}
+use Rattle.message_rules.specs.Answers.{readInto, answerBytes}
 use Rattle.message_leaf.specs.declared.Shown.{Shown}
 
 -- Key and value stand in a message.

@@ -19,7 +19,8 @@ use Rattle.sha256.specs.Sha256.{sha256}
 use Rattle.proofrecords.specs.ProofBytes.{stepsBytes, presenceBytes, neighbourBytes, flagsOf, absenceBytes}
 use Rattle.proofrecords.proofs.Steps.{length-steps}
 use Rattle.proofrecords.proofs.Proofs.{length-presence, length-absence}
-use Rattle.messages.specs.Message.{RawPresence, ownPresence, ownNeighbour}
+use Rattle.messages.specs.Message.{ownPresence}
+use Rattle.messages.specs.Raws.{ownNeighbour, RawPresence}
 use Rattle.messages.proofs.Lending.{own-form}
 use Rattle.message_rules.proofs.Writing.{written-none, written-then}
 use Rattle.sha256.proofs.Digests.{digest-whole}

@@ -10,7 +10,7 @@ use Rattle.terms.specs.Bits.{Bytes, digit}
 use Rattle.fields.specs.Written.{written}
 use Rattle.terms.specs.Records.{Step, Absence}
 use Rattle.sha256.specs.Sha256.{sha256}
-use Rattle.messages.specs.Message.{RawPresence, ownNeighbour}
+use Rattle.messages.specs.Raws.{ownNeighbour, RawPresence}
 use Rattle.messages.specs.Reading.{stepIn}
 use Rattle.message_leaf.specs.declared.Shown.{Shown}
 use Rattle.message_leaf.specs.Shown.{presenceAt}

@@ -2,79 +2,82 @@
 -- they leave. Assumes nothing.
 use Prim.Native.Nat.{ℕ}
 use mathlib.Core.Path.{_≡_}
-use mathlib.Core.List.{[], _∷_, _++_}
+use mathlib.Core.Bool.{cond}
+use mathlib.Core.List.{List, [], _∷_, _++_, map}
 use mathlib.Core.Option.{Option, none, some}
-use lib.ListN.{length, drop}
-use Rattle.terms.specs.Bits.{Bytes}
+use lib.ListN.{length}
+use lib.Dec.{ltb}
+use Rattle.terms.specs.Bits.{Bytes, All}
 use Rattle.terms.specs.Fields.{le, flat}
-use Rattle.terms.specs.Records.{Proof}
+use Rattle.terms.specs.Records.{Proof, presence, absence}
 use Rattle.meaning.specs.Calls.{Answer, refused, accepted}
-use Rattle.meaning.specs.Answers.{numberOf, toldOf}
+use Rattle.meaning.specs.Answers.{numberOf, toldOf, roomAfter}
 use Rattle.sha256.specs.Sha256.{sha256}
-use Rattle.proofrecords.specs.ProofBytes.{ProofSaid}
-use Rattle.messages.specs.Message.{messageBytes, RawProof}
-use Rattle.messages.specs.Lending.{Lent, writtenFrom, readFrom, recordOf}
-use Rattle.messages.specs.Spots.{Spot, Spots, spotsIn}
+use Rattle.proofrecords.specs.ProofBytes.{proofBytes, ProofIs, ProofSaid}
+use Rattle.messages.specs.Message.{messageBytes, ownProof}
+use Rattle.messages.specs.Parts.{Raw, askedIn, leavesIn, twoLeaves}
 
--- What an accepted call writes fills the front of the room, the rest stays; a refused call writes nothing.
-abbrev pub roomAfter : {A : Type 0} → (A → Bytes) → Answer A → Bytes → Bytes
-roomAfter bytes (refused n) room = room
-roomAfter bytes (accepted a) room = bytes a ++ drop (length (bytes a)) room
-
--- What is lent: the raw key asked for, and raw key and value of the leaf shown or the left of two, and of the right of
--- two.
-abbrev pub lentOf : Bytes → Bytes → Bytes → Bytes → Bytes → Lent
-lentOf asked key1 value1 key2 value2 =
-    record {
-      asked = asked;
-      first = record { key = key1; value = value1 };
-      second =
-          record { key = key2; value = value2 };
-    }
-
--- The message of the proof that a record is, with what is lent, into a room: 10, 15, 9.
-abbrev pub writtenInto : Option Proof → Lent → Bytes → Answer Bytes
-writtenInto said lent room = writtenFrom sha256 said lent (length room)
-
--- Writing the message of the record x answers r; the room is left as t, the array f for the message's length as g.
-pub record WritesMessage (x : Bytes) (lent : Lent) (room f : Bytes) (r : ℕ) (t g : Bytes) : Type 0 where
-  pub said : Option Proof
-  pub exactly : ProofSaid x said
-  pub answer : r ≡ numberOf (writtenInto said lent room)
-  pub message : t ≡ roomAfter (λ m. m) (writtenInto said lent room) room
-  pub told : g ≡ toldOf (λ m. le 4 (length m)) (writtenInto said lent room) f
-
--- The bytes m are the message of a proof with raw keys and values.
-pub record Encodes (m : Bytes) (q : Proof) : Type 0 where
-  pub raw : RawProof q
+-- x is our own record, and m the message, of a proof with raw keys and values.
+pub record Encodes (x m : Bytes) (q : Proof) : Type 0 where
+  pub own : ProofIs x (ownProof sha256 q)
+  pub raw : All (λ p. Raw (p .most) (p .bytes)) (askedIn q ∷ leavesIn q)
   pub is : messageBytes q ≡ m
 
--- What bytes say as a message: a proof of which they are the message; nothing, where they are the message of none.
-abbrev pub Said : Bytes → Option Proof → Type 0
-Said m none = (q : Proof) → Encodes m q → ⊥
-Said m (some q) = Encodes m q
+-- Our own record of what such a proof says.
+abbrev pub recordOf : Proof → Bytes
+recordOf q = proofBytes (ownProof sha256 q)
 
--- Our own record of what a message says, into a room: 10, 9.
-abbrev pub readInto : Option Proof → Bytes → Answer Proof
-readInto said room = readFrom sha256 said (length room)
+-- The raw key asked for is an absence's own; a presence has its leaf's, and the two need only hash alike.
+abbrev pub AskedFor : Bytes → Proof → Type 0
+AskedFor asked (presence p) = Raw 256 asked × (sha256 asked ≡ sha256 (p .key))
+AskedFor asked (absence a) = asked ≡ a .key
+
+-- What is lent beside the record x makes the message of q: the raw key asked for, and raw key and value of the leaf
+-- shown or the left of two, and of the right of two.
+pub record Lends (x asked : Bytes) (leaves : List Bytes) (q : Proof) : Type 0 where
+  pub encodes : Encodes x (messageBytes q) q
+  pub asked-for : AskedFor asked q
+  pub leaves-are : leaves ≡ map (λ p. p .bytes) (twoLeaves q)
+
+-- Which proof something holds of; none, where it holds of none.
+abbrev pub Which : (Proof → Type 0) → Option Proof → Type 0
+Which P none = (q : Proof) → P q → ⊥
+Which P (some q) = P q
+
+-- 9 where the bytes of a proof don't fit the room.
+abbrev pub fitted : (Proof → Bytes) → Proof → Bytes → Answer Proof
+fitted bytes q room = cond (ltb (length room) (length (bytes q))) (refused 9) (accepted q)
+
+-- Writing tests 10, 15, 9, reading 10, 9.
+abbrev pub written : Option Proof → Option Proof → Bytes → Answer Proof
+written none raw room = refused 10
+written (some p) none room = refused 15
+written (some p) (some q) room = fitted messageBytes q room
+
+abbrev pub read : Option Proof → Bytes → Answer Proof
+read none room = refused 10
+read (some q) room = fitted recordOf q room
+
+-- Writing the message of the record x answers r; the room is left as t, the array f for the message's length as g.
+pub record WritesMessage (x asked : Bytes) (leaves : List Bytes) (room f : Bytes) (r : ℕ) (t g : Bytes) : Type 0 where
+  pub said : Option Proof
+  pub exactly : ProofSaid x said
+  pub raw : Option Proof
+  pub lent : Which (Lends x asked leaves) raw
+  pub answer : r ≡ numberOf (written said raw room)
+  pub message : t ≡ roomAfter messageBytes (written said raw room) room
+  pub told : g ≡ toldOf (λ q. le 4 (length (messageBytes q))) (written said raw room) f
 
 -- The record's length, then where the raw key asked for and raw key and value of each leaf stand: offset and length, 4
 -- bytes each.
-abbrev pub spotBytes : Spot → Bytes
-spotBytes s = le 4 (s .at) ++ le 4 (s .size)
-
-abbrev pub spotsBytes : Spots → Bytes
-spotsBytes s =
-    flat (spotBytes (s .asked) ∷ spotBytes (s .key1) ∷ spotBytes (s .value1) ∷ spotBytes (s .key2) ∷
-    spotBytes (s .value2) ∷ [])
-
 abbrev pub answerBytes : Proof → Bytes
-answerBytes q = le 4 (length (recordOf sha256 q)) ++ spotsBytes (spotsIn q)
+answerBytes q =
+    le 4 (length (recordOf q)) ++ flat (map (λ p. le 4 (p .at) ++ le 4 (length (p .bytes))) (askedIn q ∷ twoLeaves q))
 
 -- Reading the bytes m as a message answers r; the room is left as t, the array f for lengths and places as g.
 pub record ReadsMessage (m room f : Bytes) (r : ℕ) (t g : Bytes) : Type 0 where
   pub said : Option Proof
-  pub exactly : Said m said
-  pub answer : r ≡ numberOf (readInto said room)
-  pub record-is : t ≡ roomAfter (recordOf sha256) (readInto said room) room
-  pub told : g ≡ toldOf answerBytes (readInto said room) f
+  pub exactly : Which (λ q. Encodes (recordOf q) m q) said
+  pub answer : r ≡ numberOf (read said room)
+  pub record-is : t ≡ roomAfter recordOf (read said room) room
+  pub told : g ≡ toldOf answerBytes (read said room) f

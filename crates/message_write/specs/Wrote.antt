@@ -7,11 +7,11 @@ use lib.ListN.{length}
 use Rattle.terms.specs.Bits.{Bytes}
 use Rattle.terms.specs.Records.{Presence, Proof, absence}
 use Rattle.meaning.specs.Calls.{Answer, refused, accepted}
+use Rattle.meaning.specs.Answers.{roomAfter}
 use Rattle.meaning.specs.Sized.{sized}
 use Rattle.sha256.specs.Sha256.{sha256}
 use Rattle.messages.specs.Message.{messageBytes}
 use Rattle.messages.specs.Lending.{Leaf, Lent, rawNeighbour, fitted}
-use Rattle.message_rules.specs.Contracts.{roomAfter}
 use Rattle.message_lent.specs.Lent.{InForm}
 use Rattle.message_put.specs.Inner.{Lendable}
 use Rattle.message_write.specs.declared.Wrote.{Wrote}

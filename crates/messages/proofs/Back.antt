@@ -4,19 +4,21 @@ use native.Mathlib.Omega.{arith}
 use mathlib.Core.Path.{_≡_, refl, ap, ap₂, sym, _∙_, subst}
 use mathlib.Core.Logic.{_↔_}
 use mathlib.Core.Bool.{Bool, true, false, cond, _&&_, false≢true}
-use mathlib.Core.List.{List, [], _∷_, _++_, append-nil}
+use mathlib.Core.List.{List, [], _∷_, _++_, map, append-nil}
 use mathlib.Core.Option.{Option, none, some, Option·some-injective}
 use lib.ListN.{length, getD, length-append}
 use lib.Dec.{eqb, leb}
 use borrow.Author.Tests.{eqb-true, eqb-false, eq-eqb, ne-eqb, leb-true, le-leb}
 use Rattle.terms.specs.Bits.{Bytes, Byte, All, sameBytes}
-use Rattle.terms.specs.Fields.{allOf}
+use Rattle.terms.specs.Fields.{flat, allOf}
 use Rattle.terms.specs.Records.{Step, Presence, Absence, Proof, presence, absence}
 use Rattle.terms.proofs.Tests.{and-left, and-right, same-bytes, bytes-same}
 use Rattle.terms.proofs.Fields.{all-of-tests}
 use Rattle.proofrecords.specs.ProofBytes.{flagsOf}
 use Rattle.messages.specs.Wire.{varintIn, varint, numberTag, bytesTag, messageField, bytesField, numberField}
-use Rattle.messages.specs.Message.{leafOp, path, existence, neighbourField, nonexistence, messageBytes, mostBytes, Raw, RawPresence, RawNeighbour, RawProof}
+use Rattle.messages.specs.Message.{existence, neighbourField, nonexistence, messageBytes, mostBytes, leafBytes, innerBytes, existenceBytes, opOf}
+use Rattle.messages.specs.Raws.{leafOp, path, RawPresence, RawNeighbour, RawProof}
+use Rattle.messages.specs.Parts.{Raw}
 use Rattle.messages.specs.Reading.{onward, onlyIf, Front, fieldFrom, pathIn, lengthRight, existenceIn, neighbourFrom, somebody, nonexistenceIn, fieldAlone, messageIn}
 use Rattle.messages.proofs.Wires.{onward-some, only-if-some, Near, Short, field-is, field-back, FieldSaid, field-said, bytes-field-is, length-field, no-bytes}
 use Rattle.messages.proofs.Steps.{path-back, PathSaid, path-said, length-path}
@@ -34,18 +36,22 @@ right-length most x h e =
     record { some-byte = leb-true 1 (length x) (and-left one many e); short = leb-true (length x) most (and-right one many e); bytes = h }
 
 length-leaf : length leafOp ≡ 9
-unfolding leafOp varintIn varint numberTag bytesTag messageField bytesField numberField
+unfolding leafBytes varintIn varint numberTag bytesTag messageField bytesField numberField
 length-leaf = refl
 
 -- an existence proof, field after field
+pub path-is : (steps : List Step) → flat (map (λ op. messageField 4 (innerBytes op)) (map opOf steps)) ≡ path steps
+path-is [] = refl
+path-is (s ∷ steps) = ap (messageField 4 (innerBytes (opOf s)) ++_) (path-is steps)
+
 pub existence-is : (p : Presence) → RawPresence p →
     existence p ≡ messageField 1 (p .key) ++ (messageField 2 (p .value) ++ (messageField 3 leafOp ++ path (p .steps)))
-unfolding existence
+unfolding existenceBytes
 existence-is p h =
     rw (
       bytes-field-is 1 (p .key) (h .key-raw .some-byte),
       bytes-field-is 2 (p .value) (h .value-raw .some-byte),
-      append-nil (path (p .steps)),
+      path-is (p .steps),
     )
 
 pub existence-back : (p : Presence) → RawPresence p → existenceIn (existence p) ≡ some p

@@ -1,36 +1,27 @@
--- Writing and reading a message: what is written is read back with its record and its raw keys and values, and what is read was written so. Assumes nothing.
-use Prim.Native.Nat.{ℕ, _<_, _≤_}
+-- What is lent and fits is raw, and makes the message of which the record is our own; what a message holds fits our own record of it. Assumes nothing.
+use Prim.Native.Nat.{ℕ, _≤_}
 use native.Mathlib.Omega.{arith}
-use mathlib.Core.Path.{_≡_, refl, ap, ap₂, sym, _∙_, subst}
-use mathlib.Core.Bool.{Bool, true, false, cond, _&&_, false≢true}
-use mathlib.Core.List.{[], _∷_}
+use mathlib.Core.Path.{_≡_, refl, ap, ap₂}
+use mathlib.Core.Bool.{true, false, false≢true}
 use mathlib.Core.Option.{Option, none, some}
-use lib.ListN.{length}
-use lib.Dec.{eqb, ltb}
-use borrow.Author.Tests.{eqb-true, ltb-false, le-ltb}
-use Rattle.terms.specs.Bits.{Bytes, Byte, All, Whole32, sameBytes}
+use Rattle.terms.specs.Bits.{Bytes, Byte, All, Whole32}
 use Rattle.terms.specs.Fields.{allOf}
-use Rattle.terms.specs.Records.{Presence, Absence, Proof, presence, absence}
+use Rattle.terms.specs.Records.{Presence, Proof, presence, absence}
 use Rattle.terms.proofs.Tests.{same-bytes, bytes-same}
 use Rattle.terms.proofs.Fields.{all-of-tests}
-use Rattle.proofrecords.specs.ProofBytes.{proofBytes, flagsOf, PresenceForm, NeighbourForm, ProofForm, ProofIs}
-use Rattle.meaning.specs.Calls.{Answer, refused, accepted}
-use Rattle.meaning.specs.Reading.{Verdict}
-use Rattle.meaning.specs.Checking.{checked}
-use Rattle.messages.specs.Message.{messageBytes, Raw, RawPresence, RawNeighbour, RawProof, ownPresence, ownNeighbour, ownProof}
-use Rattle.messages.specs.Reading.{lengthRight, messageIn}
-use Rattle.messages.specs.Lending.{Leaf, Lent, rightLeaf, rawPresence, rawNeighbour, rawProof, unlent, hashesTo, leafFits, leavesFit, lentFits, fitted, writtenFrom, recordOf, readFrom, read, LentBytes, noLeaf, leafOf, leavesOf, lentIn}
-use Rattle.messages.proofs.Back.{length-right, right-length, message-back, message-said}
-
-clash : {A B : Type 0} {n : ℕ} {a : B} → refused n ≡ accepted a → A
-clash e = let z : _≡_ {A = ℕ} 0 1 = cc in absurd (omega arith)
+use Rattle.proofrecords.specs.ProofBytes.{flagsOf, PresenceForm, NeighbourForm, ProofForm}
+use Rattle.messages.specs.Message.{ownPresence, ownProof}
+use Rattle.messages.specs.Raws.{ownNeighbour, RawPresence, RawNeighbour, RawProof}
+use Rattle.messages.specs.Parts.{Raw}
+use Rattle.messages.specs.Lending.{Leaf, Lent, rightLeaf, rawPresence, rawNeighbour, rawProof, unlent, hashesTo, leafFits, leavesFit, lentFits, LentBytes, leafOf, leavesOf, lentIn}
+use Rattle.messages.proofs.Back.{length-right, right-length}
 
 module _ (sha : Bytes → Bytes) where
-  hashes-said : (most : ℕ) (x h : Bytes) → All Byte x → hashesTo sha most x h ≡ true → Raw most x × (sha x ≡ h)
+  pub hashes-said : (most : ℕ) (x h : Bytes) → All Byte x → hashesTo sha most x h ≡ true → Raw most x × (sha x ≡ h)
   unfolding hashesTo
   hashes-said most x h b e = let t = all-of-tests _ e in (right-length most x b (t .0), same-bytes (sha x) h (t .1 .0))
 
-  hashes-back : (most : ℕ) (x : Bytes) → Raw most x → hashesTo sha most x (sha x) ≡ true
+  pub hashes-back : (most : ℕ) (x : Bytes) → Raw most x → hashesTo sha most x (sha x) ≡ true
   unfolding hashesTo allOf
   hashes-back most x h = rw (length-right most x h, bytes-same (sha x))
 
@@ -45,7 +36,7 @@ module _ (sha : Bytes → Bytes) where
         ap₂ (λ u v. record { key = u; value = v; steps = p .steps }) (k .1) (x .1),
       )
 
-  leaf-back : (p : Presence) → RawPresence p → leafFits sha (leafOf p) (ownPresence sha p) ≡ true
+  pub leaf-back : (p : Presence) → RawPresence p → leafFits sha (leafOf p) (ownPresence sha p) ≡ true
   unfolding leafFits allOf
   leaf-back p h = rw (hashes-back 256 (p .key) (h .key-raw), hashes-back 4096 (p .value) (h .value-raw))
 
@@ -105,7 +96,7 @@ module _ (sha : Bytes → Bytes) where
   leaves-raw asked none (some r) = (refl, refl)
   leaves-raw asked (some l) (some r) = (refl, refl)
 
-  lent-back : (q : Proof) → RawProof q → (lentFits sha (lentIn q) (ownProof sha q) ≡ true) × (rawProof (lentIn q) (ownProof sha q) ≡ q)
+  pub lent-back : (q : Proof) → RawProof q → (lentFits sha (lentIn q) (ownProof sha q) ≡ true) × (rawProof (lentIn q) (ownProof sha q) ≡ q)
   unfolding unlent allOf
   lent-back (presence p) h = (rw (hashes-back 256 (p .key) (h .key-raw), leaf-back p h), refl)
   lent-back (absence a) h =
@@ -123,7 +114,7 @@ module _ (sha : Bytes → Bytes) where
   own-neighbour-form w none h = tt
   own-neighbour-form w (some p) h = own-presence-form w p h
 
-  own-flags : (l r : Option Presence) → flagsOf (ownNeighbour sha l) (ownNeighbour sha r) ≡ flagsOf l r
+  pub own-flags : (l r : Option Presence) → flagsOf (ownNeighbour sha l) (ownNeighbour sha r) ≡ flagsOf l r
   own-flags none none = refl
   own-flags (some l) none = refl
   own-flags none (some r) = refl
@@ -133,71 +124,3 @@ module _ (sha : Bytes → Bytes) where
   own-form w (presence p) h = own-presence-form w p h
   own-form w (absence a) h =
       (w (a .key), own-neighbour-form w (a .leftward) (h .1), own-neighbour-form w (a .rightward) (h .2), rw (own-flags (a .leftward) (a .rightward)) (h .3))
-
-  -- an answer that has room
-  fitted-said : {A : Type 0} (room : ℕ) (x : Bytes) (a b : A) → fitted sha room x a ≡ accepted b → (length x ≤ room) × (a ≡ b)
-  unfolding fitted
-  fitted-said {A} room x a b = go (ltb room (length x)) refl
-    where
-      go : (t : Bool) → ltb room (length x) ≡ t → cond t (refused 9) (accepted a) ≡ accepted b → (length x ≤ room) × (a ≡ b)
-      go true t e = clash e
-      go false t e = (ltb-false room (length x) t, (cc))
-
-  fitted-back : {A : Type 0} (room : ℕ) (x : Bytes) (a : A) → length x ≤ room → fitted sha room x a ≡ accepted a
-  unfolding fitted
-  fitted-back room x a h = rw (le-ltb room (length x) h)
-
-  -- What is known of a message that was written.
-  pub record Written (said : Option Proof) (lent : Lent) (room : ℕ) (m : Bytes) : Type 0 where
-    pub proof : Proof
-    pub proof-is : said ≡ some proof
-    pub fits : lentFits sha lent proof ≡ true
-    pub is : messageBytes (rawProof lent proof) ≡ m
-    pub has-room : length m ≤ room
-
-  pub written-said : (said : Option Proof) (lent : Lent) (room : ℕ) (m : Bytes) → writtenFrom sha said lent room ≡ accepted m → Written said lent room m
-  unfolding writtenFrom
-  written-said none lent room m e = clash e
-  written-said (some p) lent room m e = go (lentFits sha lent p) refl e
-    where
-      go : (t : Bool) → lentFits sha lent p ≡ t →
-          cond t (fitted sha room (messageBytes (rawProof lent p)) (messageBytes (rawProof lent p))) (refused 15) ≡ accepted m → Written (some p) lent room m
-      go true f e =
-          let w = fitted-said room (messageBytes (rawProof lent p)) (messageBytes (rawProof lent p)) m e in
-          record { proof = p; proof-is = refl; fits = f; is = w .1; has-room = rw (w .1) at (w .0) }
-      go false f e = clash e
-
-  -- Reading gives back what was written: what was lent in place of the hashes, and our own record, byte for byte.
-  pub reading-gives-back : {x : Bytes} {p : Proof} (lent : Lent) (m : Bytes) → ProofIs x p → LentBytes lent → lentFits sha lent p ≡ true →
-      messageBytes (rawProof lent p) ≡ m →
-      (readFrom sha (messageIn m) (length x) ≡ accepted (rawProof lent p))
-      × (recordOf sha (rawProof lent p) ≡ x)
-      × (ownProof sha (rawProof lent p) ≡ p)
-  unfolding readFrom
-  reading-gives-back {x} {p} lent m w lb fits is =
-      let s = lent-said lent p (w .form) lb fits in
-      let q = rawProof lent p in
-      let r : recordOf sha q ≡ x = ap proofBytes (s .1) ∙ sym (w .bytes) in
-      let back : messageIn m ≡ some q = ap messageIn (sym is) ∙ message-back q (s .0) in
-      (rw (back) (fitted-back (length x) (recordOf sha q) q (omega (arith, ap length r))), r, s .1)
-
-  -- What is read was written so: our own record of it, lent the raw keys and values that the message holds, makes the message.
-  pub read-was-written : ((x : Bytes) → Whole32 (sha x)) → (m : Bytes) (q : Proof) → All Byte m → messageIn m ≡ some q →
-      ProofIs (recordOf sha q) (ownProof sha q) × (writtenFrom sha (some (ownProof sha q)) (lentIn q) (length m) ≡ accepted m)
-  unfolding writtenFrom
-  read-was-written w m q b e =
-      let s = message-said m q b e in
-      let l = lent-back q (s .0) in (
-        record { bytes = refl; form = own-form w q (s .0) },
-        rw (l .0, l .1, s .1) (fitted-back (length m) m m (omega arith)),
-      )
-
-  -- The reading is accepted exactly when our own record would be, against any root and for any key.
-  pub accepted-exactly-as-ours : (leafHash innerHash : Bytes → Bytes → Bytes) {x : Bytes} {p : Proof} (lent : Lent) (m : Bytes) →
-      ProofIs x p → LentBytes lent → lentFits sha lent p ≡ true → messageBytes (rawProof lent p) ≡ m → (q : Proof) → messageIn m ≡ some q →
-      (root k : Bytes) → checked leafHash innerHash root k (ownProof sha q) ≡ checked leafHash innerHash root k p
-  accepted-exactly-as-ours leafHash innerHash {x} {p} lent m w lb fits is q e root k =
-      let s = lent-said lent p (w .form) lb fits in
-      let back : messageIn m ≡ some (rawProof lent p) = ap messageIn (sym is) ∙ message-back (rawProof lent p) (s .0) in
-      let same : q ≡ rawProof lent p = cc in
-      ap (checked leafHash innerHash root k) (ap (ownProof sha) same ∙ s .1)

@@ -1,24 +1,22 @@
--- The raw keys and values that a message holds stand where its spots say. Assumes nothing.
+-- The raw keys and values that a message holds stand where its parts say. Assumes nothing.
 use Prim.Native.Nat.{ℕ, _+_, _≤_}
 use native.Mathlib.Omega.{arith}
 use mathlib.Core.Path.{_≡_, refl, ap, sym, _∙_}
 use mathlib.Core.List.{[], _∷_, _++_, append-assoc, append-nil}
 use mathlib.Core.Option.{Option, none, some}
 use lib.ListN.{length, length-append}
-use Rattle.terms.specs.Bits.{Bytes}
+use Rattle.terms.specs.Bits.{Bytes, All}
 use Rattle.terms.specs.Fields.{slice}
 use Rattle.terms.specs.Records.{Presence, Absence, Proof, presence, absence}
+use Rattle.terms.proofs.Lists.{all-append}
 use Rattle.terms.proofs.Fields.{slice-between}
 use Rattle.messages.specs.Wire.{varint, bytesTag, messageField, bytesField}
-use Rattle.messages.specs.Message.{leafOp, path, existence, neighbourField, nonexistence, messageBytes, Raw, RawPresence, RawNeighbour, RawProof}
-use Rattle.messages.specs.Lending.{leavesOf, lentIn}
-use Rattle.messages.specs.Spots.{Spot, fieldHead, keySpot, valueSpot, leafSpots, spotsIn, StandsAt, Stand}
+use Rattle.messages.specs.Message.{existence, neighbourField, nonexistence, messageBytes}
+use Rattle.messages.specs.Raws.{leafOp, path, RawPresence, RawNeighbour, RawProof}
+use Rattle.messages.specs.Parts.{Raw, keyPart, valuePart, leafParts, askedIn, leavesIn, StandsIn}
+use Rattle.messages.specs.Spots.{fieldHead}
 use Rattle.messages.proofs.Wires.{bytes-field-is}
 use Rattle.messages.proofs.Back.{existence-is, nonexistence-is}
-
-no-bytes-there : (m : Bytes) → slice 0 0 m ≡ []
-unfolding slice
-no-bytes-there m = refl
 
 field-split : (n : ℕ) (x r : Bytes) → messageField n x ++ r ≡ fieldHead n x ++ (x ++ r)
 unfolding messageField fieldHead
@@ -45,12 +43,14 @@ module _ (m xs : Bytes) (n : ℕ) (p : Presence) (r : Bytes) (start : ℕ) (h : 
   length-before : length before ≡ start
   length-before = length-append xs (fieldHead n (existence p)) ∙ so
 
-  key-there : StandsAt m (keySpot start (p .key)) (p .key)
+  key-there : StandsIn m (keyPart start (p .key))
+  unfolding fieldHead
   key-there =
       ap (slice (start + length (fieldHead 1 (p .key))) (length (p .key))) begins
       ∙ there before 1 (p .key) (messageField 2 (p .value) ++ rest) (start + length (fieldHead 1 (p .key))) (omega (arith, length-before))
 
-  value-there : StandsAt m (valueSpot start p) (p .value)
+  value-there : StandsIn m (valuePart (start + length (bytesField 1 (p .key))) (p .value))
+  unfolding fieldHead
   value-there =
       let k = bytes-field-is 1 (p .key) (h .key-raw .some-byte) in
       let at = start + length (bytesField 1 (p .key)) + length (fieldHead 2 (p .value)) in
@@ -58,74 +58,41 @@ module _ (m xs : Bytes) (n : ℕ) (p : Presence) (r : Bytes) (start : ℕ) (h : 
       ∙ there (before ++ messageField 1 (p .key)) 2 (p .value) rest at
       (omega (arith, length-before, length-append before (messageField 1 (p .key)), ap length k))
 
--- the leaves of an absence proof
-leaves-there : (m xs key : Bytes) (asked : Spot) (start : ℕ) (l r : Option Presence) →
-    m ≡ xs ++ (neighbourField 2 l ++ (neighbourField 3 r ++ [])) → length xs ≡ start → RawNeighbour l → RawNeighbour r → StandsAt m asked key →
-    Stand m (leafSpots asked start l r) (leavesOf key l r)
-leaves-there m xs key asked start none none is so hl hr a = record {
-  asked-there = a;
-  key1-there = no-bytes-there m;
-  value1-there = no-bytes-there m;
-  key2-there = no-bytes-there m;
-  value2-there = no-bytes-there m;
-}
-leaves-there m xs key asked start (some l) none is so hl hr a =
-    let s = start + length (fieldHead 2 (existence l)) in
-    let e : length xs + length (fieldHead 2 (existence l)) ≡ s = omega arith in record {
-      asked-there = a;
-      key1-there = key-there m xs 2 l [] s hl is e;
-      value1-there = value-there m xs 2 l [] s hl is e;
-      key2-there = no-bytes-there m;
-      value2-there = no-bytes-there m;
-    }
-leaves-there m xs key asked start none (some r) is so hl hr a =
-    let s = start + length (fieldHead 3 (existence r)) in
-    let e : length xs + length (fieldHead 3 (existence r)) ≡ s = omega arith in record {
-      asked-there = a;
-      key1-there = key-there m xs 3 r [] s hr is e;
-      value1-there = value-there m xs 3 r [] s hr is e;
-      key2-there = no-bytes-there m;
-      value2-there = no-bytes-there m;
-    }
-leaves-there m xs key asked start (some l) (some r) is so hl hr a =
-    let s = start + length (fieldHead 2 (existence l)) in
-    let e : length xs + length (fieldHead 2 (existence l)) ≡ s = omega arith in
-    let t = start + length (messageField 2 (existence l)) + length (fieldHead 3 (existence r)) in
-    let ys = xs ++ messageField 2 (existence l) in
-    let f : length ys + length (fieldHead 3 (existence r)) ≡ t = omega (arith, length-append xs (messageField 2 (existence l))) in
-    let after : m ≡ ys ++ (messageField 3 (existence r) ++ []) =
-    is ∙ sym (append-assoc xs (messageField 2 (existence l)) (messageField 3 (existence r) ++ [])) in record {
-      asked-there = a;
-      key1-there = key-there m xs 2 l (messageField 3 (existence r) ++ []) s hl is e;
-      value1-there = value-there m xs 2 l (messageField 3 (existence r) ++ []) s hl is e;
-      key2-there = key-there m ys 3 r [] t hr after f;
-      value2-there = value-there m ys 3 r [] t hr after f;
-    }
+-- a leaf shown in a field after others
+leaf-there : (m xs : Bytes) (n : ℕ) (o : Option Presence) (r : Bytes) (start : ℕ) → m ≡ xs ++ (neighbourField n o ++ r) → length xs ≡ start →
+    RawNeighbour o → All (StandsIn m) (leafParts start n o)
+unfolding fieldHead
+leaf-there m xs n none r start is so h = tt
+leaf-there m xs n (some p) r start is so h =
+    let s = start + length (fieldHead n (existence p)) in
+    let e : length xs + length (fieldHead n (existence p)) ≡ s = omega arith in
+    (key-there m xs n p r s h is e, (value-there m xs n p r s h is e, tt))
 
--- In the message of a raw proof stands what was lent for it, where its spots say.
-pub raw-stands-there : (q : Proof) → RawProof q → Stand (messageBytes q) (spotsIn q) (lentIn q)
-unfolding spotsIn
+-- In the message of a raw proof stand its raw keys and values, where its parts say.
+pub raw-stands-there : (q : Proof) → RawProof q → All (StandsIn (messageBytes q)) (askedIn q ∷ leavesIn q)
+unfolding fieldHead
 raw-stands-there (presence p) h =
     let m = messageField 1 (existence p) in
     let is : m ≡ [] ++ (messageField 1 (existence p) ++ []) = sym (append-nil m) in
-    let s = length (fieldHead 1 (existence p)) in
-    let k = key-there m [] 1 p [] s h is (omega arith) in record {
-      asked-there = k;
-      key1-there = k;
-      value1-there = value-there m [] 1 p [] s h is (omega arith);
-      key2-there = no-bytes-there m;
-      value2-there = no-bytes-there m;
-    }
+    let l = leaf-there m [] 1 (some p) [] 0 is refl h in
+    (l .0, l)
 raw-stands-there (absence a) h =
     let m = messageField 2 (nonexistence a) in
     let head = fieldHead 2 (nonexistence a) in
-    let after = neighbourField 2 (a .leftward) ++ (neighbourField 3 (a .rightward) ++ []) in
+    let left = neighbourField 2 (a .leftward) in
+    let right = neighbourField 3 (a .rightward) in
     let whole : m ≡ head ++ (nonexistence a ++ []) = sym (append-nil m) ∙ field-split 2 (nonexistence a) [] in
-    let is : m ≡ head ++ (messageField 1 (a .key) ++ after) =
+    let is : m ≡ head ++ (messageField 1 (a .key) ++ (left ++ (right ++ []))) =
     whole ∙ ap (head ++_) (append-nil (nonexistence a) ∙ nonexistence-is a (h .0)) in
-    let k = bytes-field-is 1 (a .key) (h .0 .some-byte) in
-    leaves-there m (head ++ messageField 1 (a .key)) (a .key) (keySpot (length head) (a .key)) (length head + length (bytesField 1 (a .key)))
-    (a .leftward) (a .rightward) (is ∙ sym (append-assoc head (messageField 1 (a .key)) after))
-    (omega (arith, length-append head (messageField 1 (a .key)), ap length k)) (h .1) (h .2)
-    (ap (slice (length head + length (fieldHead 1 (a .key))) (length (a .key))) is
-    ∙ there head 1 (a .key) after (length head + length (fieldHead 1 (a .key))) refl)
+    let s = 0 + length head in
+    let xs = head ++ messageField 1 (a .key) in
+    let long : length xs ≡ s + length (bytesField 1 (a .key)) =
+    omega (arith, length-append head (messageField 1 (a .key)), ap length (bytes-field-is 1 (a .key) (h .0 .some-byte))) in
+    let after : m ≡ xs ++ (left ++ (right ++ [])) = is ∙ sym (append-assoc head (messageField 1 (a .key)) (left ++ (right ++ []))) in
+    let beyond : m ≡ (xs ++ left) ++ (right ++ []) = after ∙ sym (append-assoc xs left (right ++ [])) in (
+      ap (slice (s + length (fieldHead 1 (a .key))) (length (a .key))) is
+          ∙ there head 1 (a .key) (left ++ (right ++ [])) (s + length (fieldHead 1 (a .key))) (omega arith),
+      all-append (StandsIn m) (leafParts (s + length (bytesField 1 (a .key))) 2 (a .leftward)) (leafParts (s + length (bytesField 1 (a .key)) + length left) 3 (a .rightward))
+          (leaf-there m xs 2 (a .leftward) (right ++ []) (s + length (bytesField 1 (a .key))) after long (h .1))
+          (leaf-there m (xs ++ left) 3 (a .rightward) [] (s + length (bytesField 1 (a .key)) + length left) beyond (omega (arith, long, length-append xs left)) (h .2)),
+    )

@@ -14,7 +14,8 @@ use Rattle.terms.proofs.Tests.{and-left, and-right, same-bytes}
 use Rattle.terms.proofs.Lists.{all-drop}
 use Rattle.proofrecords.specs.ProofBytes.{StepForm}
 use Rattle.messages.specs.Wire.{varintIn, varint, numberTag, bytesTag, messageField, bytesField, numberField}
-use Rattle.messages.specs.Message.{innerOp, path}
+use Rattle.messages.specs.Message.{innerBytes}
+use Rattle.messages.specs.Raws.{innerOp, path}
 use Rattle.messages.specs.Reading.{onward, onlyIf, fieldFrom, leftHead, rightHead, headed, stepIn, pathIn}
 use Rattle.messages.proofs.Wires.{onward-some, only-if-some, field-is, field-back, field-said, length-field, no-bytes}
 
@@ -26,7 +27,7 @@ headOf false = leftHead
 headOf true = rightHead
 
 pub inner-is : (b : Side) (x : Bytes) → length x ≡ 32 → innerOp (step b x) ≡ headOf b ++ x
-unfolding innerOp varintIn varint numberTag bytesTag messageField bytesField numberField
+unfolding innerBytes varintIn varint numberTag bytesTag messageField bytesField numberField
 inner-is false x h = rw (h, append-nil x)
 inner-is true x h = rw (h, append-nil x)
 

@@ -11,7 +11,8 @@ use Rattle.terms.specs.Fields.{allOf}
 use Rattle.terms.specs.Records.{Presence, Proof, presence, absence}
 use Rattle.proofrecords.specs.ProofBytes.{proofBytes}
 use Rattle.meaning.specs.Calls.{Answer, refused, accepted}
-use Rattle.messages.specs.Message.{messageBytes, mostKey, mostValue, ownProof}
+use Rattle.messages.specs.Message.{messageBytes, ownProof}
+use Rattle.messages.specs.Raws.{mostKey, mostValue}
 use Rattle.messages.specs.Reading.{lengthRight, messageIn}
 
 -- Raw key and value of a leaf; both without bytes where no leaf is lent.

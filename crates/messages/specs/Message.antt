@@ -1,67 +1,79 @@
 -- Document 02, request 2026-02: the protobuf CommitmentProof, presence or absence, by ICS 23's published proto file
 -- (cosmos.ics23.v1). What a message says is a proof of ours in which keys and values are raw; fields stand in number
 -- order. Assumes nothing.
-use Prim.Native.Nat.{ℕ, _≤_}
-use mathlib.Core.Bool.{true, false}
-use mathlib.Core.List.{List, [], _∷_, _++_}
-use mathlib.Core.Option.{Option, none, some}
-use lib.ListN.{length}
-use Rattle.terms.specs.Bits.{Bytes, Byte, All, Side}
+use Prim.Native.Nat.{ℕ}
+use mathlib.Core.Bool.{cond}
+use mathlib.Core.List.{List, [], _∷_, map}
+use mathlib.Core.Option.{Option, none, some, Option·map}
+use Rattle.terms.specs.Bits.{Bytes}
 use Rattle.terms.specs.Fields.{flat}
 use Rattle.terms.specs.Records.{Step, Presence, Absence, Proof, presence, absence}
-use Rattle.proofrecords.specs.ProofBytes.{StepForm, mostSteps, flagsOf}
 use Rattle.messages.specs.Wire.{numberField, bytesField, messageField}
 
--- Operation codes: HashOp SHA256 is 1; LengthOp NO_PREFIX is 0.
-abbrev pub hashBySha256 : ℕ
-hashBySha256 = 1
+-- ICS 23's LeafOp, InnerOp and ExistenceProof. Of operation codes, HashOp SHA256 is 1 and LengthOp NO_PREFIX 0.
+pub record LeafOp : Type 0 where
+  pub hash : ℕ
+  pub prehashKey : ℕ
+  pub prehashValue : ℕ
+  pub lengthOp : ℕ
+  pub prefix : Bytes
 
-abbrev pub noPrefix : ℕ
-noPrefix = 0
+pub record InnerOp : Type 0 where
+  pub hash : ℕ
+  pub prefix : Bytes
+  pub suffix : Bytes
 
--- LeafOp: hash 1, prehash_key 2, prehash_value 3, length 4, prefix 5. Keys and values are hashed before use; leaf
--- prefix byte 1.
-unfoldable pub leafOp : Bytes
-leafOp =
+pub record Existence : Type 0 where
+  pub key : Bytes
+  pub value : Bytes
+  pub leaf : LeafOp
+  pub path : List InnerOp
+
+-- Their bytes: the fields are numbered as they stand above; each op of the path is a field 4.
+unfoldable pub leafBytes : LeafOp → Bytes
+leafBytes op =
     flat
-    (numberField 1 hashBySha256
-    ∷ numberField 2 hashBySha256
-    ∷ numberField 3 hashBySha256
-    ∷ numberField 4 noPrefix
-    ∷ bytesField 5 (1 ∷ [])
+    (numberField 1 (op .hash)
+    ∷ numberField 2 (op .prehashKey)
+    ∷ numberField 3 (op .prehashValue)
+    ∷ numberField 4 (op .lengthOp)
+    ∷ bytesField 5 (op .prefix)
     ∷ [])
 
--- What stands before and after the node's hash: inner prefix byte 0, and the sibling on its side.
-abbrev pub prefixOf : Side → Bytes → Bytes
-prefixOf false sibling = 0 ∷ []
-prefixOf true sibling = 0 ∷ sibling
+unfoldable pub innerBytes : InnerOp → Bytes
+innerBytes op = flat (numberField 1 (op .hash) ∷ bytesField 2 (op .prefix) ∷ bytesField 3 (op .suffix) ∷ [])
 
-abbrev pub suffixOf : Side → Bytes → Bytes
-suffixOf false sibling = sibling
-suffixOf true sibling = []
-
--- InnerOp: hash 1, prefix 2, suffix 3.
-unfoldable pub innerOp : Step → Bytes
-innerOp s =
+unfoldable pub existenceBytes : Existence → Bytes
+existenceBytes e =
     flat
-    (numberField 1 hashBySha256
-    ∷ bytesField 2 (prefixOf (s .side) (s .sibling))
-    ∷ bytesField 3 (suffixOf (s .side) (s .sibling))
-    ∷ [])
+    (bytesField 1 (e .key)
+    ∷ bytesField 2 (e .value)
+    ∷ messageField 3 (leafBytes (e .leaf))
+    ∷ map (λ op. messageField 4 (innerBytes op)) (e .path))
 
-abbrev pub path : List Step → Bytes
-path [] = []
-path (s ∷ steps) = messageField 4 (innerOp s) ++ path steps
+-- Keys and values are hashed before use, no length prefix, leaf prefix byte 1.
+abbrev pub ourLeaf : LeafOp
+ourLeaf = record { hash = 1; prehashKey = 1; prehashValue = 1; lengthOp = 0; prefix = 1 ∷ [] }
 
--- ExistenceProof: key 1, value 2, leaf 3, path 4, from the leaf upwards.
-unfoldable pub existence : Presence → Bytes
-existence p = flat (bytesField 1 (p .key) ∷ bytesField 2 (p .value) ∷ messageField 3 leafOp ∷ path (p .steps) ∷ [])
+-- Inner prefix byte 0, and the sibling on its side of the node's hash.
+abbrev pub opOf : Step → InnerOp
+opOf s =
+    cond (s .side)
+    (record { hash = 1; prefix = 0 ∷ s .sibling; suffix = [] })
+    (record { hash = 1; prefix = 0 ∷ []; suffix = s .sibling })
 
+-- A leaf shown, with its path from the leaf upwards.
+abbrev pub existenceOf : Presence → Existence
+existenceOf p = record { key = p .key; value = p .value; leaf = ourLeaf; path = map opOf (p .steps) }
+
+abbrev pub existence : Presence → Bytes
+existence p = existenceBytes (existenceOf p)
+
+-- NonExistenceProof: key 1, left 2, right 3.
 abbrev pub neighbourField : ℕ → Option Presence → Bytes
 neighbourField n none = []
 neighbourField n (some p) = messageField n (existence p)
 
--- NonExistenceProof: key 1, left 2, right 3.
 unfoldable pub nonexistence : Absence → Bytes
 nonexistence a = flat (bytesField 1 (a .key) ∷ neighbourField 2 (a .leftward) ∷ neighbourField 3 (a .rightward) ∷ [])
 
@@ -75,48 +87,13 @@ abbrev pub mostBytes : Proof → ℕ
 mostBytes (presence p) = 14868
 mostBytes (absence a) = 29999
 
--- A raw key has 1 to 256 bytes, a raw value 1 to 4,096.
-abbrev pub mostKey : ℕ
-mostKey = 256
-
-abbrev pub mostValue : ℕ
-mostValue = 4096
-
-pub record Raw (most : ℕ) (x : Bytes) : Type 0 where
-  pub some-byte : 1 ≤ length x
-  pub short : length x ≤ most
-  pub bytes : All Byte x
-
--- What a message may say: raw lengths as above, else as our own records.
-pub record RawPresence (p : Presence) : Type 0 where
-  pub key-raw : Raw mostKey (p .key)
-  pub value-raw : Raw mostValue (p .value)
-  pub short : length (p .steps) ≤ mostSteps
-  pub steps32 : All StepForm (p .steps)
-
-abbrev pub RawNeighbour : Option Presence → Type 0
-RawNeighbour none = Unit {0}
-RawNeighbour (some p) = RawPresence p
-
-abbrev pub RawProof : Proof → Type 0
-RawProof (presence p) = RawPresence p
-RawProof (absence a) =
-    Raw mostKey (a .key)
-    × RawNeighbour (a .leftward)
-    × RawNeighbour (a .rightward)
-    × (1 ≤ flagsOf (a .leftward) (a .rightward))
-
 -- Our own record of what a message says: keys and values hashed.
 module _ (sha : Bytes → Bytes) where
   abbrev pub ownPresence : Presence → Presence
   ownPresence p = record { key = sha (p .key); value = sha (p .value); steps = p .steps }
 
-  abbrev pub ownNeighbour : Option Presence → Option Presence
-  ownNeighbour none = none
-  ownNeighbour (some p) = some (ownPresence p)
-
   abbrev pub ownProof : Proof → Proof
   ownProof (presence p) = presence (ownPresence p)
   ownProof (absence a) =
-      absence
-      (record { key = sha (a .key); leftward = ownNeighbour (a .leftward); rightward = ownNeighbour (a .rightward) })
+      let own = Option·map ownPresence in
+      absence (record { key = sha (a .key); leftward = own (a .leftward); rightward = own (a .rightward) })

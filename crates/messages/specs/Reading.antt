@@ -10,7 +10,7 @@ use Rattle.terms.specs.Bits.{Bytes, sameBytes}
 use Rattle.terms.specs.Fields.{allOf}
 use Rattle.terms.specs.Records.{Step, Presence, Absence, Proof, presence, absence}
 use Rattle.proofrecords.specs.ProofBytes.{mostSteps}
-use Rattle.messages.specs.Message.{leafOp, mostKey, mostValue}
+use Rattle.messages.specs.Raws.{leafOp, mostKey, mostValue}
 
 -- Goes on with what was read, and only if a test passes.
 unfoldable pub onward : {A B : Type 0} → Option A → (A → Option B) → Option B

@@ -70,15 +70,3 @@ spotsIn (presence p) =
 spotsIn (absence a) =
     let s = length (fieldHead 2 (nonexistence a)) in
     leafSpots (keySpot s (a .key)) (s + length (bytesField 1 (a .key))) (a .leftward) (a .rightward)
-
--- Bytes stand at a spot of a message.
-abbrev pub StandsAt : Bytes → Spot → Bytes → Type 0
-StandsAt m spot x = slice (spot .at) (spot .size) m ≡ x
-
--- Each raw key and value stands in the message where the spots say.
-pub record Stand (m : Bytes) (spots : Spots) (lent : Lent) : Type 0 where
-  pub asked-there : StandsAt m (spots .asked) (lent .asked)
-  pub key1-there : StandsAt m (spots .key1) (lent .first .key)
-  pub value1-there : StandsAt m (spots .value1) (lent .first .value)
-  pub key2-there : StandsAt m (spots .key2) (lent .second .key)
-  pub value2-there : StandsAt m (spots .value2) (lent .second .value)

@@ -1,6 +1,6 @@
 // The tests of a move, document 02, request 2026-10: the sizes of source and target, then the source, which is checked where it lies.
 use check_store::check;
-use layout::size_right;
+use header_form::size_right;
 use refusal_numbers::WRONG_SIZE;
 use store::slot_count;
 use terms::Form;

@@ -6,7 +6,8 @@ use mathlib.Core.List.{List, [], _∷_}
 use lib.ListN.{length, getD, replicate}
 use Rattle.terms.specs.Records.{Body, leafBody, innerBody, Tally, tally, noTally, Record, Slot, free, used, spoiled}
 use Rattle.meaning.specs.Store.{onRecord}
-use Rattle.moved.specs.Moving.{counting, recounted, uncounted}
+use Rattle.moved.specs.Moving.{counting, recounted}
+use Rattle.moved.specs.Plain.{uncounted}
 use Rattle.move_put.specs.Put.{tallyAt, tallyOf, tallied, talliedFrom}
 
 pub tallied-anew : (g : Record → Tally) (t : List ℕ) (k : ℕ) (xs : List Slot) →

@@ -1,5 +1,5 @@
 // A store written in the other form, document 02, request 2026-10: each record in its slot, as it was, with the counts that a table has for it.
-use layout::put_header;
+use header::put_header;
 use slots::Kind;
 use slots::grant_of;
 use slots::read_slot;

@@ -10,7 +10,8 @@ use Rattle.terms.specs.Form.{FormedAs}
 use Rattle.terms.proofs.Lists.{all-of}
 use Rattle.meaning.specs.Sound.{At, Sound}
 use Rattle.nodehash.specs.Node.{leafHash, innerHash}
-use Rattle.moved.specs.Moving.{over, back, Plain}
+use Rattle.moved.specs.Moving.{over, back}
+use Rattle.moved.specs.Plain.{Plain}
 use Rattle.moved.proofs.Theorems.{over-is-sound, back-is-sound, back-is-plain}
 use Rattle.layout.specs.Slots.{SlotForm}
 use Rattle.layout.specs.Stores.{StoreForm}

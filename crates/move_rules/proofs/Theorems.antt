@@ -5,23 +5,24 @@ use native.Mathlib.Omega.{arith}
 use mathlib.Core.Path.{_≡_, refl, ap, ap₂, sym, _∙_, subst}
 use mathlib.Core.Bool.{Bool, true, false, cond, _&&_}
 use mathlib.Core.List.{List}
-use lib.ListN.{length, getD}
+use lib.ListN.{length}
 use lib.Dec.{leb, ltb}
 use Rattle.terms.specs.declared.Form.{Form}
 use Rattle.terms.specs.declared.Form.the-variants.{Plain as plain, Counted as counted}
 use Rattle.terms.specs.Bits.{Bytes, Byte, All}
-use Rattle.terms.specs.Records.{Tally, Record, Slot, free, used, spoiled, Store}
+use Rattle.terms.specs.Records.{free, Store}
 use Rattle.terms.specs.Form.{FormedAs}
 use Rattle.terms.proofs.Lists.{all-at}
 use Rattle.meaning.specs.Tree.{VTree, grantsIn}
-use Rattle.meaning.specs.Store.{treeAtVersion, onRecord}
+use Rattle.meaning.specs.Store.{treeAtVersion}
 use Rattle.meaning.specs.Sound.{At, Sound}
 use Rattle.meaning.specs.Calls.{Answer, refused, accepted, refuse, isKept}
 use Rattle.changed.specs.Changes.{Item, changed, items, itemSize}
 use Rattle.changed.specs.Visits.{visits}
 use Rattle.changed.specs.Compare.{compare, changesOf, visitsOf}
-use Rattle.moved.specs.Moving.{SameBut, both-free, both-used, both-spoiled, counting, uncounted, countsIn, over, back, Plain}
-use Rattle.moved.proofs.Recounted.{length-anew, slots-anew}
+use Rattle.moved.specs.Moving.{countsIn, over, back}
+use Rattle.moved.specs.Plain.{uncounted, Plain}
+use Rattle.moved.proofs.Recounted.{length-anew}
 use Rattle.moved.proofs.Theorems.{over-is-sound, back-is-sound, there-and-back, back-and-there, over-tree, back-tree, over-proof, back-proof, over-key-read, back-key-read, over-root-read, back-root-read}
 use Rattle.nodehash.specs.Node.{leafHash, innerHash}
 use Rattle.layout.specs.Sizes.{roomOf}
@@ -73,20 +74,13 @@ module _ (first second limit room : ℕ) where
       ∙ ap₂ (comparedBy (st .oldest) (st .latest)) (trees first) (trees second)
       ∙ sym (by-trees st)
 
--- a slot counted anew holds what it held
-same-anew : (g : Record → Tally) (x : Slot) → SameBut x (onRecord (λ r. used (counting (g r) r)) x)
-same-anew g free = both-free
-same-anew g (used r) = both-used r (g r)
-same-anew g (spoiled x) = both-spoiled x
-
 module _ (st : Store) where
   pub over-alike : Alike st (over st)
   unfolding over
   over-alike = record {
     oldest = refl;
     latest = refl;
-    many = length-anew (countsIn (st .slots)) (st .slots);
-    slots = λ i. subst (SameBut (getD (st .slots) i free)) (sym (slots-anew (countsIn (st .slots)) (st .slots) i)) (same-anew (countsIn (st .slots)) (getD (st .slots) i free));
+    slots = (countsIn (st .slots), refl);
     trees = over-tree st;
     roots = λ v. over-root-read st v leafHash innerHash;
     keys = over-key-read st;
@@ -99,8 +93,7 @@ module _ (st : Store) where
   back-alike = record {
     oldest = refl;
     latest = refl;
-    many = length-anew uncounted (st .slots);
-    slots = λ i. subst (SameBut (getD (st .slots) i free)) (sym (slots-anew uncounted (st .slots) i)) (same-anew uncounted (getD (st .slots) i free));
+    slots = (uncounted, refl);
     trees = back-tree st;
     roots = λ v. back-root-read st v leafHash innerHash;
     keys = back-key-read st;
@@ -111,6 +104,9 @@ module _ (st : Store) where
   pub moved-alike : (from : Form) → Alike st (movedFrom from st)
   moved-alike plain = over-alike
   moved-alike counted = back-alike
+
+  moved-many : (from : Form) → length (movedFrom from st .slots) ≡ length (st .slots)
+  moved-many from = let a = moved-alike from .slots in ap length (a .1) ∙ length-anew (a .0) (st .slots)
 
   moved-is-sound : (from : Form) → Sound leafHash innerHash st → Sound leafHash innerHash (movedFrom from st)
   moved-is-sound plain w = over-is-sound leafHash innerHash st w
@@ -178,7 +174,7 @@ module _ {from : Form} {s t : Bytes} (b : All Byte s) (w : SoundIn from s) (left
       record {
         source = size;
         target = ap (sizeRight from) e ∙ right;
-        equal = room ∙ moved-alike st from .many ∙ slot-count s (w .capacity) (w .oldest) (w .latest) b was-accepted ∙ sym its ∙ ap (roomOf from) (sym e);
+        equal = room ∙ moved-many st from ∙ slot-count s (w .capacity) (w .oldest) (w .latest) b was-accepted ∙ sym its ∙ ap (roomOf from) (sym e);
       }
 
   moved-again : {old₂ u : Bytes} {n : ℕ} → length old₂ ≡ length s → Moves (other from) t old₂ n u → (n ≡ 0) × (u ≡ s)

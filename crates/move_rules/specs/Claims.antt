@@ -1,16 +1,16 @@
 -- What an accepted move is worth, in the words of document 02, request 2026-10. Assumes nothing.
 use Prim.Native.Nat.{ℕ}
 use mathlib.Core.Path.{_≡_}
-use lib.ListN.{length, getD}
+use lib.ListN.{length}
 use Rattle.terms.specs.declared.Form.{Form}
 use Rattle.terms.specs.Bits.{Bytes}
-use Rattle.terms.specs.Records.{free, Store}
+use Rattle.terms.specs.Records.{Tally, Record, Store}
 use Rattle.meaning.specs.Store.{treeAtVersion}
 use Rattle.meaning.specs.Sound.{Sound}
 use Rattle.meaning.specs.Reading.{readKey, readRoot}
 use Rattle.meaning.specs.Proving.{proof}
 use Rattle.changed.specs.Compare.{compare}
-use Rattle.moved.specs.Moving.{SameBut}
+use Rattle.moved.specs.Moving.{recounted}
 use Rattle.nodehash.specs.Node.{leafHash, innerHash}
 use Rattle.layout.specs.Headers.{header, headerOf}
 use Rattle.layout.specs.Stores.{storeIn, storeBytes}
@@ -29,8 +29,7 @@ pub record Alike (st st′ : Store) : Type 0 where
   pub oldest : st′ .oldest ≡ st .oldest
   pub latest : st′ .latest ≡ st .latest
   -- slots are kept: each holds what it held, but for counts
-  pub many : length (st′ .slots) ≡ length (st .slots)
-  pub slots : (i : ℕ) → SameBut (getD (st .slots) i free) (getD (st′ .slots) i free)
+  pub slots : (g : Record → Tally) × (st′ .slots ≡ recounted g (st .slots))
   -- every version has the same tree, root and reads, and its proofs are the same
   pub trees : (v : ℕ) → treeAtVersion st′ v ≡ treeAtVersion st v
   pub roots : (v : ℕ) → readRoot leafHash innerHash st′ v ≡ readRoot leafHash innerHash st v

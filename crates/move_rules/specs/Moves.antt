@@ -1,6 +1,5 @@
 -- Document 02, request 2026-10: what a move answers for any bytes of a source and of a target, and what it leaves of
--- the target. 'A source or target of wrong size gives 1, then a wrong header 2, an unsound source 3.' The target's
--- former bytes don't matter. Assumes nothing.
+-- the target, whose former bytes don't matter. Assumes nothing.
 use Prim.Native.Nat.{ℕ}
 use mathlib.Core.Path.{_≡_}
 use mathlib.Core.Bool.{true}

@@ -4,7 +4,8 @@ use mathlib.Core.List.{List, [], _∷_}
 use Rattle.terms.specs.Bits.{Bytes, All}
 use Rattle.terms.specs.Records.{Store}
 use Rattle.meaning.specs.Computed.{computed}
-use Rattle.meaning.specs.Desk.{s₁, s₂, s₆, s₈, s₉, g₁₅}
+use Rattle.meaning.specs.Desk.{s₁, s₂, s₆, s₈, s₉}
+use Rattle.meaning.specs.DeskGaps.{g₁₅}
 use Rattle.moved.specs.Moving.{counting, countsIn, over, back}
 
 module _ (leafHash innerHash : Bytes → Bytes → Bytes) where

@@ -13,7 +13,7 @@ use Rattle.terms.specs.Records.{Child, Tally, Record, Store}
 use Rattle.meaning.specs.Store.{find, rootOf}
 use Rattle.meaning.specs.Sight.{Sight, matches, nothing, spoilt, agrees, agreesRoot, lowestSpoilt, sighted, rootSight, nodeSight, scan}
 use Rattle.meaning.specs.Calls.{refused, isKept}
-use Rattle.meaning.specs.Reading.{Seen, gap, lost, lostRecord, seenBody, seenChild, seenAt, seenRoot, seen, walk, readEnd, readKey, rootRead, readRoot}
+use Rattle.meaning.specs.Reading.{Seen, gap, stoppedBy, lostRecord, seenBody, seenChild, seenAt, seenRoot, seen, walk, readEnd, readKey, rootRead, readRoot}
 use Rattle.meaning.specs.Proving.{emptyVersion, proveSeen, proof}
 use Rattle.moved.specs.Moving.{counting}
 use Rattle.moved.proofs.Recounted.{anew, found, find-anew, roots-anew, spoilt-anew, moved}
@@ -55,7 +55,7 @@ module _ (g : Record → Tally) (st : Store) (form : Form) where
   at-anew : (n : ℕ) (p : Place) (c : Child) → seenAt n (scan st′) p c ≡ seenAt n (scan st) p c
   at-anew zero p c =
       ap (cond (eqb (c .version) 0) gap)
-      (ap (λ x. seenChild p x (λ b d. lost lostRecord)) (node-anew (c .version) p) ∙ child-anew p (nodeSight st (c .version) p) _ _ (λ b d. refl))
+      (ap (λ x. seenChild p x (λ b d. stoppedBy lostRecord)) (node-anew (c .version) p) ∙ child-anew p (nodeSight st (c .version) p) _ _ (λ b d. refl))
   at-anew (suc n) p c =
       ap (cond (eqb (c .version) 0) gap)
       (ap (λ x. seenChild p x (λ b d. seenAt n (scan st′) (longer b p) d)) (node-anew (c .version) p)

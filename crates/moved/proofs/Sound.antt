@@ -23,7 +23,8 @@ use Rattle.meaning.specs.Local.{Local, Linked, missing, found, BodyFits, endsBe
 use Rattle.meaning.proofs.Finding.{free-used, spoiled-used, used-eq, isNode-eq, isNode-refl, miss, hit, Hit, hits, found-in}
 use Rattle.meaning.proofs.Leaves.{few-read}
 use Rattle.local.proofs.Slots.{kidsFrom, record-tree}
-use Rattle.moved.specs.Moving.{counting, recounted, uncounted, SameBut, both-free, both-used, both-spoiled, countsIn, over, back}
+use Rattle.moved.specs.Moving.{counting, recounted, countsIn, over, back}
+use Rattle.moved.specs.Plain.{uncounted, SameBut, both-free, both-used, both-spoiled}
 use Rattle.moved.proofs.Recounted as recount
 use Rattle.moved.proofs.Recounted.{anew, moved, roots-anew, spoiled-was, slots-anew, length-anew, at-anew, at-was, each-anew}
 

@@ -15,11 +15,11 @@ use Rattle.meaning.specs.Store.{treeAtVersion, countsOf}
 use Rattle.meaning.specs.Sound.{At, Kept, Sound}
 use Rattle.meaning.specs.Reading.{readKey, readRoot}
 use Rattle.meaning.specs.Proving.{proof}
-use Rattle.meaning.specs.History.{Entry, entry, Holds}
-use Rattle.meaning.specs.Course.{heldFrom, held}
+use Rattle.meaning.specs.History.{Entry, entry, Holds, entriesFrom, held}
 use Rattle.local.proofs.LocalIsGlobal.{local-is-global}
 use Rattle.local.proofs.Standing.{record-counts}
-use Rattle.moved.specs.Moving.{counting, recounted, uncounted, countsIn, over, back, Plain}
+use Rattle.moved.specs.Moving.{counting, recounted, countsIn, over, back}
+use Rattle.moved.specs.Plain.{uncounted, Plain}
 use Rattle.moved.proofs.Recounted.{tree-anew, each-anew, version-tree}
 use Rattle.moved.proofs.Reading.{key-read-anew, proof-anew, root-read-anew}
 use Rattle.moved.proofs.Sound.{local-over, local-back}
@@ -139,13 +139,13 @@ module _ (st : Store) (v : ℕ) where
 
 -- What a store holds goes with it: it takes over the source's history, and without one it starts with what its kept versions hold.
 module _ (st st′ : Store) (trees : (v : ℕ) → treeAtVersion st′ v ≡ treeAtVersion st v) (low : st .oldest ≡ st′ .oldest) (high : st .latest ≡ st′ .latest) where
-  from-same : (o n : ℕ) → heldFrom st′ o n ≡ heldFrom st o n
+  from-same : (o n : ℕ) → entriesFrom (treeAtVersion st′) o n ≡ entriesFrom (treeAtVersion st) o n
   from-same o zero = ap (λ t. entry o (grantsIn t) ∷ []) (trees o)
   from-same o (suc n) = ap₂ (λ t es. entry (o + suc n) (grantsIn t) ∷ es) (trees (o + suc n)) (from-same o n)
 
   held-same : held st′ ≡ held st
   unfolding held
-  held-same = ap₂ (λ o l. heldFrom st′ o (l - o)) (sym low) (sym high) ∙ from-same (st .oldest) (st .latest - st .oldest)
+  held-same = ap₂ (λ o l. entriesFrom (treeAtVersion st′) o (l - o)) (sym low) (sym high) ∙ from-same (st .oldest) (st .latest - st .oldest)
 
   kept-same : (v : ℕ) → Kept st′ v → Kept st v
   kept-same v k = (omega (arith, k .0), omega (arith, k .1))

@@ -2,107 +2,22 @@
 use lookup::Found;
 use order_look::Look;
 use order_look::compared;
+use order_near::first_near;
 use place::Place;
 use store::version_at;
 use store::wide;
 use terms::Form;
 ghost use mathlib.Core.Path.{_≡_};
 ghost use mathlib.Core.Bool.{true};
-ghost use Prim.Native.Nat.{_<_, _≤_};
-ghost use lib.ListN.{length, getD};
-ghost use Rattle.terms.specs.Bits.{before};
+ghost use Prim.Native.Nat.{_≤_};
+ghost use lib.ListN.{length};
 ghost use Rattle.place.specs.Place.{placeOf, Proper};
 ghost use Rattle.layout.specs.Headers.{sizeRight};
 ghost use Rattle.layout.specs.Stores.{storeOf};
 ghost use Rattle.lookup.specs.Lookup.{FoundIn};
-ghost use Rattle.check_pass.specs.Passes.{Passed};
-ghost use Rattle.ordered.specs.Ordered.{nodeKey, keyNo, Ordered};
-ghost use Rattle.order_find.specs.Finds.{NoLower, First};
-
-// The first entry that isn't before a version and place, by halves.
-fn by_halves(store: &[u8], table: &[u16; 16384], many: usize, version: u32, place: Place) -> usize
-    requires { ⌜ (sizeRight Form.Counted (length (now store)) ≡ true) × (many ≤ 16384) × Ordered (storeOf (now store) .slots) (now table) many × Proper place ⌝ }
-    ensures { λ r. ⌜ First (storeOf (now (store .entry)) .slots) (now (table .entry)) many (nodeKey version (placeOf place)) r ⌝ }
-{
-    let bits = place.bits;
-    let count = place.count;
-    let mut lo = 0;
-    let mut hi = many;
-    while lo < hi {
-        let middle = (lo + hi) / 2;
-        let stands = compared(store, wide(table[middle]), count, &bits, version);
-        match stands {
-            Look::Before => lo = middle + 1,
-            Look::After => hi = middle,
-            Look::Same => hi = middle,
-        }
-    }
-    lo
-}
-
-// Whether entry k is before a version and place.
-fn is_before(
-    store: &[u8],
-    table: &[u16; 16384],
-    many: usize,
-    k: usize,
-    version: u32,
-    place: Place,
-) -> bool
-    requires { ⌜ (sizeRight Form.Counted (length (now store)) ≡ true) × (many ≤ 16384) × Ordered (storeOf (now store) .slots) (now table) many × Proper place × (k < many) ⌝ }
-    ensures { λ r. ⌜ r ≡ before (keyNo (storeOf (now (store .entry)) .slots) (getD (now (table .entry)) k 0)) (nodeKey version (placeOf place)) ⌝ }
-{
-    let bits = place.bits;
-    let count = place.count;
-    let stands = compared(store, wide(table[k]), count, &bits, version);
-    match stands {
-        Look::Before => true,
-        Look::After => false,
-        Look::Same => false,
-    }
-}
-
-// Whether entry k is the first that isn't before a version and place.
-fn is_first(
-    store: &[u8],
-    table: &[u16; 16384],
-    many: usize,
-    k: usize,
-    version: u32,
-    place: Place,
-) -> bool
-    requires { ⌜ (sizeRight Form.Counted (length (now store)) ≡ true) × (many ≤ 16384) × Ordered (storeOf (now store) .slots) (now table) many × Proper place ⌝ }
-    ensures { λ r. ⌜ Passed r (First (storeOf (now (store .entry)) .slots) (now (table .entry)) many (nodeKey version (placeOf place)) k) ⌝ }
-{
-    if k >= many {
-        return false;
-    }
-    if is_before(store, table, many, k, version, place) {
-        return false;
-    }
-    if k == 0 {
-        return true;
-    }
-    is_before(store, table, many, k - 1, version, place)
-}
-
-// The first entry that isn't before a version and place: `near`, where a look says so, else by halves.
-pub fn first_near(
-    store: &[u8],
-    table: &[u16; 16384],
-    many: usize,
-    near: usize,
-    version: u32,
-    place: Place,
-) -> usize
-    requires { ⌜ (sizeRight Form.Counted (length (now store)) ≡ true) × (many ≤ 16384) × Ordered (storeOf (now store) .slots) (now table) many × Proper place ⌝ }
-    ensures { λ r. ⌜ First (storeOf (now (store .entry)) .slots) (now (table .entry)) many (nodeKey version (placeOf place)) r ⌝ }
-{
-    if is_first(store, table, many, near, version, place) {
-        return near;
-    }
-    by_halves(store, table, many, version, place)
-}
+ghost use Rattle.ordered.specs.Ordered.{nodeKey, Ordered};
+ghost use Rattle.order_halves.specs.First.{First};
+ghost use Rattle.order_find.specs.Finds.{NoLower};
 
 // A guess where the root of a version is, right where numbers have no gaps: roots stand first in the order, by version. For another place none.
 fn root_guess(store: &[u8], table: &[u16; 16384], many: usize, version: u32, place: Place) -> usize

@@ -1,7 +1,7 @@
 // A table to find by, made for one call on its own stack: a sort guesses the order, a look says whether it is right, and where it isn't there is no table.
 use check_sort::sort;
-use order_look::names_form;
-use order_look::ordered;
+use order_table::names_form;
+use order_table::ordered;
 use store::slot_count;
 use store::wide;
 use terms::Form;

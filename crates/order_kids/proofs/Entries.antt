@@ -18,8 +18,7 @@ use Rattle.ordered.specs.Ordered.{keyNo, Ordered, LeadsIf}
 use Rattle.order_look.specs.Looks.{keyIn, Stands, Formed}
 use Rattle.order_look.specs.declared.Look as declared
 use Rattle.order_look.specs.declared.Look.the-variants.{Before}
-use Rattle.order_look.proofs.Keys.{key-in}
-use Rattle.order_look.proofs.Passed.{inside}
+use Rattle.order_look.proofs.Keys.{inside, key-in}
 use Rattle.order_kids.specs.Kids.{Tabled}
 
 -- two slots in form, by how the first stands to the key that the second's bytes say

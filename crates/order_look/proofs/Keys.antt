@@ -1,5 +1,5 @@
 -- Keys are compared field by field, and the key that a slot's bytes say is that of the record in it. Assumes nothing.
-use Prim.Native.Nat.{ℕ, suc, _<_, _≤_}
+use Prim.Native.Nat.{ℕ, zero, suc, _<_, _≤_}
 use native.Mathlib.Omega.{arith}
 use mathlib.Core.Path.{_≡_, refl, ap, ap₂, sym, _∙_, subst, subst₂}
 use mathlib.Core.Logic.{_⊎_, inl, inr}
@@ -10,7 +10,8 @@ use lib.Dec.{ltb, eqb}
 use borrow.Author.Tests.{lt-ltb, le-ltb, eq-eqb}
 use Rattle.terms.specs.declared.Form.the-variants.{Counted as counted}
 use Rattle.terms.specs.Bits.{Bytes, Byte, All, before}
-use Rattle.terms.specs.Records.{Record, used}
+use Rattle.terms.specs.Records.{Record, Slot, free, used}
+use Rattle.meaning.proofs.Finding.{free-used}
 use Rattle.layout.specs.Slots.{countIn, bitsIn, versionIn, slotOf}
 use Rattle.layout.specs.Stores.{slotIn, storeOf, slotNo, Has}
 use Rattle.store.proofs.Slots.{slot-long, slot-bytes, slot-within, slot-is}
@@ -20,6 +21,12 @@ use Rattle.ordered.proofs.Ordered.{key-of}
 use Rattle.order_look.specs.declared.Look as declared
 use Rattle.order_look.specs.declared.Look.the-variants.{Before, After, Same}
 use Rattle.order_look.specs.Looks.{headKey, keyIn, BytesStand, VersionsStand, Formed}
+
+-- a slot that holds a record is one of the store's
+pub inside : (s : List Slot) (i : ℕ) (r : Record) → getD s i free ≡ used r → i < length s
+inside [] i r e = free-used r e
+inside (x ∷ s) zero r e = omega arith
+inside (x ∷ s) (suc i) r e = let l = inside s i r e in omega arith
 
 pub before-longer : (xs ys us ws : Bytes) → length xs ≡ length ys → before xs ys ≡ true → before (xs ++ us) (ys ++ ws) ≡ true
 before-longer [] [] us ws l e = absurd (false≢true e)

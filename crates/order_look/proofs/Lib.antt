@@ -1,3 +1,2 @@
 pub mod Keys
-pub mod Passed
 pub mod Numbers

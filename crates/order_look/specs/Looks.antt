@@ -1,14 +1,13 @@
--- What a look at a slot's head says, and what the passes over a table leave. Assumes nothing.
-use Prim.Native.Nat.{ℕ, suc, _<_}
+-- What a look at a slot's head says. Assumes nothing.
+use Prim.Native.Nat.{ℕ, _<_}
 use mathlib.Core.Path.{_≡_}
 use mathlib.Core.Bool.{true}
-use mathlib.Core.List.{List, [], _∷_, _++_}
-use lib.ListN.{getD}
+use mathlib.Core.List.{[], _∷_, _++_}
 use Rattle.terms.specs.declared.Form.the-variants.{Counted as counted}
 use Rattle.terms.specs.Bits.{Bytes, before}
 use Rattle.layout.specs.Slots.{countIn, bitsIn, versionIn}
 use Rattle.layout.specs.Stores.{storeOf, Has}
-use Rattle.ordered.specs.Ordered.{InForm, Ahead, Named}
+use Rattle.ordered.specs.Ordered.{InForm}
 use Rattle.order_look.specs.declared.Look as declared
 use Rattle.order_look.specs.declared.Look.the-variants.{Before, After, Same}
 
@@ -39,12 +38,3 @@ Stands r x key = BytesStand r (keyIn x) key
 -- Slot i is one of the store's, and in form.
 abbrev pub Formed : Bytes → ℕ → Type 0
 Formed s i = Has counted s i × InForm (storeOf s .slots) i
-
--- The first m entries name slots in form in ascending order.
-pub record InOrder (s : Bytes) (t : List ℕ) (m : ℕ) : Type 0 where
-  pub each : (k : ℕ) → k < m → Formed s (getD t k 0)
-  pub steps : (k : ℕ) → suc k < m → Ahead (storeOf s .slots) (getD t k 0) (getD t (suc k) 0)
-
--- Slot i is named, if it is in form.
-abbrev pub NamedNo : Bytes → List ℕ → ℕ → ℕ → Type 0
-NamedNo s t m i = InForm (storeOf s .slots) i → Named t m i

@@ -2,7 +2,7 @@
 use Prim.Native.Nat.{ℕ}
 use mathlib.Core.Path.{_≡_, ap, sym, _∙_}
 use mathlib.Core.List.{List}
-use mathlib.Core.Option.{none, some}
+use mathlib.Core.Option.{Option}
 use lib.ListN.{length}
 use Rattle.terms.specs.Bits.{Bytes}
 use Rattle.terms.specs.Fields.{le}
@@ -10,45 +10,35 @@ use Rattle.fields.specs.Written.{written}
 use Rattle.fields.proofs.Written.{number-fills}
 use Rattle.terms.specs.Records.{Proof}
 use Rattle.meaning.specs.Calls.{Answer, refused}
-use Rattle.meaning.specs.Answers.{numberOf, roomAfter}
-use Rattle.meaning.proofs.Told.{told-refused, told-given}
+use Rattle.meaning.specs.Answers.{roomAfter}
+use Rattle.meaning.proofs.Told.{told-refused, told-given, exported-as, exported-refusal}
 use Rattle.palette_rules.specs.Palette.{lengthTogether}
 use Rattle.prove.specs.Parts.{provedSays}
 use Rattle.prove.specs.declared.Proved as declared
 use Rattle.prove.specs.declared.Proved.the-variants.{Refused, Length}
-use Rattle.contracts.specs.Palettes.{paletteAnswer, palettedInto, lengthBytes, Palettes, PalettesBy, proofsBytes}
-use Rattle.palette.specs.Parts.{Gives}
+use Rattle.contracts.specs.Palettes.{paletteAnswer, PalettesBy, proofsBytes}
+use Rattle.palette_give.specs.Together.{Gives}
 use Rattle.palette_c.specs.Export.{PaletteTold}
 
 module _ {a : Answer (List Proof)} {room after : Bytes} {r : declared.Proved} (gives : Gives a room after r) (old : Bytes) where
   pub palette-refused : {n : ℕ} → r ≡ Refused n → PaletteTold a room old n after old
   unfolding provedSays
   palette-refused {n} e =
-      let t = told-refused lengthTogether a n old (sym (ap provedSays e) ∙ gives .answer) in
-      record { answer = t .number; proofs = gives .bytes; told = t .told }
+      record { exported = told-refused lengthTogether a n old (sym (ap provedSays e) ∙ gives .answer); proofs = gives .bytes }
 
   pub palette-given : {n : ℕ} {new : Bytes} → r ≡ Length n → length old ≡ 4 → new ≡ written 0 (le 4 n) old → PaletteTold a room old 0 after new
   unfolding provedSays
   palette-given {n} {new} e l w =
-      let t = told-given lengthTogether a n old new (sym (ap provedSays e) ∙ gives .answer) (w ∙ number-fills n old l) in
-      record { answer = t .number; proofs = gives .bytes; told = t .told }
+      record { exported = told-given lengthTogether a n old new (sym (ap provedSays e) ∙ gives .answer) (w ∙ number-fills n old l); proofs = gives .bytes }
 
 -- what is told of an answer is told of its equal; and a refusal, which writes nothing
 pub palette-as : {a b : Answer (List Proof)} {room f t g : Bytes} {r : ℕ} → a ≡ b → PaletteTold a room f r t g → PaletteTold b room f r t g
-palette-as {room = room} {f = f} e w = record {
-  answer = w .answer ∙ ap numberOf e;
-  proofs = w .proofs ∙ ap (λ x. roomAfter proofsBytes x room) e;
-  told = w .told ∙ ap (λ x. lengthBytes x f) e;
-}
+palette-as {room = room} e w = record { exported = exported-as e (w .exported); proofs = w .proofs ∙ ap (λ x. roomAfter proofsBytes x room) e }
 
 pub palette-refusal : {b : Answer (List Proof)} (n : ℕ) (room f : Bytes) → refused n ≡ b → PaletteTold b room f n room f
-palette-refusal n room f e = record { answer = ap numberOf e; proofs = ap (λ x. roomAfter proofsBytes x room) e; told = ap (λ x. lengthBytes x f) e }
+palette-refusal n room f e = record { exported = exported-refusal e; proofs = ap (λ x. roomAfter proofsBytes x room) e }
 
 -- an answer that is told is what the contract says
-module _ {s : Bytes} {v : ℕ} {list room f : Bytes} {r : ℕ} {t g : Bytes} where
-  pub palette-told : PaletteTold (palettedInto s none v list room) room f r t g → Palettes s v list room f r t g
-  palette-told w = record { answer = w .answer; proofs = w .proofs; told = w .told }
-
-  pub palette-told-by : {table : List ℕ} → PaletteTold (paletteAnswer s (some table) v list (length room)) room f r t g →
-      PalettesBy s table v list room f r t g
-  palette-told-by w = record { answer = w .answer; proofs = w .proofs; told = w .told }
+pub palette-told : {s : Bytes} {by : Option (List ℕ)} {v : ℕ} {list room f t g : Bytes} {r : ℕ} →
+    PaletteTold (paletteAnswer s by v list (length room)) room f r t g → PalettesBy s by v list room f r t g
+palette-told w = record { exported = w .exported; proofs = w .proofs }

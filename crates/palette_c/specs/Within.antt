@@ -6,7 +6,7 @@ use lib.ListN.{length}
 use Rattle.terms.specs.Bits.{Bytes}
 use Rattle.terms.specs.Records.{Proof}
 use Rattle.meaning.specs.Calls.{Answer}
-use Rattle.palette.specs.Parts.{paletteAnswerBy}
+use Rattle.palette.specs.Answer.{paletteAnswerBy}
 
 abbrev pub palettedBy : Bytes → List ℕ → ℕ → Bytes → Bytes → Answer (List Proof)
 palettedBy s table v list room = paletteAnswerBy s table v list (length room)

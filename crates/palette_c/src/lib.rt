@@ -1,11 +1,12 @@
 // Several proofs at the boundary: the call answers 0 where it is accepted, else the number of refusal, and then it writes nothing. `grants` exports it.
 use fields::put_u32;
+use key_list::whole_keys;
 use palette::palette;
-use palette::whole_keys;
 use prove::Proved;
 use read_open::as_many;
 use refusal_numbers::NOT_32_BYTES;
 use refusal_numbers::WRONG_SIZE;
+ghost use mathlib.Core.Option.{some};
 ghost use Rattle.palette_c.specs.Export.{PaletteTold};
 ghost use Rattle.contracts.specs.Palettes.{Palettes, PalettesBy};
 ghost use Rattle.palette_c.specs.Within.{palettedBy};
@@ -53,7 +54,7 @@ pub fn palette_indexed(
     room: &mut [u8],
     length: &mut [u8; 4],
 ) -> u64
-    ensures { λ r. ⌜ PalettesBy (now (store .entry)) (now (index .entry)) version (now (keys .entry)) (now (room .entry)) (now (length .entry)) r (now (room .exit)) (now (length .exit)) ⌝ }
+    ensures { λ r. ⌜ PalettesBy (now (store .entry)) (some (now (index .entry))) version (now (keys .entry)) (now (room .entry)) (now (length .entry)) r (now (room .exit)) (now (length .exit)) ⌝ }
 {
     if !whole_keys(keys) {
         return NOT_32_BYTES as u64;

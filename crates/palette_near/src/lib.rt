@@ -8,7 +8,7 @@ use read_step::Seen;
 use read_step::child_version;
 use read_step::root;
 use sights::Sight;
-use slots::is_leaf;
+use slots_form::is_leaf;
 use store::slot_count;
 use store::slot_of;
 use store::wide;

@@ -2,16 +2,16 @@
 use Prim.Native.Nat.{ℕ}
 use native.Mathlib.Omega.{arith}
 use mathlib.Core.Path.{_≡_, refl, ap, ap₂, sym, _∙_, subst}
-use mathlib.Core.Logic.{_↔_}
+use mathlib.Core.Logic.{_↔_, inl, inr}
 use mathlib.Core.Bool.{true}
-use mathlib.Core.List.{List, [], _∷_, _++_}
+use mathlib.Core.List.{List, [], _∷_, map}
 use borrow.Author.Tests.{le-ltb}
-use Rattle.terms.specs.Bits.{Bytes, All}
+use Rattle.terms.specs.Bits.{Bytes}
 use Rattle.terms.specs.Records.{Proof, Store}
 use Rattle.meaning.specs.Calls.{Answer, refused, accepted, isKept}
 use Rattle.meaning.specs.Proving.{proof}
 use Rattle.palette_rules.specs.Palette.{followed, inTurn, fittedTogether, palette}
-use Rattle.palette_rules.specs.Claims.{ProofOfEach, Proved, FirstAsked, FirstRefused}
+use Rattle.palette_rules.specs.Claims.{ProofOfEach, FirstAsked, FirstRefused}
 
 clash : {A B : Type 0} {n : ℕ} {a : B} → refused n ≡ accepted a → A
 clash e = let z : _≡_ {A = ℕ} 0 1 = cc in absurd (omega arith)
@@ -40,36 +40,43 @@ module _ (single : Bytes → Answer Proof) where
   each-proved (k ∷ keys) [] h = absurd h
   each-proved (k ∷ keys) (p ∷ ps) h = ap₂ followed (h .0) (each-proved keys ps (h .1))
 
+  -- each has its proof exactly if the answers are these
+  pub each-mapped : (keys : List Bytes) (ps : List Proof) → (map single keys ≡ map accepted ps) ↔ ProofOfEach single keys ps
+  each-mapped [] [] = (λ e. tt, λ h. refl)
+  each-mapped [] (p ∷ ps) = (λ e. let z : _≡_ {A = ℕ} 0 1 = cc in absurd (omega arith), λ h. absurd h)
+  each-mapped (k ∷ keys) [] = (λ e. let z : _≡_ {A = ℕ} 0 1 = cc in absurd (omega arith), λ h. absurd h)
+  each-mapped (k ∷ keys) (p ∷ ps) = (
+    λ e. let first : single k ≡ accepted p = cc in let rest : map single keys ≡ map accepted ps = cc in (first, each-mapped keys ps .0 rest),
+    λ h. ap₂ _∷_ (h .0) (each-mapped keys ps .1 (h .1)),
+  )
+
   -- refused exactly with the first refusal
-  one-more : {P : Bytes → Type 0} (k : Bytes) (keys : List Bytes) → Proved single k → FirstAsked single P keys → FirstAsked single P (k ∷ keys)
-  one-more k keys p w = record {
-    earlier = k ∷ w .earlier;
-    key = w .key;
-    later = w .later;
-    order = ap (k ∷_) (w .order);
-    proved = (p, w .proved);
-    holds = w .holds;
-  }
+  pub asked-as : {P Q : Bytes → Type 0} → ((k : Bytes) → P k → Q k) → (keys : List Bytes) → FirstAsked single P keys → FirstAsked single Q keys
+  asked-as f [] w = w
+  asked-as f (k ∷ keys) (inl h) = inl (f k h)
+  asked-as f (k ∷ keys) (inr (p, e, w)) = inr (p, e, asked-as f keys w)
+
+  pub one-asked : {P : Bytes → Type 0} (keys : List Bytes) → FirstAsked single P keys → (k : Bytes) × P k
+  one-asked [] w = absurd w
+  one-asked (k ∷ keys) (inl h) = (k, h)
+  one-asked (k ∷ keys) (inr (p, e, w)) = one-asked keys w
 
   followed-refused : (k : Bytes) (keys : List Bytes) (n : ℕ) (a : Answer Proof) (b : Answer (List Proof)) → single k ≡ a → inTurn single keys ≡ b →
       followed a b ≡ refused n → ((m : ℕ) → inTurn single keys ≡ refused m → FirstRefused single keys m) → FirstRefused single (k ∷ keys) n
   followed-refused k keys n (refused m) b ea eb e h =
-      let z : m ≡ n = cc in record { earlier = []; key = k; later = keys; order = refl; proved = tt; holds = ea ∙ ap refused z }
+      let z : m ≡ n = cc in inl (ea ∙ ap refused z)
   followed-refused k keys n (accepted p) (refused m) ea eb e h =
-      let z : m ≡ n = cc in one-more k keys (p, ea) (subst (FirstRefused single keys) z (h m eb))
+      let z : m ≡ n = cc in inr (p, ea, subst (FirstRefused single keys) z (h m eb))
   followed-refused k keys n (accepted p) (accepted qs) ea eb e h = clash (sym e)
 
   pub first-refused : (keys : List Bytes) (n : ℕ) → inTurn single keys ≡ refused n → FirstRefused single keys n
   first-refused [] n e = clash (sym e)
   first-refused (k ∷ keys) n e = followed-refused k keys n (single k) (inTurn single keys) refl refl e (λ m f. first-refused keys m f)
 
-  refused-at : (earlier : List Bytes) (key : Bytes) (later : List Bytes) (n : ℕ) → All (Proved single) earlier → single key ≡ refused n →
-      inTurn single (earlier ++ (key ∷ later)) ≡ refused n
-  refused-at [] key later n h e = ap (λ a. followed a (inTurn single later)) e
-  refused-at (k ∷ earlier) key later n h e = ap₂ followed (h .0 .1) (refused-at earlier key later n (h .1) e)
-
   pub refused-first : (keys : List Bytes) (n : ℕ) → FirstRefused single keys n → inTurn single keys ≡ refused n
-  refused-first keys n w = ap (inTurn single) (w .order) ∙ refused-at (w .earlier) (w .key) (w .later) n (w .proved) (w .holds)
+  refused-first [] n w = absurd w
+  refused-first (k ∷ keys) n (inl e) = ap (λ a. followed a (inTurn single keys)) e
+  refused-first (k ∷ keys) n (inr (p, e, w)) = ap₂ followed e (refused-first keys n w)
 
   -- In turn: the proof of each, or the first refusal.
   pub in-turn-gives-each : (keys : List Bytes) (ps : List Proof) → (inTurn single keys ≡ accepted ps) ↔ ProofOfEach single keys ps

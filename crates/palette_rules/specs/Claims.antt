@@ -1,8 +1,9 @@
 -- Document 02, request 2026-04, in words: which single calls the answer is made of. Assumes nothing.
 use Prim.Native.Nat.{ℕ}
 use mathlib.Core.Path.{_≡_}
-use mathlib.Core.List.{List, [], _∷_, _++_}
-use Rattle.terms.specs.Bits.{Bytes, All}
+use mathlib.Core.Logic.{_⊎_}
+use mathlib.Core.List.{List, [], _∷_}
+use Rattle.terms.specs.Bits.{Bytes}
 use Rattle.terms.specs.Records.{Proof}
 use Rattle.meaning.specs.Calls.{Answer, refused, accepted}
 
@@ -13,18 +14,10 @@ ProofOfEach single [] (p ∷ ps) = ⊥
 ProofOfEach single (k ∷ keys) [] = ⊥
 ProofOfEach single (k ∷ keys) (p ∷ ps) = (single k ≡ accepted p) × ProofOfEach single keys ps
 
--- A single call that is given its proof.
-abbrev pub Proved : (Bytes → Answer Proof) → Bytes → Type 0
-Proved single k = (p : Proof) × (single k ≡ accepted p)
-
--- A key of the list of which P holds, where each before it, in the order asked, is given its proof.
-pub record FirstAsked (single : Bytes → Answer Proof) (P : Bytes → Type 0) (keys : List Bytes) : Type 0 where
-  pub earlier : List Bytes
-  pub key : Bytes
-  pub later : List Bytes
-  pub order : keys ≡ earlier ++ (key ∷ later)
-  pub proved : All (Proved single) earlier
-  pub holds : P key
+-- P holds of a key of the list, and each before it, in the order asked, is given its proof.
+abbrev pub FirstAsked : (Bytes → Answer Proof) → (Bytes → Type 0) → List Bytes → Type 0
+FirstAsked single P [] = ⊥
+FirstAsked single P (k ∷ keys) = P k ⊎ ((p : Proof) × (single k ≡ accepted p) × FirstAsked single P keys)
 
 -- The first single call refused, in the order asked, is refused with n.
 abbrev pub FirstRefused : (Bytes → Answer Proof) → List Bytes → ℕ → Type 0

@@ -6,7 +6,7 @@ use mathlib.Core.Path.{_≡_, refl, ap, ap₂, sym, _∙_, subst}
 use mathlib.Core.Logic.{_↔_}
 use mathlib.Core.Bool.{Bool, true, false, cond, _&&_, _||_, not, Bool·beq, false≢true}
 use mathlib.Core.List.{List, [], _∷_, _++_, map, reverse, reverse-cons, append-nil}
-use mathlib.Core.Option.{Option, none, some}
+use mathlib.Core.Option.{Option, none, some, Option·map, bind}
 use lib.ListN.{length, take, drop, length-map}
 use lib.Dec.{eqb, leb, ltb}
 use borrow.Author.Tests.{le-leb}
@@ -17,38 +17,17 @@ use Rattle.terms.proofs.Tests.{and-left, and-right, and-true, and-assoc, same-b
 use Rattle.terms.proofs.Lists.{all-append}
 use Rattle.proofrecords.specs.ProofBytes.{StepForm, mostSteps}
 use Rattle.meaning.specs.Checking.{keepsTo, outermost, sameStep, partFromTop, pathsPart, parentHash, climb, leadsTo, neighbourHolds, absenceHolds, checked}
-use Rattle.messages.specs.Message.{prefixOf, suffixOf, leafOp, innerOp, path, existence, nonexistence, neighbourField, messageBytes, RawPresence, RawNeighbour, RawProof, ownPresence, ownNeighbour, ownProof}
-use Rattle.messages.specs.Reading.{onward, onlyIf}
-use Rattle.partner.specs.Values.{LeafOp, InnerOp, Existence, Commitment}
-use Rattle.partner.specs.Verifying.{startsWith, position, Padding, hasPadding, sameOp, leftStep, isRoot, leafRight, innerRight, pathRight, depthRight, fits, padding, firstBranch, branchOf, emptyBelow, leftEmpty, rightEmpty, isLeftMost, isRightMost, neighboursFromTop, isLeftNeighbour, hashed, prehashed, lengthed, prepared, leafApplied, innerApplied, sized, pathApplied, calculated, existenceHolds, forComparison, keyBefore, neighbourVerified, nonExistenceHolds, verifyMembership, verifyNonMembership}
-use Rattle.partner.specs.Ours.{ourLeaf, ourSpec, opOf, existenceOf, neighbourOf, commitmentOf, leafBytes, innerBytes, pathBytes, existenceBytes, neighbourBytes, nonExistenceBytes, commitmentBytes, leafHashBy, innerHashBy}
-
--- the message is the encoding of what it says
-path-is : (steps : List Step) → pathBytes (map opOf steps) ≡ path steps
-unfolding innerBytes innerOp
-path-is [] = refl
-path-is (s ∷ steps) = rw (path-is steps)
-
-existence-is : (p : Presence) → existenceBytes (existenceOf p) ≡ existence p
-unfolding existenceBytes existence leafBytes leafOp
-existence-is p = rw (path-is (p .steps))
-
-neighbour-is : (n : ℕ) (o : Option Presence) → neighbourBytes n (neighbourOf o) ≡ neighbourField n o
-neighbour-is n none = refl
-neighbour-is n (some p) = rw (existence-is p)
-
--- A message of ours is the encoding of what it says in ICS 23's terms.
-pub message-is-encoded : (q : Proof) → commitmentBytes (commitmentOf q) ≡ messageBytes q
-unfolding nonExistenceBytes nonexistence
-message-is-encoded (presence p) = rw (existence-is p)
-message-is-encoded (absence a) = rw (neighbour-is 2 (a .leftward), neighbour-is 3 (a .rightward))
+use Rattle.messages.specs.Message.{ourLeaf, opOf, existenceOf, ownPresence}
+use Rattle.messages.specs.Raws.{RawPresence, RawNeighbour, ownNeighbour}
+use Rattle.partner.specs.Verifying.{startsWith, passes, sameOp, leafRight, innerRight, fits, hasPadding, firstBranch, branchOf, emptyBelow, endsEmpty, rightEmpty, isLeftMost, isRightMost, neighboursFromTop, hashed, prehashed, leafApplied, innerApplied, pathApplied, calculated, existenceHolds, forComparison, keyBefore, neighbourVerified, nonExistenceHolds}
+use Rattle.partner.specs.Ours.{ourSpec, leafHashBy, innerHashBy}
 
 -- padding is the side
 abbrev step : Side → Bytes → Step
 step b x = record { side = b; sibling = x }
 
-has-padding : (b c : Side) (x : Bytes) → length x ≡ 32 → hasPadding (opOf (step b x)) (padding ourSpec (digit c)) ≡ Bool·beq b c
-unfolding hasPadding padding allOf
+has-padding : (b c : Side) (x : Bytes) → length x ≡ 32 → hasPadding ourSpec (opOf (step b x)) (digit c) ≡ Bool·beq b c
+unfolding hasPadding allOf
 has-padding false false x h = rw h
 has-padding false true x h = refl
 has-padding true false x h = rw h
@@ -66,24 +45,26 @@ take-whole (suc n) [] h = refl
 take-whole (suc n) (b ∷ x) h = rw (take-whole n x (omega arith))
 
 leftmost-op : (b : Side) (x : Bytes) → length x ≡ 32 →
-    hasPadding (opOf (step b x)) (padding ourSpec 0) || leftEmpty ourSpec (opOf (step b x)) (branchOf ourSpec (opOf (step b x)))
+    hasPadding ourSpec (opOf (step b x)) 0 || passes (endsEmpty ourSpec (opOf (step b x) .prefix)) (branchOf ourSpec (opOf (step b x)))
     ≡ keepsTo left (step b x)
-unfolding keepsTo leftEmpty allOf
+unfolding keepsTo endsEmpty allOf
 leftmost-op false x h = rw (has-padding false false x h)
 leftmost-op true x h = rw (has-padding true false x h, branch-of true x h, h, take-whole 32 x h) (and-true (sameBytes x zeros))
 
 rightmost-op : (b : Side) (x : Bytes) → length x ≡ 32 →
-    hasPadding (opOf (step b x)) (padding ourSpec 1) || rightEmpty ourSpec (opOf (step b x)) (branchOf ourSpec (opOf (step b x)))
+    hasPadding ourSpec (opOf (step b x)) 1 || passes (rightEmpty ourSpec (opOf (step b x))) (branchOf ourSpec (opOf (step b x)))
     ≡ keepsTo right (step b x)
-unfolding keepsTo rightEmpty allOf
+unfolding keepsTo endsEmpty rightEmpty allOf
 rightmost-op false x h = rw (has-padding false true x h, branch-of false x h, h, take-whole 32 x h) (and-true (sameBytes x zeros))
 rightmost-op true x h = rw (has-padding true true x h)
 
 leftmost-as-ours : (steps : List Step) → All StepForm steps → isLeftMost ourSpec (map opOf steps) ≡ outermost left steps
+unfolding allOf
 leftmost-as-ours [] h = refl
 leftmost-as-ours (s ∷ steps) h = ap₂ _&&_ (leftmost-op (s .side) (s .sibling) (h .0 .0)) (leftmost-as-ours steps (h .1))
 
 rightmost-as-ours : (steps : List Step) → All StepForm steps → isRightMost ourSpec (map opOf steps) ≡ outermost right steps
+unfolding allOf
 rightmost-as-ours [] h = refl
 rightmost-as-ours (s ∷ steps) h = ap₂ _&&_ (rightmost-op (s .side) (s .sibling) (h .0 .0)) (rightmost-as-ours steps (h .1))
 
@@ -99,7 +80,7 @@ same-op true true x y h k = and-true (sameBytes x y)
 
 -- two paths from their tops
 left-step : (b c : Side) (x y : Bytes) → length x ≡ 32 → length y ≡ 32 →
-    leftStep (branchOf ourSpec (opOf (step b x))) (branchOf ourSpec (opOf (step c y))) ≡ not b && c
+    passes (λ i. passes (λ j. eqb j (i + 1)) (branchOf ourSpec (opOf (step c y)))) (branchOf ourSpec (opOf (step b x))) ≡ not b && c
 left-step false false x y h k = rw (branch-of false x h, branch-of false y k)
 left-step false true x y h k = rw (branch-of false x h, branch-of true y k)
 left-step true false x y h k = rw (branch-of true x h, branch-of false y k)
@@ -149,8 +130,8 @@ form-turned (x ∷ xs) h =
 
 -- IsLeftNeighbor and our test of two paths agree.
 pub neighbours-as-ours : (xs ys : List Step) → All StepForm xs → All StepForm ys →
-    isLeftNeighbour ourSpec (map opOf xs) (map opOf ys) ≡ pathsPart xs ys
-unfolding isLeftNeighbour pathsPart
+    neighboursFromTop ourSpec (reverse (map opOf xs)) (reverse (map opOf ys)) ≡ pathsPart xs ys
+unfolding pathsPart
 neighbours-as-ours xs ys h k =
     rw (ops-turned xs, ops-turned ys) (from-top (reverse xs) (reverse ys) (form-turned xs h) (form-turned ys k))
 
@@ -160,12 +141,13 @@ unfolding innerRight startsWith allOf
 inner-right false x h = rw h
 inner-right true x h = rw h
 
-path-right : (steps : List Step) → All StepForm steps → pathRight ourSpec (map opOf steps) ≡ true
+path-right : (steps : List Step) → All StepForm steps → allOf (map (innerRight ourSpec) (map opOf steps)) ≡ true
+unfolding allOf
 path-right [] h = refl
 path-right (s ∷ steps) h = rw (inner-right (s .side) (s .sibling) (h .0 .0), path-right steps (h .1))
 
 fits-spec : (p : Presence) → RawPresence p → fits ourSpec (existenceOf p) ≡ true
-unfolding fits leafRight depthRight startsWith allOf
+unfolding fits leafRight startsWith allOf
 fits-spec p h =
     rw (length-map (p .steps) opOf, path-right (p .steps) (h .steps32), le-leb 0 (length (p .steps)) (omega arith), le-leb (length (p .steps)) (ourSpec .maxDepth) (h .short))
 
@@ -173,11 +155,10 @@ module _ (sha : Bytes → Bytes) (sha32 : (x : Bytes) → length (sha x) ≡ 32)
   abbrev upward : Bytes → Step → Bytes
   upward h s = parentHash (leafHashBy sha) (innerHashBy sha) h s
 
-  op-applied : (b : Side) (x h : Bytes) → length h ≡ 32 →
-      onward (innerApplied ourSpec sha (opOf (step b x)) h) (sized ourSpec sha) ≡ some (upward h (step b x))
-  unfolding innerApplied hashed sized onward onlyIf
-  op-applied false x h e = rw (e, sha32 (0 ∷ (h ++ x)))
-  op-applied true x h e = rw (append-nil h, e, sha32 (0 ∷ (x ++ h)))
+  op-applied : (b : Side) (x h : Bytes) → length h ≡ 32 → innerApplied ourSpec sha (opOf (step b x)) h ≡ some (upward h (step b x))
+  unfolding innerApplied hashed
+  op-applied false x h e = rw e
+  op-applied true x h e = rw (append-nil h, e)
 
   up32 : (b : Side) (x h : Bytes) → length (upward h (step b x)) ≡ 32
   up32 false x h = sha32 (0 ∷ (h ++ x))
@@ -190,16 +171,16 @@ module _ (sha : Bytes → Bytes) (sha32 : (x : Bytes) → length (sha x) ≡ 32)
 
   path-applied : (steps : List Step) (h : Bytes) → length h ≡ 32 →
       pathApplied ourSpec sha h (map opOf steps) ≡ some (climb (leafHashBy sha) (innerHashBy sha) h steps)
-  unfolding onward
+  unfolding bind
   path-applied [] h e = refl
   path-applied (s ∷ steps) h e =
-      rw (op-applied (s .side) (s .sibling) h e) (path-applied steps (upward h s) (up32 (s .side) (s .sibling) h))
+      rw (op-applied (s .side) (s .sibling) h e, up32 (s .side) (s .sibling) h) (path-applied steps (upward h s) (up32 (s .side) (s .sibling) h))
 
   -- Calculate gives what our own steps lead to.
   pub calculated-as-ours : (p : Presence) → RawPresence p →
       calculated ourSpec sha (existenceOf p)
       ≡ some (climb (leafHashBy sha) (innerHashBy sha) (leafHashBy sha (sha (p .key)) (sha (p .value))) (p .steps))
-  unfolding calculated leafApplied prepared prehashed lengthed hashed onward onlyIf
+  unfolding calculated leafApplied prehashed hashed bind allOf
   calculated-as-ours p h =
       rw (le-leb 1 (length (p .key)) (h .key-raw .some-byte), le-leb 1 (length (p .value)) (h .value-raw .some-byte))
       (path-applied (p .steps) (leafHashBy sha (sha (p .key)) (sha (p .value))) (sha32 _))
@@ -215,11 +196,11 @@ module _ (sha : Bytes → Bytes) (sha32 : (x : Bytes) → length (sha x) ≡ 32)
 
   -- keys are compared after hashing
   key-before : (x y : Bytes) → keyBefore ourSpec sha x y ≡ before (sha x) (sha y)
-  unfolding keyBefore forComparison prehashed hashed onlyIf
+  unfolding keyBefore forComparison prehashed hashed
   key-before x y = refl
 
   pub absence-as-ours : (root k : Bytes) (l r : Option Presence) → RawNeighbour l → RawNeighbour r →
-      nonExistenceHolds ourSpec sha root (neighbourOf l) (neighbourOf r) k
+      nonExistenceHolds ourSpec sha root (Option·map existenceOf l) (Option·map existenceOf r) k
       ≡ absenceHolds (leafHashBy sha) (innerHashBy sha) root (sha k) (ownNeighbour sha l) (ownNeighbour sha r)
   unfolding neighbourHolds allOf
   absence-as-ours root k none none h g = refl

@@ -2,14 +2,14 @@
 use mathlib.Core.Path.{_≡_, refl}
 use mathlib.Core.Bool.{true, false}
 use mathlib.Core.List.{[], _∷_, _++_}
-use mathlib.Core.Option.{Option, none, some}
+use mathlib.Core.Option.{Option, none, some, bind}
 use lib.ListN.{length, take, replicate}
 use Rattle.terms.specs.Bits.{Bytes}
 use Rattle.terms.specs.Fields.{allOf}
 use Rattle.terms.specs.Records.{Step, Presence, Proof, presence, absence, zeros}
-use Rattle.messages.specs.Reading.{onward, onlyIf}
-use Rattle.partner.specs.Verifying.{startsWith, hasPadding, sameOp, leafRight, innerRight, depthRight, fits, padding, branchOf, leftEmpty, rightEmpty, isLeftNeighbour, hashed, prehashed, lengthed, prepared, leafApplied, innerApplied, sized, calculated, existenceHolds, forComparison, keyBefore, neighbourVerified, verifyNonMembership}
-use Rattle.partner.specs.Ours.{ourSpec, commitmentOf, partnerAccepts}
+use Rattle.messages.specs.Message.{existenceOf}
+use Rattle.partner.specs.Verifying.{startsWith, sameOp, leafRight, innerRight, fits, hasPadding, branchOf, endsEmpty, rightEmpty, hashed, prehashed, leafApplied, innerApplied, calculated, existenceHolds, forComparison, keyBefore, neighbourVerified, nonExistenceHolds}
+use Rattle.partner.specs.Ours.{ourSpec, partnerAccepts}
 
 -- the first 32 bytes, zeros where there are fewer: it keeps the order of keys
 unfoldable padded : Bytes → Bytes
@@ -61,8 +61,8 @@ shown :
     × (partnerAccepts padded root (presence third) ≡ true)
     × (partnerAccepts padded low (presence first) ≡ false)
     × (partnerAccepts padded root (missing (30 ∷ []) none none) ≡ false)
-unfolding padded startsWith hasPadding sameOp leafRight innerRight depthRight fits padding branchOf leftEmpty rightEmpty isLeftNeighbour hashed prehashed lengthed
-    prepared leafApplied innerApplied sized calculated existenceHolds forComparison keyBefore neighbourVerified allOf onward onlyIf zeros
+unfolding padded startsWith sameOp leafRight innerRight fits hasPadding branchOf endsEmpty rightEmpty hashed prehashed leafApplied innerApplied calculated
+    existenceHolds forComparison keyBefore neighbourVerified allOf bind zeros
 shown = (refl, refl, refl, refl)
 
 -- between neighbours below one parent, and across the root; not neighbours; the wrong way round; one leaf twice
@@ -72,8 +72,8 @@ between :
     × (partnerAccepts padded root (missing (30 ∷ []) (some first) (some third)) ≡ false)
     × (partnerAccepts padded root (missing (15 ∷ []) (some second) (some first)) ≡ false)
     × (partnerAccepts padded root (missing (15 ∷ []) (some first) (some first)) ≡ false)
-unfolding padded startsWith hasPadding sameOp leafRight innerRight depthRight fits padding branchOf leftEmpty rightEmpty isLeftNeighbour hashed prehashed lengthed
-    prepared leafApplied innerApplied sized calculated existenceHolds forComparison keyBefore neighbourVerified allOf onward onlyIf zeros
+unfolding padded startsWith sameOp leafRight innerRight fits hasPadding branchOf endsEmpty rightEmpty hashed prehashed leafApplied innerApplied calculated
+    existenceHolds forComparison keyBefore neighbourVerified allOf bind zeros
 between = (refl, refl, refl, refl, refl)
 
 -- beyond the last leaf, whose sibling is zero, and before the first; a neighbour's own key; a leaf that isn't the last
@@ -83,12 +83,12 @@ outside :
     × (partnerAccepts padded root (missing (200 ∷ []) (some third) none) ≡ false)
     × (partnerAccepts padded root (missing (30 ∷ []) (some second) none) ≡ false)
     × (partnerAccepts padded root (missing (15 ∷ []) none (some second)) ≡ false)
-unfolding padded startsWith hasPadding sameOp leafRight innerRight depthRight fits padding branchOf leftEmpty rightEmpty isLeftNeighbour hashed prehashed lengthed
-    prepared leafApplied innerApplied sized calculated existenceHolds forComparison keyBefore neighbourVerified allOf onward onlyIf zeros
+unfolding padded startsWith sameOp leafRight innerRight fits hasPadding branchOf endsEmpty rightEmpty hashed prehashed leafApplied innerApplied calculated
+    existenceHolds forComparison keyBefore neighbourVerified allOf bind zeros
 outside = (refl, refl, refl, refl, refl)
 
--- the key in the message isn't looked at
-another : verifyNonMembership ourSpec padded root (commitmentOf (missing (99 ∷ []) (some first) (some second))) (15 ∷ []) ≡ true
-unfolding padded startsWith hasPadding sameOp leafRight innerRight depthRight fits padding branchOf leftEmpty rightEmpty isLeftNeighbour hashed prehashed lengthed
-    prepared leafApplied innerApplied sized calculated existenceHolds forComparison keyBefore neighbourVerified allOf onward onlyIf zeros
+-- another key between the same neighbours: the message's own has no say
+another : nonExistenceHolds ourSpec padded root (some (existenceOf first)) (some (existenceOf second)) (15 ∷ []) ≡ true
+unfolding padded startsWith sameOp leafRight innerRight fits hasPadding branchOf endsEmpty rightEmpty hashed prehashed leafApplied innerApplied calculated
+    existenceHolds forComparison keyBefore neighbourVerified allOf bind zeros
 another = refl

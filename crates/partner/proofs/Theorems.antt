@@ -5,7 +5,7 @@ use Prim.Native.Nat.{ℕ}
 use mathlib.Core.Path.{_≡_, refl, ap, sym, _∙_}
 use mathlib.Core.Logic.{_↔_}
 use mathlib.Core.Bool.{Bool, true, false, cond, _&&_, false≢true}
-use mathlib.Core.Option.{Option, none, some}
+use mathlib.Core.Option.{Option, none, some, Option·map, Option·some-injective}
 use lib.ListN.{length}
 use Rattle.terms.specs.Bits.{Bytes, Byte, All, sameBytes}
 use Rattle.terms.specs.Fields.{allOf}
@@ -16,12 +16,14 @@ use Rattle.meaning.specs.Reading.{Verdict, present, absent}
 use Rattle.meaning.specs.Checking.{leadsTo, absenceHolds, checked}
 use Rattle.checker.specs.Holding.{Leads, Holds, shown, only-left, only-right, both}
 use Rattle.checker.proofs.Theorems.{accepted-exactly-if-holds}
-use Rattle.messages.specs.Message.{messageBytes, RawPresence, RawProof, ownPresence, ownNeighbour, ownProof}
+use Rattle.messages.specs.Message.{existenceOf, ownPresence, ownProof}
+use Rattle.messages.specs.Parts.{askedIn}
+use Rattle.messages.specs.Raws.{RawPresence, RawProof, ownNeighbour}
 use Rattle.messages.specs.Reading.{messageIn}
 use Rattle.messages.proofs.Back.{message-exactly}
-use Rattle.partner.specs.Verifying.{fits, isRoot, calculated, existenceHolds, neighbourVerified, verifyMembership, verifyNonMembership}
-use Rattle.partner.specs.Ours.{ourSpec, existenceOf, commitmentOf, commitmentBytes, askedKey, partnerAccepts, verdictOf, leafHashBy, innerHashBy}
-use Rattle.partner.proofs.Agreement.{climb32, calculated-as-ours, verified-as-ours, absence-as-ours, message-is-encoded}
+use Rattle.partner.specs.Verifying.{fits, passes, calculated, existenceHolds, neighbourVerified, nonExistenceHolds}
+use Rattle.partner.specs.Ours.{ourSpec, partnerAccepts, verdictOf, leafHashBy, innerHashBy}
+use Rattle.partner.proofs.Agreement.{climb32, calculated-as-ours, verified-as-ours, absence-as-ours}
 
 picked : (t : Bool) (v : Verdict) → (t ≡ true) ↔ (cond t (accepted v) (refused 11) ≡ accepted v)
 picked true v = (λ e. refl, λ e. refl)
@@ -33,7 +35,7 @@ module _ (sha : Bytes → Bytes) (sha32 : (x : Bytes) → length (sha x) ≡ 32)
 
   -- Our check for the key that a message holds, by the partner's answer.
   pub checked-by-partner : (root : Bytes) (q : Proof) → RawProof q →
-      ours root (sha (askedKey q)) q ≡ cond (partnerAccepts sha root q) (accepted (verdictOf sha q)) (refused 11)
+      ours root (sha (askedIn q .bytes)) q ≡ cond (partnerAccepts sha root q) (accepted (verdictOf sha q)) (refused 11)
   unfolding neighbourVerified
   checked-by-partner root (presence p) h = rw (bytes-same (sha (p .key)), sym (verified-as-ours sha sha32 root p h))
   checked-by-partner root (absence a) h =
@@ -41,7 +43,7 @@ module _ (sha : Bytes → Bytes) (sha32 : (x : Bytes) → length (sha x) ≡ 32)
 
   -- A partner accepts a message of ours exactly if our check accepts our own record of it, with that answer.
   pub partner-accepts-as-ours : (root : Bytes) (q : Proof) → RawProof q →
-      (partnerAccepts sha root q ≡ true) ↔ (ours root (sha (askedKey q)) q ≡ accepted (verdictOf sha q))
+      (partnerAccepts sha root q ≡ true) ↔ (ours root (sha (askedIn q .bytes)) q ≡ accepted (verdictOf sha q))
   partner-accepts-as-ours root q h =
       let e = checked-by-partner root q h in
       let p = picked (partnerAccepts sha root q) (verdictOf sha q) in
@@ -50,10 +52,10 @@ module _ (sha : Bytes → Bytes) (sha32 : (x : Bytes) → length (sha x) ≡ 32)
   -- A partner accepts a message of ours exactly if our own record of it holds, in the words of document 01.
   pub partner-accepts-what-holds : (root : Bytes) (q : Proof) → RawProof q →
       (partnerAccepts sha root q ≡ true)
-      ↔ Holds (leafHashBy sha) (innerHashBy sha) root (sha (askedKey q)) (ownProof sha q) (verdictOf sha q)
+      ↔ Holds (leafHashBy sha) (innerHashBy sha) root (sha (askedIn q .bytes)) (ownProof sha q) (verdictOf sha q)
   partner-accepts-what-holds root q h =
       let p = partner-accepts-as-ours root q h in
-      let o = accepted-exactly-if-holds (leafHashBy sha) (innerHashBy sha) root (sha (askedKey q)) (ownProof sha q) (verdictOf sha q) in
+      let o = accepted-exactly-if-holds (leafHashBy sha) (innerHashBy sha) root (sha (askedIn q .bytes)) (ownProof sha q) (verdictOf sha q) in
       (λ t. o .0 (p .0 t), λ t. p .1 (o .1 t))
 
   -- A root under which a message is accepted has 32 bytes.
@@ -71,27 +73,25 @@ module _ (sha : Bytes → Bytes) (sha32 : (x : Bytes) → length (sha x) ≡ 32)
 
   -- An existence proof of a message leads a partner to a root exactly if our own record of it does.
   pub led-as-ours : (root : Bytes) (p : Presence) → RawPresence p →
-      isRoot root (calculated ourSpec sha (existenceOf p)) ≡ leadsTo (leafHashBy sha) (innerHashBy sha) root (ownPresence sha p)
-  unfolding leadsTo
-  led-as-ours root p h = ap (isRoot root) (calculated-as-ours sha sha32 p h)
+      (calculated ourSpec sha (existenceOf p) ≡ some root) ↔ Leads (leafHashBy sha) (innerHashBy sha) root (sha (p .key)) (ownPresence sha p)
+  led-as-ours root p h =
+      let e = calculated-as-ours sha sha32 p h in
+      (λ t. Option·some-injective _ root (sym e ∙ t), λ l. e ∙ ap some l)
 
-  -- The same of bytes that our reader takes: they are the encoding of what they say in ICS 23's terms, and a partner accepts that exactly if our
-  -- check accepts our own record of it.
+  -- The same of bytes that our reader takes.
   pub partner-accepts-message : (root m : Bytes) (q : Proof) → All Byte m → messageIn m ≡ some q →
-      (commitmentBytes (commitmentOf q) ≡ m)
-      × ((partnerAccepts sha root q ≡ true) ↔ (ours root (sha (askedKey q)) q ≡ accepted (verdictOf sha q)))
-  partner-accepts-message root m q h e =
-      let w = message-exactly m q h .0 e in (message-is-encoded q ∙ w .1, partner-accepts-as-ours root q (w .0))
+      (partnerAccepts sha root q ≡ true) ↔ (ours root (sha (askedIn q .bytes)) q ≡ accepted (verdictOf sha q))
+  partner-accepts-message root m q h e = partner-accepts-as-ours root q (message-exactly m q h .0 e .0)
 
   -- Asked for another key or value, a partner refuses a message that shows a grant.
-  pub partner-shows-its-own : (root k v : Bytes) (p : Presence) → verifyMembership ourSpec sha root (commitmentOf (presence p)) k v ≡ true →
+  pub partner-shows-its-own : (root k v : Bytes) (p : Presence) → existenceHolds ourSpec sha root (existenceOf p) k v ≡ true →
       (k ≡ p .key) × (v ≡ p .value)
   unfolding existenceHolds allOf
   partner-shows-its-own root k v p h =
       let f = fits ourSpec (existenceOf p) in
       let s = sameBytes k (p .key) in
       let t = sameBytes v (p .value) in
-      let r = isRoot root (calculated ourSpec sha (existenceOf p)) && true in
+      let r = passes (λ y. sameBytes y root) (calculated ourSpec sha (existenceOf p)) && true in
       let g = and-right f (s && (t && r)) h in
       (same-bytes k (p .key) (and-left s (t && r) g), same-bytes v (p .value) (and-left t r (and-right s (t && r) g)))
 
@@ -99,6 +99,6 @@ module _ (sha : Bytes → Bytes) (sha32 : (x : Bytes) → length (sha x) ≡ 32)
   -- that key's absence. Here it stops: ours refuses a key whose hash isn't that of the message's key.
   pub partner-by-neighbours : (root k : Bytes) (a : Absence) → RawProof (absence a) →
       ours root (sha k) (absence a)
-      ≡ cond (sameBytes (sha k) (sha (a .key)) && verifyNonMembership ourSpec sha root (commitmentOf (absence a)) k) (accepted absent)
+      ≡ cond (sameBytes (sha k) (sha (a .key)) && nonExistenceHolds ourSpec sha root (Option·map existenceOf (a .leftward)) (Option·map existenceOf (a .rightward)) k) (accepted absent)
       (refused 11)
   partner-by-neighbours root k a h = rw (absence-as-ours sha sha32 root k (a .leftward) (a .rightward) (h .1) (h .2))

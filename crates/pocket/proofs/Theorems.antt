@@ -3,8 +3,8 @@
 use Prim.Native.Nat.{ℕ, _+_, _<_, _≤_}
 use native.Mathlib.Omega.{arith}
 use mathlib.Core.Path.{_≡_, refl, ap, sym, _∙_}
-use mathlib.Core.Logic.{inl, inr}
-use mathlib.Core.Bool.{Bool, true, false, cond, _&&_}
+use mathlib.Core.Logic.{inl, inr, _⊎_}
+use mathlib.Core.Bool.{Bool, true, false, cond, _&&_, true≢false}
 use mathlib.Core.Option.{Option, none, some}
 use lib.ListN.{length}
 use lib.Dec.{ltb}
@@ -20,7 +20,7 @@ use Rattle.meaning.specs.Reading.{Verdict, readRoot, answerOf}
 use Rattle.meaning.specs.Proving.{HoldsGrant, proof, presenceLength, neighbourLength, proofLength, fitted, prove}
 use Rattle.meaning.specs.Checking.{checked}
 use Rattle.shown.proofs.Theorems.{shown}
-use Rattle.pocket.specs.Pocket.{pocketSteps, Shows, Outside, shortPath, shortNeighbour, small, inProfile, pocketProve}
+use Rattle.pocket.specs.Pocket.{pocketSteps, Outside, shortPath, shortNeighbour, small, inProfile, pocketProve}
 use Rattle.pocket.specs.Checking.{pocketChecked}
 
 module _ (leafHash innerHash : Bytes → Bytes → Bytes) (root k : Bytes) (p : Proof) where
@@ -90,30 +90,42 @@ long-exactly p e = omega (arith, leb-false (length (p .steps)) pocketSteps e)
 neighbour-inside : (o : Option Presence) (q : Presence) → shortNeighbour o ≡ true → o ≡ some q → pocketSteps < length (q .steps) → ⊥
 neighbour-inside o q e f = short-exactly q (sym (ap shortNeighbour f) ∙ e)
 
-pub inside-shows-short : (p : Proof) → small p ≡ true → Outside p → ⊥
+-- A leaf that a proof shows: its own, or a neighbour.
+abbrev pub Shows : Proof → Presence → Type 0
+Shows (presence p) q = p ≡ q
+Shows (absence a) q = (a .leftward ≡ some q) ⊎ (a .rightward ≡ some q)
+
+-- A leaf shown has more than 32 steps: the words for `Outside`.
+abbrev pub ShowsLong : Proof → Type 0
+ShowsLong p = (q : Presence) × Shows p q × (pocketSteps < length (q .steps))
+
+pub inside-shows-short : (p : Proof) → small p ≡ true → ShowsLong p → ⊥
 inside-shows-short (presence p) e (q, same, long) = short-exactly q (sym (ap shortPath same) ∙ e) long
 inside-shows-short (absence a) e (q, inl same, long) =
     neighbour-inside (a .leftward) q (and-left (shortNeighbour (a .leftward)) (shortNeighbour (a .rightward)) e) same long
 inside-shows-short (absence a) e (q, inr same, long) =
     neighbour-inside (a .rightward) q (and-right (shortNeighbour (a .leftward)) (shortNeighbour (a .rightward)) e) same long
 
-pub outside-shows-long : (p : Proof) → small p ≡ false → Outside p
+pub outside-shows-long : (p : Proof) → Outside p → ShowsLong p
 outside-shows-long (presence p) e = (p, refl, long-exactly p e)
 outside-shows-long (absence a) e = go (a .leftward) refl (a .rightward) refl e
   where
-    go : (l : Option Presence) → a .leftward ≡ l → (r : Option Presence) → a .rightward ≡ r → shortNeighbour l && shortNeighbour r ≡ false → Outside (absence a)
+    go : (l : Option Presence) → a .leftward ≡ l → (r : Option Presence) → a .rightward ≡ r → shortNeighbour l && shortNeighbour r ≡ false → ShowsLong (absence a)
     go none x none y e = let z : _≡_ {A = ℕ} 0 1 = cc in absurd (omega arith)
     go none x (some q) y e = (q, inr y, long-exactly q e)
     go (some p) x none y e = by-left (shortPath p) refl e
       where
-        by-left : (b : Bool) → shortPath p ≡ b → b && true ≡ false → Outside (absence a)
+        by-left : (b : Bool) → shortPath p ≡ b → b && true ≡ false → ShowsLong (absence a)
         by-left true f e = let z : _≡_ {A = ℕ} 0 1 = cc in absurd (omega arith)
         by-left false f e = (p, inl x, long-exactly p f)
     go (some p) x (some q) y e = by-left (shortPath p) refl e
       where
-        by-left : (b : Bool) → shortPath p ≡ b → b && shortPath q ≡ false → Outside (absence a)
+        by-left : (b : Bool) → shortPath p ≡ b → b && shortPath q ≡ false → ShowsLong (absence a)
         by-left true f e = (q, inr y, long-exactly q e)
         by-left false f e = (p, inl x, long-exactly p f)
+
+pub not-both-sides : (p : Proof) → small p ≡ true → Outside p → ⊥
+not-both-sides p e f = true≢false (sym e ∙ f)
 
 -- A presence proof inside the profile has at most 1,128 bytes, with 32 steps just that; an absence proof at most 2,296.
 pub short-length : (p : Presence) → shortPath p ≡ true → presenceLength p ≤ 1128

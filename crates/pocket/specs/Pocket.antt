@@ -1,8 +1,7 @@
 -- Document 02, request 2026-14, the pocket profile: proofs of at most 32 steps for each leaf shown. Assumes nothing.
-use Prim.Native.Nat.{ℕ, _<_}
+use Prim.Native.Nat.{ℕ}
 use mathlib.Core.Path.{_≡_}
-use mathlib.Core.Logic.{_⊎_}
-use mathlib.Core.Bool.{Bool, true, cond, _&&_}
+use mathlib.Core.Bool.{Bool, true, false, cond, _&&_}
 use mathlib.Core.Option.{Option, none, some}
 use lib.ListN.{length}
 use lib.Dec.{leb}
@@ -14,15 +13,6 @@ use Rattle.meaning.specs.Proving.{proof, fitted}
 abbrev pub pocketSteps : ℕ
 pocketSteps = 32
 
--- A leaf that a proof shows: its own, or a neighbour.
-abbrev pub Shows : Proof → Presence → Type 0
-Shows (presence p) q = p ≡ q
-Shows (absence a) q = (a .leftward ≡ some q) ⊎ (a .rightward ≡ some q)
-
--- A proof is outside the profile if a leaf shown has more than 32 steps.
-abbrev pub Outside : Proof → Type 0
-Outside p = (q : Presence) × Shows p q × (pocketSteps < length (q .steps))
-
 -- The path of a leaf has at most 32 steps.
 unfoldable pub shortPath : Presence → Bool
 shortPath p = leb (length (p .steps)) pocketSteps
@@ -31,10 +21,13 @@ abbrev pub shortNeighbour : Option Presence → Bool
 shortNeighbour none = true
 shortNeighbour (some p) = shortPath p
 
--- A proof is inside the profile if the path of each leaf shown is short: the test of `Outside`.
+-- A proof is inside the profile if the path of each leaf shown is short, else outside.
 abbrev pub small : Proof → Bool
 small (presence p) = shortPath p
 small (absence a) = shortNeighbour (a .leftward) && shortNeighbour (a .rightward)
+
+abbrev pub Outside : Proof → Type 0
+Outside p = small p ≡ false
 
 -- A proof outside it is refused with 19.
 abbrev pub inProfile : Answer Proof → Answer Proof

@@ -23,8 +23,8 @@ use Rattle.read_open.specs.declared.Opened as declared-opened
 use Rattle.read_open.specs.declared.Opened.the-variants as first
 use Rattle.read_open.proofs.Opening as opening
 use Rattle.pocket.specs.Pocket.{inProfile, pocketProve}
-use Rattle.prove_plan.specs.Plans.{planSays, Plans}
-use Rattle.prove_plan.specs.declared.Plan as declared-plan
+use Rattle.prove_shape.specs.Plans.{planSays, Plans}
+use Rattle.prove_shape.specs.declared.Plan as declared-plan
 use Rattle.prove.specs.Parts.{Gives}
 use Rattle.prove.specs.declared.Proved as declared
 use Rattle.prove.specs.declared.Proved.the-variants.{Refused}

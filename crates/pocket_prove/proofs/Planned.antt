@@ -16,10 +16,10 @@ use Rattle.prove_paths.specs.declared.Way.the-variants.{Stopped, Nobody, Somebo
 use Rattle.prove_paths.specs.declared.Sought as declared-sought
 use Rattle.prove_paths.proofs.Records.{steps-count}
 use Rattle.pocket.specs.Pocket.{shortPath, shortNeighbour, inProfile}
-use Rattle.prove_plan.specs.Plans.{shapeSays, planSays}
-use Rattle.prove_plan.specs.declared.Shape as declared-shape
-use Rattle.prove_plan.specs.declared.Shape.the-variants.{Refused, Presence, Absence}
-use Rattle.prove_plan.specs.declared.Plan as declared
+use Rattle.prove_shape.specs.Plans.{shapeSays, planSays}
+use Rattle.prove_shape.specs.declared.Shape as declared-shape
+use Rattle.prove_shape.specs.declared.Shape.the-variants.{Refused, Presence, Absence}
+use Rattle.prove_shape.specs.declared.Plan as declared
 use Rattle.pocket_prove.specs.Parts.{wayShort, oneLong, shapeOutside, planOutside}
 
 path-short : (s : Bytes) (p : declared-path.Path) → shortPath (presenceAt s p) ≡ leb (p .place .count) 32

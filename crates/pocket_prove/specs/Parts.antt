@@ -6,9 +6,9 @@ use Rattle.prove_paths.specs.declared.Way as declared-way
 use Rattle.prove_paths.specs.declared.Way.the-variants.{Stopped, Nobody, Somebody}
 use Rattle.prove_paths.specs.declared.Sought as declared-sought
 use Rattle.pocket.specs.Pocket.{pocketSteps}
-use Rattle.prove_plan.specs.declared.Shape as declared-shape
-use Rattle.prove_plan.specs.declared.Shape.the-variants.{Refused, Presence, Absence}
-use Rattle.prove_plan.specs.declared.Plan as declared
+use Rattle.prove_shape.specs.declared.Shape as declared-shape
+use Rattle.prove_shape.specs.declared.Shape.the-variants.{Refused, Presence, Absence}
+use Rattle.prove_shape.specs.declared.Plan as declared
 
 -- The neighbour that a search found, if any, has at most 32 steps.
 abbrev pub wayShort : declared-way.Way → declared-path.Path → Bool

@@ -1,11 +1,11 @@
 -- Which bytes are outside the profile, by their form; and what the call leaves. Assumes nothing.
 use Prim.Native.Nat.{ℕ}
-use mathlib.Core.Path.{_≡_, refl, ap, sym, _∙_}
+use mathlib.Core.Path.{_≡_, refl, sym, _∙_}
 use mathlib.Core.Bool.{true, false, not}
 use Rattle.terms.specs.Bits.{Bytes, Byte, All}
 use Rattle.terms.specs.Records.{absence}
 use Rattle.meaning.specs.Calls.{refused}
-use Rattle.meaning.specs.Answers.{numberOf, foundAfter}
+use Rattle.meaning.proofs.Told.{exported-as, exported-refusal, seen}
 use Rattle.proofrecords.specs.ProofBytes.{isPresence, presenceIn, isAbsence, absenceIn, proofIn}
 use Rattle.pocket.specs.Pocket.{shortPath, small}
 use Rattle.verify_rules.specs.Verify.{Verifies}
@@ -30,9 +30,9 @@ module _ (x : Bytes) where
 -- what the call leaves: a refusal nothing, else what the full check leaves
 module _ {root k x : Bytes} (bytes : All Byte x) where
   pub pocket-refused : {n : ℕ} (f : Bytes) → refused n ≡ pocketVerified root k x → PocketVerifies root k x f n f
-  pocket-refused f e = pocket-verifies bytes (ap (λ a. numberOf a) e) (ap (λ a. foundAfter a f) e)
+  pocket-refused f e = pocket-verifies bytes (exported-refusal e)
 
   pub as-full : {f g : Bytes} {r : ℕ} → pocketVerified root k x ≡ verified root k x → Verifies root k x f r g → PocketVerifies root k x f r g
   as-full {f} e w =
-      let d = told-exactly root k x bytes (w .verdict) .0 (w .told) ∙ sym e in
-      pocket-verifies bytes (w .answer ∙ ap (λ a. numberOf a) d) (w .found ∙ ap (λ a. foundAfter a f) d)
+      let d = told-exactly root k x bytes (seen w .answer) .0 (seen w .said) ∙ sym e in
+      pocket-verifies bytes (exported-as d (seen w .exported))

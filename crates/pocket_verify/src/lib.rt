@@ -15,7 +15,7 @@ use pocket::POCKET_STEPS;
 use proofrecords::STEPS_AT;
 use refusal_numbers::NOT_32_BYTES;
 use refusal_numbers::OUTSIDE_POCKET;
-use verify::grants_verify;
+use verify_call::grants_verify;
 use verify_form::is_absence;
 use verify_form::is_presence;
 

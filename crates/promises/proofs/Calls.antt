@@ -12,6 +12,7 @@ use Rattle.terms.specs.Form.{FormedAs}
 use Rattle.terms.proofs.Lists.{all-of}
 use Rattle.meaning.specs.Sound.{At, Sound}
 use Rattle.meaning.specs.Calls.{Answer, refused, accepted, Result}
+use Rattle.meaning.specs.Answers.{Exports, exports-refusal, exports-answer}
 use Rattle.nodehash.specs.Node.{leafHash, innerHash}
 use Rattle.layout.specs.Headers.{Headed, refusal, header, headerOf}
 use Rattle.layout.specs.Slots.{SlotForm}
@@ -20,7 +21,7 @@ use Rattle.layout.proofs.Headers.{header-refused, accepted as header-accepted}
 use Rattle.layout.proofs.Stores.{store-back}
 use Rattle.promises.specs.Check.{Checked}
 use Rattle.promises.specs.Check as check
-use Rattle.promises.specs.Calls.{SoundBytes, Does, wrong-header, not-sound, refuses, accepts, Exports, exports-refusal, exports-answer}
+use Rattle.promises.specs.Calls.{SoundBytes, Does, wrong-header, not-sound, refuses, accepts}
 
 -- a header is not refused with 0
 no-refusal : (s : Bytes) → headerOf counted s ≡ refusal 0 → ⊥
@@ -105,7 +106,7 @@ same-told : {A : Type 0} (told : A → Bytes) {a b : A} → _≡_ {A = Answer A}
 same-told told e = cc
 
 module _ {A : Type 0} {call : Store → Result A} {told : A → Bytes} {s f : Bytes} where
-  pub one-export : {a b : ℕ} {t u g h : Bytes} → Exports call told s f a t g → Exports call told s f b u h → (a ≡ b) × (t ≡ u) × (g ≡ h)
+  pub one-export : {a b : ℕ} {t u g h : Bytes} → Exports (λ x. Does call s x t) told f a g → Exports (λ x. Does call s x u) told f b h → (a ≡ b) × (t ≡ u) × (g ≡ h)
   one-export (exports-refusal x) (exports-refusal y) = let o = one-outcome x y in (same-number (o .0), o .1, refl)
   one-export (exports-refusal x) (exports-answer y) = not-answered refl (one-outcome x y .0)
   one-export (exports-answer x) (exports-refusal y) = not-answered refl (one-outcome y x .0)

@@ -1,5 +1,4 @@
--- Document 01, 'Numbers of refusal': what a call that tests soundness answers for any bytes, and the bytes it leaves.
--- Order: 1, 2; then 3; then the call's own, as the definition says them of a sound store. Assumes nothing.
+-- Document 01, 'Numbers of refusal': a call that tests soundness, over any bytes: 1, 2, 3, its own. Assumes nothing.
 use Prim.Native.Nat.{ℕ}
 use mathlib.Core.Path.{_≡_}
 use Rattle.terms.specs.declared.Form.the-variants.{Counted as counted}
@@ -31,10 +30,3 @@ pub data Does {A : Type 0} (call : Store → Result A) (s : Bytes) : Answer A �
   -- else the answer, and the bytes are those of the store that the call leaves
   accepts : {a : A} → SoundBytes s → call (storeIn counted s) .answer ≡ accepted a →
       Does call s (accepted a) (storeBytes (call (storeIn counted s) .store))
-
--- The same call for C: it answers 0 where it is accepted, else the number of refusal; what is told goes to the array f,
--- which a refused call leaves.
-pub data Exports {A : Type 0} (call : Store → Result A) (told : A → Bytes) (s f : Bytes) : ℕ → Bytes → Bytes →
-    Type 0 where
-  exports-refusal : {m : ℕ} {t : Bytes} → Does call s (refused m) t → Exports call told s f m t f
-  exports-answer : {a : A} {t : Bytes} → Does call s (accepted a) t → Exports call told s f 0 t (told a)

@@ -22,8 +22,8 @@ use Rattle.promises.specs.Headed.{byHeader, asMany}
 use Rattle.read_open.specs.declared.Opened as declared-opened
 use Rattle.read_open.specs.declared.Opened.the-variants as first
 use Rattle.read_open.proofs.Opening as opening
-use Rattle.prove_plan.specs.Plans.{planSays, Plans}
-use Rattle.prove_plan.specs.declared.Plan as declared-plan
+use Rattle.prove_shape.specs.Plans.{planSays, Plans}
+use Rattle.prove_shape.specs.declared.Plan as declared-plan
 use Rattle.prove_plan.proofs.Ending.{by-searches}
 use Rattle.meaning.specs.Answers.{roomAfter}
 use Rattle.proofrecords.specs.ProofBytes.{proofBytes}

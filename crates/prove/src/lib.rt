@@ -1,7 +1,7 @@
 // Proving over lent bytes, document 01, 'Reading and proving', and 2026-03: the proof for a key in a version, for every store, sound or damaged.
-use prove_plan::Plan;
-use prove_plan::Shape;
 use prove_plan::plan_of;
+use prove_shape::Plan;
+use prove_shape::Shape;
 use prove_write::write;
 use read_open::Opened;
 use read_open::open;
@@ -9,7 +9,7 @@ use refusal_numbers::NOT_32_BYTES;
 use refusal_numbers::wide::NO_ROOM;
 ghost use mathlib.Core.Path.{_≡_};
 ghost use lib.ListN.{length};
-ghost use Rattle.prove_plan.specs.Plans.{planSays, PlanIn};
+ghost use Rattle.prove_shape.specs.Plans.{planSays, PlanIn};
 ghost use Rattle.meaning.specs.Answers.{roomAfter};
 ghost use Rattle.proofrecords.specs.ProofBytes.{proofBytes};
 ghost use Rattle.prove.specs.Parts.{proveAnswerBy, Offers, provedSays, lengthAnswer};

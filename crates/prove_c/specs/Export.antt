@@ -4,14 +4,14 @@ use Prim.Native.Nat.{ℕ}
 use mathlib.Core.Path.{_≡_}
 use Rattle.terms.specs.Bits.{Bytes}
 use Rattle.terms.specs.Records.{Proof}
+use Rattle.terms.specs.Fields.{le}
 use Rattle.meaning.specs.Calls.{Answer}
-use Rattle.meaning.specs.Answers.{numberOf, roomAfter}
+use Rattle.meaning.specs.Proving.{proofLength}
+use Rattle.meaning.specs.Answers.{roomAfter, Exported}
 use Rattle.proofrecords.specs.ProofBytes.{proofBytes}
-use Rattle.contracts.specs.Proves.{lengthBytes}
 
 -- A proof's answer is told: r is the number of refusal or 0;
 -- the room is left as t, the array f for the proof's length as g.
 pub record ProofTold (a : Answer Proof) (room f : Bytes) (r : ℕ) (t g : Bytes) : Type 0 where
-  pub answer : r ≡ numberOf a
+  pub exported : Exported a (λ p. le 4 (proofLength p)) f r g
   pub proof : t ≡ roomAfter proofBytes a room
-  pub told : g ≡ lengthBytes a f

@@ -5,6 +5,7 @@ use prove::prove;
 use read_open::as_many;
 use refusal_numbers::NOT_32_BYTES;
 use refusal_numbers::WRONG_SIZE;
+ghost use mathlib.Core.Option.{some};
 ghost use Rattle.prove_c.specs.Export.{ProofTold};
 ghost use Rattle.contracts.specs.Proves.{Proves, ProvesBy};
 ghost use Rattle.prove_c.specs.Within.{provedBy};
@@ -52,7 +53,7 @@ pub fn prove_indexed(
     room: &mut [u8],
     length: &mut [u8; 4],
 ) -> u64
-    ensures { λ r. ⌜ ProvesBy (now (store .entry)) (now (index .entry)) version (now (key .entry)) (now (room .entry)) (now (length .entry)) r (now (room .exit)) (now (length .exit)) ⌝ }
+    ensures { λ r. ⌜ ProvesBy (now (store .entry)) (some (now (index .entry))) version (now (key .entry)) (now (room .entry)) (now (length .entry)) r (now (room .exit)) (now (length .exit)) ⌝ }
 {
     if key.len() != 32 {
         return NOT_32_BYTES as u64;

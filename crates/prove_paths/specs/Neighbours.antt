@@ -3,7 +3,7 @@ use Prim.Native.Nat.{ℕ, _+_, _*_, _≤_}
 use mathlib.Core.Option.{Option, none, some}
 use Rattle.terms.specs.Bits.{Bytes}
 use Rattle.terms.specs.Records.{Presence, Absence}
-use Rattle.meaning.specs.Proving.{Sought, lostWay, nobody, somebody}
+use Rattle.meaning.specs.Proving.{Sought, searchStopped, nobody, somebody}
 use Rattle.proofrecords.specs.ProofBytes.{presenceHead, stepSize}
 use Rattle.read_step.specs.Walk.{troubleSays}
 use Rattle.prove_paths.specs.Paths.{presenceAt, PathIn}
@@ -14,7 +14,7 @@ use Rattle.prove_paths.specs.declared.Sought as declared
 
 -- What stopped the search, nobody was found, or the presence proof of the leaf that was found.
 abbrev pub wayAt : Bytes → declared-way.Way → declared-path.Path → Sought
-wayAt s (Stopped t) p = lostWay (troubleSays t)
+wayAt s (Stopped t) p = searchStopped (troubleSays t)
 wayAt s Nobody p = nobody
 wayAt s Somebody p = somebody (presenceAt s p)
 
@@ -23,7 +23,7 @@ soughtAt s n = wayAt s (n .way) (n .path)
 
 -- The neighbour, where there is one.
 abbrev pub found : Sought → Option Presence
-found (lostWay t) = none
+found (searchStopped t) = none
 found nobody = none
 found (somebody p) = some p
 

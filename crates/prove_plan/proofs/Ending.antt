@@ -30,10 +30,11 @@ use Rattle.prove_trails.specs.Trails.{TrailIn, shownAt, shownBy, stepsBy, forkS
 use Rattle.prove_trails.specs.Searches.{pathOf, endSays, neighbourSays}
 use Rattle.prove_trails.specs.declared.Walked as declared-walked
 use Rattle.prove_trails.proofs.Searches.{path-in}
-use Rattle.prove_plan.specs.Plans.{planSays, Plans}
-use Rattle.prove_plan.specs.Parts.{ended, presentAt, absentFrom, provedAt}
-use Rattle.prove_plan.specs.declared.Shape.the-variants as shape
-use Rattle.prove_plan.specs.declared.Plan as declared
+use Rattle.prove_shape.specs.Plans.{planSays, Plans}
+use Rattle.prove_shape.specs.declared.Shape.the-variants as shape
+use Rattle.prove_shape.specs.declared.Plan as declared
+use Rattle.prove_neighbours.specs.Absence.{absentFrom}
+use Rattle.prove_plan.specs.Parts.{ended, presentAt, provedAt}
 
 -- 14 is what the searches give in an empty version, and need not be tested before them, however they find
 pub by-searches : (look : Looking) (st : Store) (v : ℕ) (k : Bytes) → proofBy look st v k ≡ cond (isKept st v) (proveSeen k (seen look v)) (refused 8)

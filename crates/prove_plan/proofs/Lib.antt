@@ -1,2 +1,1 @@
-pub mod Planning
 pub mod Ending

@@ -14,7 +14,7 @@ use Rattle.terms.specs.declared.Form.the-variants.{Counted as counted}
 use Rattle.terms.specs.Bits.{Bytes, Side, longer}
 use Rattle.terms.specs.Records.{Step}
 use Rattle.meaning.specs.Reading as reading
-use Rattle.meaning.specs.Proving.{step, isGap, stuck, raisedBy, descend, Sought, lostWay, nobody, somebody, sought, beyond}
+use Rattle.meaning.specs.Proving.{step, isGap, descentStopped, raisedBy, descend, Sought, searchStopped, nobody, somebody, sought, beyond}
 use Rattle.shown.proofs.Loops.{descendBelow, descend-below}
 use Rattle.indexed.specs.Index.{byTable}
 use Rattle.place.specs.Place.{placeOf}
@@ -29,10 +29,10 @@ use Rattle.store.proofs.Slots.{slot-fits}
 use Rattle.prove_paths.specs.Paths.{stepAt, pathSteps, presenceAt, PathIn}
 use Rattle.prove_paths.specs.declared.Way.the-variants as way
 use Rattle.prove_paths.specs.declared.Sought as declared-sought
+use Rattle.prove_turns.specs.declared.Fork as declared-fork
 use Rattle.prove_trails.specs.Trails.{shownAt, SeenIn, shownBy, stepsBy, TrailIn, AtInner, Further, sideways, forkSays, ForkIn, forkOn}
 use Rattle.prove_trails.specs.Searches.{pathOf, soughtOf, Finds, descentSays, WalkedIn, endSays, neighbourSays}
 use Rattle.prove_trails.specs.declared.Trail as declared
-use Rattle.prove_trails.specs.declared.Fork as declared-fork
 use Rattle.prove_trails.specs.declared.Walked as declared-walked
 use Rattle.prove_trails.proofs.Trails.{kidsAt, gap-test, steps-further, shown-further, at-inner}
 
@@ -90,11 +90,11 @@ module _ {s : Bytes} {table : List ℕ} {b : Side} {t₀ t : declared.Trail} (w 
       says = sym (w .same ∙ ap (λ x. sought (raisedBy (stepsBy s t) (descend b (shownAt s table (placeOf (t .place)) x)))) e)
 
   pub descent-stopped : {r : declared-sought.Sought} (x : declared-seen.Seen) (u : declared-trouble.Trouble) → t .seen ≡ x →
-      descend b (shownAt s table (placeOf (t .place)) x) ≡ stuck (troubleSays u) → r ≡ soughtOf t (way.Stopped u) 0 → Finds s (descentSays s table t₀ b) r
+      descend b (shownAt s table (placeOf (t .place)) x) ≡ descentStopped (troubleSays u) → r ≡ soughtOf t (way.Stopped u) 0 → Finds s (descentSays s table t₀ b) r
   unfolding descentSays shownBy
   descent-stopped {r} x u e n q = subst (Finds s (descentSays s table t₀ b)) (sym q) (record { says = says; within = w .trail .proper .short })
     where
-      says : lostWay (troubleSays u) ≡ descentSays s table t₀ b
+      says : searchStopped (troubleSays u) ≡ descentSays s table t₀ b
       says = sym (w .same ∙ ap (λ y. sought (raisedBy (stepsBy s t) (descend b (shownAt s table (placeOf (t .place)) y)))) e ∙ ap (λ o. sought (raisedBy (stepsBy s t) o)) n)
 
 -- a search from a fork: nobody where there is none, else into its child

@@ -14,7 +14,7 @@ use Rattle.terms.specs.Bits.{Bytes, Side, left, Place, longer, begins}
 use Rattle.terms.specs.Records.{Child, Body, leafBody, innerBody}
 use Rattle.terms.proofs.Places.{length-longer}
 use Rattle.meaning.specs.Sight.{Sight, matches, nothing, spoilt, Looking}
-use Rattle.meaning.specs.Reading.{lostRecord, strayLeaf, Seen, lost, gap, leafSeen, seenBody, seenChild, seenAt, seen}
+use Rattle.meaning.specs.Reading.{lostRecord, strayLeaf, Seen, stoppedBy, gap, leafSeen, seenBody, seenChild, seenAt, seen}
 use Rattle.meaning.specs.Proving.{isGap}
 use Rattle.indexed.specs.Index.{byTable}
 use Rattle.place.specs.declared.Place as declared-place
@@ -49,7 +49,7 @@ no-gap p nothing kid = refl
 no-gap p (spoilt i) kid = refl
 no-gap p (matches r) kid = go (r .body)
   where
-    either : (b : Bool) (k x : Bytes) → isGap (cond b (leafSeen k x) (lost strayLeaf)) ≡ false
+    either : (b : Bool) (k x : Bytes) → isGap (cond b (leafSeen k x) (stoppedBy strayLeaf)) ≡ false
     either true k x = refl
     either false k x = refl
 
@@ -65,7 +65,7 @@ gap-test n s p c = by n
     go false kid = no-gap p (s .node (c .version) p) kid
 
     by : (n : ℕ) → isGap (seenAt n s p c) ≡ eqb (c .version) 0
-    by zero = go (eqb (c .version) 0) (λ b d. lost lostRecord)
+    by zero = go (eqb (c .version) 0) (λ b d. stoppedBy lostRecord)
     by (suc m) = go (eqb (c .version) 0) (λ b d. seenAt m s (longer b p) d)
 
 -- steps agree where slots and sides do

@@ -10,7 +10,6 @@ use lib.ListN.{length, getD}
 use mathlib.Core.Logic.{⊎-elim}
 use types.Run.{OneOf}
 use denote.Enum.Declared.{tagOf}
-use borrow.Author.Tests.{eq-eqb, ne-eqb}
 use lib.Dec.{eqb}
 use Rattle.terms.specs.Bits.{Bytes, Side, left, Place, longer, bit}
 use Rattle.terms.specs.Records.{Step}
@@ -25,9 +24,10 @@ use Rattle.read_step.specs.declared.Seen as declared-seen
 use Rattle.read_step.specs.declared.Seen.the-variants.{Inner}
 use Rattle.read_step.proofs.Seen as Seen
 use Rattle.prove_paths.specs.Paths.{stepAt, stepsOf}
-use Rattle.prove_trails.specs.Trails.{shownAt, shownBy, stepsBy, AtInner, Started, Further, forkAfter, sideways, forkSays, ForkIn, forkOn, Walking, Walks}
+use Rattle.prove_turns.specs.Forks.{forkAfter}
+use Rattle.prove_turns.specs.declared.Fork as declared-fork
+use Rattle.prove_trails.specs.Trails.{shownAt, shownBy, stepsBy, AtInner, Started, Further, sideways, forkSays, ForkIn, forkOn, Walking, Walks}
 use Rattle.prove_trails.specs.declared.Trail as declared
-use Rattle.prove_trails.specs.declared.Fork as declared-fork
 use Rattle.prove_trails.proofs.Trails.{kidsAt, gap-test, steps-agree, slot-set, slot-kept, steps-further, shown-further, at-inner}
 
 -- no fork yet
@@ -172,29 +172,6 @@ walking-next {s} {table} {v} {k} {t} {l} {r} {turn} i u m n w e b em en g = reco
         ∙ ap (λ c. walk k (suc (t .place .count)) (pass a g c ∷ w .passes) (pass a g c .kids c)) (sym b)
         ∙ ap (λ (c : ℕ). walk k c (pass a g turn ∷ w .passes) (pass a g turn .kids turn)) count
         ∙ ap (walk k (u .place .count) (pass a g turn ∷ w .passes)) (sym (shown-further a g))
-
--- the fork towards a side after a turn: to that side, with no child there, or away from a child
-module _ (s : Bytes) (i : ℕ) (p : declared-place.Place) (f : declared-fork.Fork) where
-  pub fork-same : (turn b : Side) → Bool·beq turn b ≡ true → f ≡ forkAfter s i p turn b f
-  unfolding forkAfter
-  fork-same true true e = refl
-  fork-same true false e = let z : _≡_ {A = ℕ} 0 1 = cc in absurd (omega arith)
-  fork-same false true e = let z : _≡_ {A = ℕ} 0 1 = cc in absurd (omega arith)
-  fork-same false false e = refl
-
-  pub fork-none : (turn b : Side) → kidIn i s b .version ≡ 0 → f ≡ forkAfter s i p turn b f
-  unfolding forkAfter
-  fork-none true true e = refl
-  fork-none true false e = rw (eq-eqb (kidIn i s false .version) 0 e)
-  fork-none false true e = rw (eq-eqb (kidIn i s true .version) 0 e)
-  fork-none false false e = refl
-
-  pub fork-new : (turn b : Side) → Bool·beq turn b ≡ false → (kidIn i s b .version ≡ 0 → ⊥) → record { there = true; place = p } ≡ forkAfter s i p turn b f
-  unfolding forkAfter
-  fork-new true true e n = let z : _≡_ {A = ℕ} 0 1 = cc in absurd (omega arith)
-  fork-new true false e n = rw (ne-eqb (kidIn i s false .version) 0 n)
-  fork-new false true e n = rw (ne-eqb (kidIn i s true .version) 0 n)
-  fork-new false false e n = let z : _≡_ {A = ℕ} 0 1 = cc in absurd (omega arith)
 
 -- a walk that has ended
 inner-not : (x : declared-seen.Seen) → OneOf (0 ∷ 1 ∷ 2 ∷ []) (tagOf Seen.the-type x) → (i : ℕ) → x ≡ Inner i → ⊥

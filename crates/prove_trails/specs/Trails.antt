@@ -2,14 +2,13 @@
 -- (2026-05), and where its forks lead to a neighbour. Assumes nothing.
 use Prim.Native.Nat.{ℕ, _-_, _<_}
 use mathlib.Core.Path.{_≡_}
-use mathlib.Core.Bool.{true, false, cond, _&&_, not, Bool·beq}
+use mathlib.Core.Bool.{true, false, cond, not}
 use mathlib.Core.List.{List, [], _∷_, map}
 use lib.ListN.{length, getD, set}
-use lib.Dec.{eqb}
 use Rattle.terms.specs.declared.Form.the-variants.{Counted as counted}
 use Rattle.terms.specs.Bits.{Bytes, Side, Place, longer}
 use Rattle.terms.specs.Records.{Step}
-use Rattle.meaning.specs.Reading.{Seen, lost, gap, seenAt, seen, Pass, walk}
+use Rattle.meaning.specs.Reading.{Seen, stoppedBy, gap, seenAt, seen, Pass, walk}
 use Rattle.meaning.specs.Proving.{stepUp, raisedBy, descend, Sought, nobody, sought, fromTrail}
 use Rattle.indexed.specs.Index.{byTable}
 use Rattle.layout.specs.Sizes.{roomOf}
@@ -21,14 +20,14 @@ use Rattle.read_step.specs.Walk.{troubleSays, kidIn, seenBelow, leafAt, forkAt}
 use Rattle.read_step.specs.declared.Seen as declared-seen
 use Rattle.read_step.specs.declared.Seen.the-variants.{Gap, Stopped, Leaf, Inner}
 use Rattle.prove_paths.specs.Paths.{stepAt, stepsOf}
+use Rattle.prove_turns.specs.declared.Fork as declared-fork
 use Rattle.prove_trails.specs.declared.Trail as declared
-use Rattle.prove_trails.specs.declared.Fork as declared-fork
 use Rattle.prove_trails.specs.declared.Walked as declared-walked
 
 -- What each case of an answer says is seen at a place.
 abbrev pub shownAt : Bytes → List ℕ → Place → declared-seen.Seen → Seen
 shownAt s table p Gap = gap
-shownAt s table p (Stopped t) = lost (troubleSays t)
+shownAt s table p (Stopped t) = stoppedBy (troubleSays t)
 shownAt s table p (Leaf i) = leafAt i s
 shownAt s table p (Inner i) = forkAt i s table p
 
@@ -76,12 +75,6 @@ pub record Further (s : Bytes) (table : List ℕ) (t : declared.Trail) (i : ℕ)
   pub place : Grown b (t .place) (r .place)
   pub slots : r .slots ≡ set (t .slots) (t .place .count) i
   pub shown : shownBy s table r ≡ seenBelow s table (placeOf (r .place)) (kidIn i s b)
-
--- The fork towards side b after a turn at the inner node in slot i, at place p: that node, if the walk turned away from
--- b and a child is there.
-unfoldable pub forkAfter : Bytes → ℕ → declared-place.Place → Side → Side → declared-fork.Fork → declared-fork.Fork
-forkAfter s i p turn b f =
-    cond (Bool·beq turn (not b) && not (eqb (kidIn i s b .version) 0)) (record { there = true; place = p }) f
 
 -- What is found from the inner node at place p into its child on side b, then to the other side where there is a child.
 unfoldable pub sideways : Bytes → List ℕ → List ℕ → Side → declared-place.Place → Sought

@@ -1,43 +1,34 @@
 // The walk that remembers its way, and the search for a neighbour, document 01, 'Reading and proving'.
 use place::Place;
-use place::before;
 use place::child_place;
 use place::key_bit;
 use prove_paths::Path;
 use prove_paths::Sought;
 use prove_paths::Way;
+use prove_turns::Fork;
+use prove_turns::beyond;
+use prove_turns::deepest;
+use prove_turns::towards;
 use read_near::child_near;
 use read_step::Seen;
 use read_step::Trouble;
-use read_step::child_version;
 use read_step::root;
 use slots::key_of;
 use store::slot_of;
 use terms::Form;
 ghost use mathlib.Core.Path.{_≡_};
-ghost use mathlib.Core.Bool.{true, false, cond, not};
-ghost use Prim.Native.Nat.{_<_};
+ghost use mathlib.Core.Bool.{true};
 ghost use lib.ListN.{length};
-ghost use lib.Dec.{eqb};
 ghost use Rattle.layout.specs.Headers.{sizeRight};
-ghost use Rattle.read_step.specs.Walk.{kidIn};
 ghost use Rattle.read_near.specs.Near.{Led};
-ghost use Rattle.layout.specs.Sizes.{roomOf};
 ghost use Rattle.layout.specs.Stores.{storeOf};
-ghost use Rattle.meaning.specs.Proving.{beyond};
-ghost use Rattle.prove_trails.specs.Trails.{TrailIn, AtInner, Further, Started, forkAfter, ForkIn, forkSays, forkOn, Walks};
+ghost use Rattle.prove_trails.specs.Trails.{TrailIn, AtInner, Further, Started, ForkIn, forkSays, forkOn, Walks};
 ghost use Rattle.prove_trails.specs.Searches.{soughtOf, Finds, descentSays, WalkedIn, neighbourSays};
 
 // The way so far: what is seen at its end, the slots of the inner nodes passed, the root's first, and the place of its end.
 pub struct Trail {
     pub seen: Seen,
     pub slots: [u16; 256],
-    pub place: Place,
-}
-
-// An inner node on the trail where the walk turned away from a side that has a child; its place, if there is one.
-pub struct Fork {
-    pub there: bool,
     pub place: Place,
 }
 
@@ -74,20 +65,6 @@ fn further(store: &[u8], index: &[u32], kids: &[u16], trail: Trail, i: usize, si
     let place = child_place(here, side);
     let seen = child_near(store, index, kids, i, side, place);
     Trail { seen, slots, place }
-}
-
-// The deepest fork towards a side, where the walk takes a turn at the inner node in slot i: this node, if it turns away and a child is there.
-fn deepest(store: &[u8], fork: Fork, place: Place, i: usize, turn: bool, side: bool) -> Fork
-    requires { ⌜ (sizeRight Form.Counted (length (now store)) ≡ true) × (i < roomOf Form.Counted (length (now store))) ⌝ }
-    ensures { λ r. ⌜ r ≡ forkAfter (now (store .entry)) i place turn side fork ⌝ }
-{
-    if turn == side {
-        return fork;
-    }
-    if child_version(store, i, side) == 0 {
-        return fork;
-    }
-    Fork { there: true, place }
 }
 
 // Walks by the key's bits from the root of a version to a leaf or a missing child, or until it is stopped.
@@ -131,17 +108,6 @@ fn answer(trail: Trail, way: Way, i: usize) -> Sought
         at: i,
     };
     Sought { way, path }
-}
-
-// Where a descent goes on from the inner node in slot i: to a side where there is a child on that side, else to the other.
-fn towards(store: &[u8], i: usize, to: bool) -> bool
-    requires { ⌜ (sizeRight Form.Counted (length (now store)) ≡ true) × (i < roomOf Form.Counted (length (now store))) ⌝ }
-    ensures { λ r. ⌜ r ≡ cond (eqb (kidIn i (now (store .entry)) to .version) 0) (not to) to ⌝ }
-{
-    if child_version(store, i, to) == 0 {
-        return !to;
-    }
-    to
 }
 
 // Descends from the end of a trail, to a side where it can, until a leaf.
@@ -191,16 +157,6 @@ fn from_fork(
     };
     let next = further(store, index, kids, back, i, side);
     descend(store, index, kids, next, !side)
-}
-
-// Whether a key is on a side of another: smaller on the left, greater on the right.
-fn beyond(other: &[u8], key: &[u8], side: bool) -> bool
-    ensures { λ r. ⌜ r ≡ beyond side (now (other .entry)) (now (key .entry)) ⌝ }
-{
-    if side {
-        return before(key, other);
-    }
-    before(other, key)
 }
 
 fn fork_towards(walked: Walked, side: bool) -> Fork

@@ -19,11 +19,11 @@ use Rattle.prove_paths.specs.declared.Way as declared-way
 use Rattle.prove_paths.specs.declared.Way.the-variants.{Stopped, Nobody, Somebody}
 use Rattle.prove_paths.specs.declared.Sought as declared-sought
 use Rattle.prove_paths.proofs.Records.{room-most, steps-count}
-use Rattle.prove_plan.specs.Plans.{shapeSays, planSays, ShapeIn, PlanIn}
-use Rattle.prove_plan.specs.declared.Shape as declared-shape
-use Rattle.prove_plan.specs.declared.Shape.the-variants.{Refused, Presence, Absence}
-use Rattle.prove_plan.specs.declared.Plan as declared
-use Rattle.prove_plan.proofs.Shape as Shape
+use Rattle.prove_shape.specs.Plans.{shapeSays, planSays, ShapeIn, PlanIn}
+use Rattle.prove_shape.specs.declared.Shape as declared-shape
+use Rattle.prove_shape.specs.declared.Shape.the-variants.{Refused, Presence, Absence}
+use Rattle.prove_shape.specs.declared.Plan as declared
+use Rattle.prove_shape.proofs.Shape as Shape
 use Rattle.prove_write.specs.Written.{plannedLength, plannedBytes}
 
 empty : (x : Bytes) → length x ≡ 0 → x ≡ []

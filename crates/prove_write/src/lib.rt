@@ -1,11 +1,11 @@
 // Proofs written as they were planned, document 01, 'Reading and proving': into a part of a lent room that is as long as the proof.
 use prove_absence::put_absence;
 use prove_paths::put_presence;
-use prove_plan::Plan;
-use prove_plan::Shape;
+use prove_shape::Plan;
+use prove_shape::Shape;
 ghost use mathlib.Core.Path.{_≡_};
 ghost use lib.ListN.{length};
-ghost use Rattle.prove_plan.specs.Plans.{planSays, PlanIn};
+ghost use Rattle.prove_shape.specs.Plans.{planSays, PlanIn};
 ghost use Rattle.prove_write.specs.Written.{plannedLength, plannedBytes};
 
 // Writes the proof of a key as it was planned; a refused one has no bytes.

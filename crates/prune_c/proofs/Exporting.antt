@@ -9,7 +9,7 @@ use Rattle.fields.proofs.Written.{number-fills}
 use Rattle.prune_sound.specs.Prune.{prunedSays, PruneDoes}
 use Rattle.prune_sound.specs.declared.Pruned as declared
 use Rattle.prune_sound.specs.declared.Pruned.the-variants.{Refused, Freed}
-use Rattle.promises.specs.Calls.{exports-refusal, exports-answer}
+use Rattle.meaning.specs.Answers.{exports-refusal, exports-answer}
 use Rattle.contracts.specs.Prune.{PruneExports}
 
 module _ (n : ℕ) {s f t : Bytes} {p : declared.Pruned} (o : PruneDoes n s (prunedSays p) t) where

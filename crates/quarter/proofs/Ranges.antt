@@ -19,7 +19,7 @@ use Rattle.meaning.proofs.Finding.{isNode-eq, isNode-refl}
 use Rattle.histories.proofs.Slots.{Has, Unique, unique-find}
 use Rattle.histories.proofs.Standing.{node-found}
 use Rattle.histories.proofs.Whole.{Whole, retired-later, not-retired}
-use Rattle.quarter.specs.Figures.{versionsFrom, versions, Node, node, nodes, among, different, nodesOver}
+use Rattle.quarter.specs.Figures.{versionsFrom, versions, nodes, among, different, nodesOver}
 use Rattle.quarter.specs.Living.{livesIn, onlyIf, overSlots, livingRecords}
 use Rattle.quarter.proofs.Slots.{over-same, over-none, over-either, over-one}
 use Rattle.quarter.proofs.Trees.{added, same-test}
@@ -31,17 +31,23 @@ or-right : (a b : Bool) → b ≡ true → a || b ≡ true
 or-right a b e = rw e (or-true a)
 
 -- nodes in lists
-abbrev sameNodes : Node → Node → Bool
-sameNodes n m = eqb (n .version) (m .version) && samePlace (n .place) (m .place)
+abbrev Node : Type 0
+Node = ℕ × Place
 
-same-nodes : (n m : Node) → sameNodes n m ≡ true → (n .version ≡ m .version) × (n .place ≡ m .place)
+abbrev node : ℕ → Place → Node
+node v p = (v, p)
+
+abbrev sameNodes : Node → Node → Bool
+sameNodes n m = eqb (n .0) (m .0) && samePlace (n .1) (m .1)
+
+same-nodes : (n m : Node) → sameNodes n m ≡ true → (n .0 ≡ m .0) × (n .1 ≡ m .1)
 same-nodes n m h = (
-  eqb-true (n .version) (m .version) (and-left (eqb (n .version) (m .version)) (samePlace (n .place) (m .place)) h),
-  same-place (n .place) (m .place) (and-right (eqb (n .version) (m .version)) (samePlace (n .place) (m .place)) h),
+  eqb-true (n .0) (m .0) (and-left (eqb (n .0) (m .0)) (samePlace (n .1) (m .1)) h),
+  same-place (n .1) (m .1) (and-right (eqb (n .0) (m .0)) (samePlace (n .1) (m .1)) h),
 )
 
-nodes-same : (n m : Node) → n .version ≡ m .version → n .place ≡ m .place → sameNodes n m ≡ true
-nodes-same n m e f = rw (e, f, eq-eqb (m .version) (m .version) refl) (place-same (m .place))
+nodes-same : (n m : Node) → n .0 ≡ m .0 → n .1 ≡ m .1 → sameNodes n m ≡ true
+nodes-same n m e f = rw (e, f, eq-eqb (m .0) (m .0) refl) (place-same (m .1))
 
 among-append : (n : Node) (xs ys : List Node) → among n (xs ++ ys) ≡ true → (among n xs ≡ true) ⊎ (among n ys ≡ true)
 among-append n [] ys h = inr h
@@ -62,7 +68,7 @@ among-right n [] ys h = h
 among-right n (x ∷ xs) ys h = or-right (sameNodes n x) (among n (xs ++ ys)) (among-right n xs ys h)
 
 -- the nodes of a tree are its nodes
-among-node : (n : Node) (p : Place) (t : VTree) → among n (nodes p t) ≡ true → NodeOf (n .version) (n .place) t p
+among-node : (n : Node) (p : Place) (t : VTree) → among n (nodes p t) ≡ true → NodeOf (n .0) (n .1) t p
 among-node n p vnone h = absurd (false≢true h)
 among-node n p (vleaf v g) h = elim (or-cases (sameNodes n (node v p)) false h) [
   | inl k ↦ let e = same-nodes n (node v p) k in (sym (e .0), sym (e .1))
@@ -77,7 +83,7 @@ among-node n p (vinner v l r) h =
       ])
     ]
 
-node-among : (n : Node) (p : Place) (t : VTree) → NodeOf (n .version) (n .place) t p → among n (nodes p t) ≡ true
+node-among : (n : Node) (p : Place) (t : VTree) → NodeOf (n .0) (n .1) t p → among n (nodes p t) ≡ true
 node-among n p vnone h = absurd h
 node-among n p (vleaf v g) h = or-left (sameNodes n (node v p)) false (nodes-same n (node v p) (sym (h .0)) (sym (h .1)))
 node-among n p (vinner v l r) (inl h) =
@@ -92,14 +98,14 @@ node-among n p (vinner v l r) (inr (inr h)) =
 -- the nodes of some tree of the k versions from v on
 module _ (st : Store) (n : Node) where
   over-some : (k v : ℕ) → among n (nodesOver st (versionsFrom v k)) ≡ true →
-      (u : ℕ) × (v ≤ u) × (u < v + k) × NodeOf (n .version) (n .place) (treeAtVersion st u) []
+      (u : ℕ) × (v ≤ u) × (u < v + k) × NodeOf (n .0) (n .1) (treeAtVersion st u) []
   over-some zero v h = absurd (false≢true h)
   over-some (suc k) v h = elim (among-append n (nodes [] (treeAtVersion st v)) (nodesOver st (versionsFrom (suc v) k)) h) [
     | inl m ↦ (v, omega arith, omega arith, among-node n [] (treeAtVersion st v) m)
     | inr m ↦ let r = over-some k (suc v) m in (r .0, omega (arith, r .1), omega (arith, r .2), r .3)
   ]
 
-  some-over : (k v u : ℕ) → v ≤ u → u < v + k → NodeOf (n .version) (n .place) (treeAtVersion st u) [] → among n (nodesOver st (versionsFrom v k)) ≡ true
+  some-over : (k v u : ℕ) → v ≤ u → u < v + k → NodeOf (n .0) (n .1) (treeAtVersion st u) [] → among n (nodesOver st (versionsFrom v k)) ≡ true
   some-over zero v u a b h = absurd (omega arith)
   some-over (suc k) v u a b h = go (eqb v u) refl (λ c. some-over k (suc v) u c (omega arith) h)
     where
@@ -107,7 +113,7 @@ module _ (st : Store) (n : Node) where
           among n (nodesOver st (versionsFrom v (suc k))) ≡ true
       go true e rest =
           among-left n (nodes [] (treeAtVersion st v)) (nodesOver st (versionsFrom (suc v) k))
-          (node-among n [] (treeAtVersion st v) (subst (λ x. NodeOf (n .version) (n .place) (treeAtVersion st x) []) (sym (eqb-true v u e)) h))
+          (node-among n [] (treeAtVersion st v) (subst (λ x. NodeOf (n .0) (n .1) (treeAtVersion st x) []) (sym (eqb-true v u e)) h))
       go false e rest =
           among-right n (nodes [] (treeAtVersion st v)) (nodesOver st (versionsFrom (suc v) k))
           (rest (let d : v ≡ u → ⊥ = λ x. true≢false (sym (eq-eqb v u x) ∙ e) in omega arith))
@@ -117,7 +123,7 @@ abbrev named : Record → Node
 named r = node (r .version) (r .place)
 
 module _ (s : List Slot) (u : Unique s) where
-  pub different-counts : (ns : List Node) → ((n : Node) → among n ns ≡ true → (r : Record) × (find (n .version) (n .place) s ≡ some r)) →
+  pub different-counts : (ns : List Node) → ((n : Node) → among n ns ≡ true → (r : Record) × (find (n .0) (n .1) s ≡ some r)) →
       overSlots _+_ (onlyIf (λ r. among (named r) ns) (λ r. 1)) s ≡ different ns
   different-counts [] f = over-none _+_ added (λ r. false) (λ r. 1) s (λ r h. refl)
   different-counts (n ∷ ns) f = go (among n ns) refl (different-counts ns (λ m h. f m (or-right (sameNodes m n) (among m ns) h)))
@@ -134,17 +140,17 @@ module _ (s : List Slot) (u : Unique s) where
           ∙ rest
       go false e rest =
           let found = f n (or-left (sameNodes n n) (among n ns) (nodes-same n n refl refl)) in
-          over-either _+_ added (isNode (n .version) (n .place)) (λ r. among (named r) ns) (λ r. among (named r) (n ∷ ns)) (λ r. 1) s
+          over-either _+_ added (isNode (n .0) (n .1)) (λ r. among (named r) ns) (λ r. among (named r) (n ∷ ns)) (λ r. 1) s
           (λ r k. elim (or-cases (sameNodes (named r) n) (among (named r) ns) k) [
             | inl m ↦ let w = same-nodes (named r) n m in inl (rw (← w .0, ← w .1) (isNode-refl r))
             | inr m ↦ inr m
           ])
-          (λ r k. let w = isNode-eq (n .version) (n .place) r k in or-left (sameNodes (named r) n) (among (named r) ns) (nodes-same (named r) n (w .0) (w .1)))
+          (λ r k. let w = isNode-eq (n .0) (n .1) r k in or-left (sameNodes (named r) n) (among (named r) ns) (nodes-same (named r) n (w .0) (w .1)))
           (λ r k. or-right (sameNodes (named r) n) (among (named r) ns) k)
           (λ r k m.
-          let w = isNode-eq (n .version) (n .place) r k in
+          let w = isNode-eq (n .0) (n .1) r k in
           true≢false (sym m ∙ ap₂ (λ v p. among (node v p) ns) (w .0) (w .1) ∙ e))
-          ∙ ap₂ _+_ (over-one _+_ added (λ r. 1) (n .version) (n .place) s (found .0) u (found .1)) rest
+          ∙ ap₂ _+_ (over-one _+_ added (λ r. 1) (n .0) (n .1) s (found .0) u (found .1)) rest
           ∙ omega arith
 
 module _ (leafHash innerHash : Bytes → Bytes → Bytes) (st : Store) (w : Whole leafHash innerHash st) (first last : ℕ) (a : Kept st first) (b : Kept st last) (h : first ≤ last) where
@@ -184,12 +190,12 @@ module _ (leafHash innerHash : Bytes → Bytes → Bytes) (st : Store) (w : Whol
       some-over st (named r) (suc last - first) first u (omega arith) (omega arith)
       (w .exact u (kept u (omega arith) (omega arith)) r k .1 (lives-at r k e)))
 
-  node-record : (n : Node) → among n (nodesOver st (versions first last)) ≡ true → (r : Record) × (find (n .version) (n .place) (st .slots) ≡ some r)
+  node-record : (n : Node) → among n (nodesOver st (versions first last)) ≡ true → (r : Record) × (find (n .0) (n .1) (st .slots) ≡ some r)
   unfolding versions
   node-record n e =
       let m = over-some st n (suc last - first) first e in
       let g : m .0 ≤ last = omega (arith, m .2) in
-      let (r, k, v, p) = node-found leafHash innerHash st (n .version) (n .place) [] (treeAtVersion st (m .0)) (w .stands (m .0) (kept (m .0) (m .1) g)) (m .3) in
+      let (r, k, v, p) = node-found leafHash innerHash st (n .0) (n .1) [] (treeAtVersion st (m .0)) (w .stands (m .0) (kept (m .0) (m .1) g)) (m .3) in
       (r, ap₂ (λ x q. find x q (st .slots)) (sym v) (sym p) ∙ unique-find (st .slots) r (w .unique) k)
 
   pub distinct-live : livingRecords first last (st .slots) ≡ different (nodesOver st (versions first last))

@@ -9,7 +9,8 @@ use Rattle.terms.specs.Records.{Store}
 use Rattle.meaning.specs.Calls.{isKept}
 use Rattle.meaning.specs.Store.{retiredBy}
 use Rattle.meaning.specs.Computed.{computed}
-use Rattle.meaning.specs.Desk.{s₆, s₈, g₉}
+use Rattle.meaning.specs.Desk.{s₆, s₈}
+use Rattle.meaning.specs.DeskGaps.{g₉}
 use Rattle.quarter.specs.Figures.{leaves, inners, longest, pathSum, Figures, versions, quarterOf, rangeRight}
 use Rattle.quarter.specs.Living.{livesIn, livingRecords}
 

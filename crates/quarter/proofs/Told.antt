@@ -15,7 +15,8 @@ use Rattle.meaning.specs.Tree.{grantsAt, treeOf, unversioned, VTree, vnone, vle
 use Rattle.meaning.specs.Store.{treeAtVersion}
 use Rattle.meaning.specs.Sound.{Kept, Sound}
 use Rattle.histories.proofs.Theorems.{sound-tree-of-grants}
-use Rattle.quarter.specs.Figures.{leaves, inners, longest, pathSum, Figures, figuresOf, figuresBytes, versionsFrom, figuresOver}
+use Rattle.quarter.specs.Figures.{leaves, inners, longest, pathSum, Figures, figuresOf, figuresBytes, versionsFrom}
+use Rattle.quarter.specs.Living.{figuresOver}
 
 -- The four fields of 16 bytes.
 module _ (f : Figures) where

@@ -65,31 +65,24 @@ versionsFrom v (suc n) = v ∷ versionsFrom (suc v) n
 unfoldable pub versions : ℕ → ℕ → List ℕ
 versions first last = versionsFrom first (suc last - first)
 
--- A record is named by its node: no two share version and place. The nodes of a tree that stands at a place.
-pub record Node : Type 0 where
-  pub version : ℕ
-  pub place : Place
-
-abbrev pub node : ℕ → Place → Node
-node v p = record { version = v; place = p }
-
-abbrev pub nodes : Place → VTree → List Node
+-- A record is named by its node, its version and place: no two share them. The nodes of a tree that stands at a place.
+abbrev pub nodes : Place → VTree → List (ℕ × Place)
 nodes p vnone = []
-nodes p (vleaf v g) = node v p ∷ []
-nodes p (vinner v l r) = node v p ∷ nodes (longer left p) l ++ nodes (longer right p) r
+nodes p (vleaf v g) = (v, p) ∷ []
+nodes p (vinner v l r) = (v, p) ∷ nodes (longer left p) l ++ nodes (longer right p) r
 
 -- A node stands in a list, and how many different ones do.
-abbrev pub among : Node → List Node → Bool
+abbrev pub among : ℕ × Place → List (ℕ × Place) → Bool
 among n [] = false
-among n (m ∷ ms) = (eqb (n .version) (m .version) && samePlace (n .place) (m .place)) || among n ms
+among n (m ∷ ms) = (eqb (n .0) (m .0) && samePlace (n .1) (m .1)) || among n ms
 
-abbrev pub different : List Node → ℕ
+abbrev pub different : List (ℕ × Place) → ℕ
 different [] = 0
 different (n ∷ ns) = cond (among n ns) (different ns) (suc (different ns))
 
 module _ (st : Store) where
   -- The nodes of the versions' trees, one tree after the other.
-  abbrev pub nodesOver : List ℕ → List Node
+  abbrev pub nodesOver : List ℕ → List (ℕ × Place)
   nodesOver [] = []
   nodesOver (v ∷ vs) = nodes [] (treeAtVersion st v) ++ nodesOver vs
 
@@ -97,11 +90,6 @@ module _ (st : Store) where
   abbrev pub recordsOver : List ℕ → ℕ
   recordsOver [] = 0
   recordsOver (v ∷ vs) = leaves (treeAtVersion st v) + inners (treeAtVersion st v) + recordsOver vs
-
-  -- The four numbers of each version.
-  abbrev pub figuresOver : List ℕ → List Figures
-  figuresOver [] = []
-  figuresOver (v ∷ vs) = figuresOf (treeAtVersion st v) ∷ figuresOver vs
 
 -- The four numbers for each version; over the range distinct records, and the sum of records over versions.
 pub record Quarter : Type 0 where
@@ -111,7 +99,7 @@ pub record Quarter : Type 0 where
 
 unfoldable pub quarterOf : Store → ℕ → ℕ → Quarter
 quarterOf st first last = record {
-  each = figuresOver st (versions first last);
+  each = map (λ v. figuresOf (treeAtVersion st v)) (versions first last);
   distinct = different (nodesOver st (versions first last));
   records = recordsOver st (versions first last);
 }

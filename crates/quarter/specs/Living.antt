@@ -2,12 +2,12 @@
 -- promise reaches this file: that these counts are those over the trees is a theorem. Assumes nothing.
 use Prim.Native.Nat.{ℕ, suc, _+_, max}
 use mathlib.Core.Bool.{Bool, false, cond, _&&_, not}
-use mathlib.Core.List.{List, [], _∷_}
+use mathlib.Core.List.{List, [], _∷_, map}
 use lib.ListN.{length}
 use lib.Dec.{leb}
-use Rattle.terms.specs.Records.{Body, leafBody, innerBody, Record, Slot, free, used, spoiled}
-use Rattle.meaning.specs.Store.{retiredBy}
-use Rattle.quarter.specs.Figures.{Figures}
+use Rattle.terms.specs.Records.{Body, leafBody, innerBody, Record, Slot, free, used, spoiled, Store}
+use Rattle.meaning.specs.Store.{retiredBy, treeAtVersion}
+use Rattle.quarter.specs.Figures.{Figures, figuresOf}
 
 -- A record lives at some version from first to last: it begins by the last one, and isn't retired by the first.
 unfoldable pub livesIn : ℕ → ℕ → Record → Bool
@@ -66,3 +66,7 @@ livingFigures v s = record {
 
 unfoldable pub livingRecords : ℕ → ℕ → List Slot → ℕ
 livingRecords first last s = overSlots _+_ (onlyIf (livesIn first last) (λ r. 1)) s
+
+-- The four numbers of each of some versions.
+abbrev pub figuresOver : Store → List ℕ → List Figures
+figuresOver st vs = map (λ v. figuresOf (treeAtVersion st v)) vs

@@ -1,60 +1,11 @@
-// The reads at the boundary: each answers 0 where it is accepted, else the number of refusal, with a spoilt slot + 1 in the high half, and then it writes nothing. `grants` exports them.
-use hash::Hash;
-use hash::no_hash;
-use hash::put_hash;
-use read_key::KeyRead;
+// The reads at the boundary, by scans and by a lent table: each answers 0 where it is accepted, else the number of refusal, with a spoilt slot + 1 in the high half, and then it writes nothing. `grants` exports them.
 use read_open::as_many;
-use read_root::RootRead;
+use read_told::get_by;
+use read_told::root_by;
 use refusal_numbers::NOT_32_BYTES;
 use refusal_numbers::WRONG_SIZE;
-ghost use mathlib.Core.Path.{_≡_};
-ghost use mathlib.Core.List.{_∷_};
-ghost use lib.ListN.{length};
-ghost use Rattle.hash.specs.Hash.{hashBytes};
-ghost use Rattle.read.specs.Parts.{rootAnswerBy, keyAnswerBy};
-ghost use Rattle.read_c.specs.Export.{RootTold, KeyTold};
+ghost use mathlib.Core.Option.{some};
 ghost use Rattle.contracts.specs.Reads.{ReadsRoot, ReadsRootBy, ReadsKey, ReadsKeyBy};
-
-// The root of a version, by a table of any length.
-fn root_by(store: &[u8], index: &[u32], version: u32, root: &mut [u8; 32]) -> u64
-    ensures { λ r. ⌜ RootTold (rootAnswerBy (now (store .entry)) (now (index .entry)) version) (now (root .entry)) r (now (root .exit)) ⌝ }
-{
-    let read = read::root(store, index, version);
-    match read {
-        RootRead::Refused(n) => n,
-        RootRead::Hash(hash) => {
-            put_hash(root, hash);
-            0
-        }
-    }
-}
-
-// Writes whether a key was found and 32 bytes.
-fn put_found(found: &mut [u8], present: u8, value: Hash)
-    requires { ⌜ length (now found) ≡ 33 ⌝ }
-    ensures { λ _. ⌜ now (found .exit) ≡ present ∷ hashBytes value ⌝ }
-{
-    found[0] = present;
-    put_hash(&mut found[1..33], value);
-}
-
-// A key in a version, by a table of any length: 1 and its value, or 0 and 32 zero bytes where it is absent.
-fn get_by(store: &[u8], index: &[u32], version: u32, key: &[u8], found: &mut [u8; 33]) -> u64
-    ensures { λ r. ⌜ KeyTold (keyAnswerBy (now (store .entry)) (now (index .entry)) version (now (key .entry))) (now (found .entry)) r (now (found .exit)) ⌝ }
-{
-    let read = read::get(store, index, version, key);
-    match read {
-        KeyRead::Refused(n) => n,
-        KeyRead::Present(value) => {
-            put_found(found, 1, value);
-            0
-        }
-        KeyRead::Absent => {
-            put_found(found, 0, no_hash());
-            0
-        }
-    }
-}
 
 // The root of a version, by scans.
 pub fn grants_root(store: &[u8], version: u32, root: &mut [u8; 32]) -> u64
@@ -72,7 +23,7 @@ pub fn grants_get(store: &[u8], version: u32, key: &[u8], found: &mut [u8; 33]) 
 
 // The root of a version, by a table lent with the store (2026-05).
 pub fn root_indexed(store: &[u8], index: &[u32], version: u32, root: &mut [u8; 32]) -> u64
-    ensures { λ r. ⌜ ReadsRootBy (now (store .entry)) (now (index .entry)) version (now (root .entry)) r (now (root .exit)) ⌝ }
+    ensures { λ r. ⌜ ReadsRootBy (now (store .entry)) (some (now (index .entry))) version (now (root .entry)) r (now (root .exit)) ⌝ }
 {
     if !as_many(store, index) {
         return WRONG_SIZE as u64;
@@ -88,7 +39,7 @@ pub fn get_indexed(
     key: &[u8],
     found: &mut [u8; 33],
 ) -> u64
-    ensures { λ r. ⌜ ReadsKeyBy (now (store .entry)) (now (index .entry)) version (now (key .entry)) (now (found .entry)) r (now (found .exit)) ⌝ }
+    ensures { λ r. ⌜ ReadsKeyBy (now (store .entry)) (some (now (index .entry))) version (now (key .entry)) (now (found .entry)) r (now (found .exit)) ⌝ }
 {
     if key.len() != 32 {
         return NOT_32_BYTES as u64;

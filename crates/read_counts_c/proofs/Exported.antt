@@ -2,28 +2,27 @@
 use Prim.Native.Nat.{ℕ, _+_, _*_, _-_, _/_, _%_}
 use native.Mathlib.Omega.{arith}
 use mathlib.Core.Path.{_≡_, ap, sym, _∙_}
-use mathlib.Core.List.{List, [], _∷_, _++_, append-nil}
-use mathlib.Core.Option.{none, some}
+use mathlib.Core.List.{[], _∷_, _++_, append-nil}
 use lib.ListN.{length, take, drop, length-take, length-drop}
 use Rattle.terms.specs.Bits.{Bytes}
 use Rattle.terms.specs.Fields.{le}
-use Rattle.terms.specs.Records.{Grant, grant}
+use Rattle.terms.specs.Records.{Grant}
 use Rattle.terms.proofs.Fields.{length-le}
-use Rattle.meaning.specs.Calls.{Answer, refused, accepted}
-use Rattle.meaning.specs.Answers.{numberOf, toldOf}
+use Rattle.meaning.specs.Calls.{Answer}
+use Rattle.meaning.specs.Answers.{Exported}
+use Rattle.meaning.proofs.Told.{exported-refusal, exported-answer}
 use Rattle.hash.specs.declared.Hash.{Hash}
 use Rattle.hash.specs.Hash.{hashBytes}
 use Rattle.hash.proofs.Laws.{hash-whole, put-over}
 use Rattle.fields.specs.Written.{written}
 use Rattle.fields.proofs.Written.{length-written, part-written, fields-fill}
 use Rattle.read_number.specs.Numbers.{numberSays}
-use Rattle.contracts.specs.Numbers.{numberAnswer, positionAnswer, grantBytes, Counts, CountsBy, ReadsAt, ReadsAtBy}
+use Rattle.contracts.specs.Numbers.{grantBytes}
 use Rattle.read_number.specs.declared.NumberRead as declared-number
 use Rattle.read_number.specs.declared.NumberRead.the-variants as number
-use Rattle.read_position.specs.Positions.{positionSays}
-use Rattle.read_position.specs.declared.PositionRead as declared-position
-use Rattle.read_position.specs.declared.PositionRead.the-variants as position
-use Rattle.read_counts_c.specs.Export.{NumberTold, GrantTold}
+use Rattle.read_descent.specs.Parts.{positionSays}
+use Rattle.read_descent.specs.declared.PositionRead as declared-position
+use Rattle.read_descent.specs.declared.PositionRead.the-variants as position
 
 mod-alike : (a b k : ℕ) → a ≡ b + 256 * k → b % 256 ≡ a % 256
 mod-alike a b k e = omega arith
@@ -74,47 +73,19 @@ grant-put h k f y f₁ z f₂ l e e₁ g g₁ =
     ∙ ap (hashBytes h ++_) (append-nil (hashBytes k))
 
 module _ {a : Answer ℕ} {r : declared-number.NumberRead} (says : numberSays r ≡ a) (old : Bytes) where
-  pub count-refused : {n : ℕ} → r ≡ number.Refused n → NumberTold a old n old
+  pub count-refused : {n : ℕ} → r ≡ number.Refused n → Exported a (le 8) old n old
   unfolding numberSays
-  count-refused {n} e = let z : a ≡ refused n = sym says ∙ ap numberSays e in record { answer = rw z; count = rw z }
+  count-refused e = exported-refusal (sym (ap numberSays e) ∙ says)
 
-  pub count-written : {n : ℕ} {new : Bytes} → r ≡ number.Number n → new ≡ le 8 n → NumberTold a old 0 new
+  pub count-written : {n : ℕ} {new : Bytes} → r ≡ number.Number n → new ≡ le 8 n → Exported a (le 8) old 0 new
   unfolding numberSays
-  count-written {n} e w = let z : a ≡ accepted n = sym says ∙ ap numberSays e in record { answer = rw z; count = rw z w }
+  count-written e w = exported-answer (sym (ap numberSays e) ∙ says) w
 
 module _ {a : Answer Grant} {r : declared-position.PositionRead} (says : positionSays r ≡ a) (old : Bytes) where
-  pub at-refused : {n : ℕ} → r ≡ position.Refused n → GrantTold a old n old
+  pub at-refused : {n : ℕ} → r ≡ position.Refused n → Exported a grantBytes old n old
   unfolding positionSays
-  at-refused {n} e = let z : a ≡ refused n = sym says ∙ ap positionSays e in record { answer = rw z; grant = rw z }
+  at-refused e = exported-refusal (sym (ap positionSays e) ∙ says)
 
-  pub at-written : {h k : Hash} {new : Bytes} → r ≡ position.Grant h k → new ≡ hashBytes h ++ hashBytes k → GrantTold a old 0 new
+  pub at-written : {h k : Hash} {new : Bytes} → r ≡ position.Grant h k → new ≡ hashBytes h ++ hashBytes k → Exported a grantBytes old 0 new
   unfolding positionSays
-  at-written {h} {k} e w =
-      let z : a ≡ accepted (grant (hashBytes h) (hashBytes k)) = sym says ∙ ap positionSays e in record { answer = rw z; grant = rw z w }
-
--- what is told of an answer is told of its equal; and a refusal, which writes nothing
-pub number-as : {a b : Answer ℕ} {f g : Bytes} {r : ℕ} → a ≡ b → NumberTold a f r g → NumberTold b f r g
-number-as {f = f} e w = record { answer = w .answer ∙ ap numberOf e; count = w .count ∙ ap (λ x. toldOf (le 8) x f) e }
-
-pub number-refusal : {b : Answer ℕ} (n : ℕ) (f : Bytes) → refused n ≡ b → NumberTold b f n f
-number-refusal n f e = record { answer = ap numberOf e; count = ap (λ x. toldOf (le 8) x f) e }
-
-pub grant-as : {a b : Answer Grant} {f g : Bytes} {r : ℕ} → a ≡ b → GrantTold a f r g → GrantTold b f r g
-grant-as {f = f} e w = record { answer = w .answer ∙ ap numberOf e; grant = w .grant ∙ ap (λ x. toldOf grantBytes x f) e }
-
-pub grant-refusal : {b : Answer Grant} (n : ℕ) (f : Bytes) → refused n ≡ b → GrantTold b f n f
-grant-refusal n f e = record { answer = ap numberOf e; grant = ap (λ x. toldOf grantBytes x f) e }
-
--- an answer that is told is what the contract says
-module _ {s : Bytes} {v : ℕ} {f : Bytes} {r : ℕ} {g : Bytes} where
-  pub number-told : NumberTold (numberAnswer s none v) f r g → Counts s v f r g
-  number-told w = record { answer = w .answer; count = w .count }
-
-  pub number-told-by : {table : List ℕ} → NumberTold (numberAnswer s (some table) v) f r g → CountsBy s table v f r g
-  number-told-by w = record { answer = w .answer; count = w .count }
-
-  pub grant-told : {i : ℕ} → GrantTold (positionAnswer s none v i) f r g → ReadsAt s v i f r g
-  grant-told w = record { answer = w .answer; grant = w .grant }
-
-  pub grant-told-by : {table : List ℕ} {i : ℕ} → GrantTold (positionAnswer s (some table) v i) f r g → ReadsAtBy s table v i f r g
-  grant-told-by w = record { answer = w .answer; grant = w .grant }
+  at-written e w = exported-answer (sym (ap positionSays e) ∙ says) w

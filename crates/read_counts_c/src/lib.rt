@@ -2,10 +2,11 @@
 use fields::put_u32;
 use hash::Hash;
 use hash::put_hash;
+use read_descent::PositionRead;
 use read_number::NumberRead;
 use read_open::as_many;
-use read_position::PositionRead;
 use refusal_numbers::WRONG_SIZE;
+ghost use mathlib.Core.Option.{some};
 ghost use mathlib.Core.Path.{_≡_};
 ghost use mathlib.Core.List.{_++_};
 ghost use lib.ListN.{length};
@@ -13,8 +14,8 @@ ghost use Rattle.terms.specs.Fields.{le};
 ghost use Rattle.hash.specs.Hash.{hashBytes};
 ghost use Rattle.read_number.specs.Numbers.{numberAnswerBy};
 ghost use Rattle.read_position.specs.Positions.{positionAnswerBy};
-ghost use Rattle.read_counts_c.specs.Export.{NumberTold, GrantTold};
-ghost use Rattle.contracts.specs.Numbers.{Counts, CountsBy, ReadsAt, ReadsAtBy};
+ghost use Rattle.meaning.specs.Answers.{Exported};
+ghost use Rattle.contracts.specs.Numbers.{grantBytes, Counts, CountsBy, ReadsAt, ReadsAtBy};
 
 // A number in eight bytes.
 fn put_count(count: &mut [u8], n: u64)
@@ -36,7 +37,7 @@ fn put_grant(grant: &mut [u8], key: Hash, value: Hash)
 
 // The number of grants of a version, by a table of any length.
 fn count_by(store: &[u8], index: &[u32], version: u32, count: &mut [u8; 8]) -> u64
-    ensures { λ r. ⌜ NumberTold (numberAnswerBy (now (store .entry)) (now (index .entry)) version) (now (count .entry)) r (now (count .exit)) ⌝ }
+    ensures { λ r. ⌜ Exported (numberAnswerBy (now (store .entry)) (now (index .entry)) version) (le 8) (now (count .entry)) r (now (count .exit)) ⌝ }
 {
     let read = read_number::grants_count(store, index, version);
     match read {
@@ -50,7 +51,7 @@ fn count_by(store: &[u8], index: &[u32], version: u32, count: &mut [u8; 8]) -> u
 
 // The grant at a position of a version, 0 the least key, by a table of any length: its key and its value.
 fn at_by(store: &[u8], index: &[u32], version: u32, position: u64, grant: &mut [u8; 64]) -> u64
-    ensures { λ r. ⌜ GrantTold (positionAnswerBy (now (store .entry)) (now (index .entry)) version position) (now (grant .entry)) r (now (grant .exit)) ⌝ }
+    ensures { λ r. ⌜ Exported (positionAnswerBy (now (store .entry)) (now (index .entry)) version position) grantBytes (now (grant .entry)) r (now (grant .exit)) ⌝ }
 {
     let read = read_position::grants_at(store, index, version, position);
     match read {
@@ -78,7 +79,7 @@ pub fn grants_at(store: &[u8], version: u32, position: u64, grant: &mut [u8; 64]
 
 // The number of grants of a version, by a table lent with the store (2026-05).
 pub fn count_indexed(store: &[u8], index: &[u32], version: u32, count: &mut [u8; 8]) -> u64
-    ensures { λ r. ⌜ CountsBy (now (store .entry)) (now (index .entry)) version (now (count .entry)) r (now (count .exit)) ⌝ }
+    ensures { λ r. ⌜ CountsBy (now (store .entry)) (some (now (index .entry))) version (now (count .entry)) r (now (count .exit)) ⌝ }
 {
     if !as_many(store, index) {
         return WRONG_SIZE as u64;
@@ -94,7 +95,7 @@ pub fn at_indexed(
     position: u64,
     grant: &mut [u8; 64],
 ) -> u64
-    ensures { λ r. ⌜ ReadsAtBy (now (store .entry)) (now (index .entry)) version position (now (grant .entry)) r (now (grant .exit)) ⌝ }
+    ensures { λ r. ⌜ ReadsAtBy (now (store .entry)) (some (now (index .entry))) version position (now (grant .entry)) r (now (grant .exit)) ⌝ }
 {
     if !as_many(store, index) {
         return WRONG_SIZE as u64;

@@ -5,7 +5,7 @@ use nodehash::inner_hash;
 use nodehash::leaf_hash;
 use slots::child_hash;
 use slots::grant_of;
-use slots::is_leaf;
+use slots_form::is_leaf;
 use terms::Form;
 ghost use mathlib.Core.Path.{_≡_};
 ghost use lib.ListN.{length};

@@ -10,7 +10,7 @@ use lib.ListN.{length}
 use Rattle.terms.specs.declared.Form.the-variants.{Counted as counted}
 use Rattle.terms.specs.Bits.{Bytes, Side, longer, bit}
 use Rattle.meaning.specs.Calls.{Answer, refused}
-use Rattle.meaning.specs.Reading.{refusalOf, Seen, lost, gap, leafSeen, fork, seenAt, seen, Pass, walk, Verdict, readEnd}
+use Rattle.meaning.specs.Reading.{refusalOf, Seen, stoppedBy, gap, leafSeen, fork, seenAt, seen, Pass, walk, Verdict, readEnd}
 use Rattle.indexed.specs.Index.{byTable}
 use Rattle.place.specs.declared.Place as declared-place
 use Rattle.place.specs.Place.{placeOf, Proper, Stands, Grown}
@@ -32,7 +32,7 @@ saidFrom k i x = readEnd k (walk k i [] x)
 
 -- no read looks at the trail
 trail-unread : (k : Bytes) (i : ℕ) (a b : List Pass) (x : Seen) → readEnd k (walk k i a x) ≡ readEnd k (walk k i b x)
-trail-unread k i a b (lost t) = refl
+trail-unread k i a b (stoppedBy t) = refl
 trail-unread k i a b gap = refl
 trail-unread k i a b (leafSeen l x) = refl
 trail-unread k i a b (fork hashes kids) = trail-unread k (suc i) _ _ (kids (bit i k))

@@ -11,9 +11,9 @@ use Rattle.terms.specs.Bits.{Bytes}
 use Rattle.meaning.specs.Calls.{Answer, refused, accepted, isKept}
 use Rattle.layout.specs.Headers.{Headed, refusal, header, sizeRight, headerOf}
 use Rattle.layout.specs.Stores.{storeOf}
-use Rattle.layout.specs.Answer.{headerSays}
-use Rattle.layout.specs.declared.Header as declared
-use Rattle.layout.specs.declared.Header.the-variants.{Refused, Accepted}
+use Rattle.header.specs.Answer.{headerSays}
+use Rattle.header.specs.declared.Header as declared
+use Rattle.header.specs.declared.Header.the-variants.{Refused, Accepted}
 use Rattle.layout.proofs.Headers as headers
 use Rattle.read_open.specs.Opening.{opened}
 use Rattle.promises.specs.Headed.{byHeader}

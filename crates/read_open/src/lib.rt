@@ -1,6 +1,6 @@
 // What a read tests before it looks at a slot, document 01, 'Reading and proving': the header, and whether the version is kept.
-use layout::Header;
-use layout::read_header;
+use header::Header;
+use header::read_header;
 use layout::sizes::COUNTED_SIZE;
 use layout::sizes::HEADER_SIZE;
 use refusal_numbers::NOT_KEPT;

@@ -30,13 +30,13 @@ use Rattle.read_open.specs.declared.Opened.the-variants.{Refused, Kept}
 use Rattle.read_open.proofs.Opening as opening
 use Rattle.read_step.specs.Walk.{bodyIn}
 use Rattle.read_step.proofs.Seeing.{body-is, inside}
-use Rattle.read_position.specs.Positions.{positionSays, positionAnswerBy}
+use Rattle.read_position.specs.Positions.{positionAnswerBy}
 use Rattle.contracts.specs.Numbers.{positionAnswer}
 use Rattle.promises.proofs.Heading.{as-many, not-as-many}
-use Rattle.read_position.specs.Parts.{kidsFrom, bodyAt}
-use Rattle.read_position.specs.declared.PositionRead as declared
-use Rattle.read_position.specs.declared.PositionRead.the-variants as position
-use Rattle.read_position.proofs.Descending.{counts-are}
+use Rattle.read_descent.specs.Parts.{positionSays, kidsFrom, bodyAt}
+use Rattle.read_descent.specs.declared.PositionRead as declared
+use Rattle.read_descent.specs.declared.PositionRead.the-variants as position
+use Rattle.read_descent.proofs.Descending.{counts-are}
 
 choose-yes : {b : Bool} (x y : Answer Grant) → b ≡ true → cond b x y ≡ x
 choose-yes x y e = ap (λ c. cond c x y) e

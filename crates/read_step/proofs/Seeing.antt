@@ -14,7 +14,7 @@ use Rattle.terms.proofs.Places.{length-longer}
 use Rattle.meaning.specs.Store.{childOn}
 use Rattle.meaning.specs.Sight.{Sight, matches, nothing, spoilt}
 use Rattle.meaning.specs.Calls.{accepted}
-use Rattle.meaning.specs.Reading.{lostRecord, spoiltRecord, strayLeaf, lost, gap, leafSeen, fork, seenAt, seen, bodyHash, rootRead}
+use Rattle.meaning.specs.Reading.{lostRecord, spoiltRecord, strayLeaf, stoppedBy, gap, leafSeen, fork, seenAt, seen, bodyHash, rootRead}
 use Rattle.indexed.specs.Index.{rootBy, nodeBy, byTable}
 use Rattle.indexed.proofs.Scanned.{root-found-at, node-found-at}
 use Rattle.shown.proofs.SeenAt as shown
@@ -82,7 +82,7 @@ module _ (s : Bytes) (o : Sight) {r : declared-sight.Sight} (sighted : Sighted (
     root-nothing table v e = root-gap (byTable table (storeOf s)) v (e ∙ none-sighted)
 
     pub child-nothing : (table : List ℕ) (p : Place) (c : Child) → nodeBy table (storeOf s) (c .version) p ≡ o → 1 ≤ c .version →
-        seenBelow s table p c ≡ lost lostRecord
+        seenBelow s table p c ≡ stoppedBy lostRecord
     unfolding seenBelow
     child-nothing table p c e h = child-lost (byTable table (storeOf s)) p c (256 - length p) h (e ∙ none-sighted)
 
@@ -97,11 +97,11 @@ module _ (s : Bytes) (o : Sight) {r : declared-sight.Sight} (sighted : Sighted (
     pub spoilt-small : sizeRight counted (length s) ≡ true → i < 65536
     spoilt-small size = let h = rw (slots-many counted s) at (is-spoilt .0) in omega (arith, size-says counted (length s) size)
 
-    pub root-spoilt : (table : List ℕ) (v : ℕ) → rootBy table (storeOf s) v ≡ o → seen (byTable table (storeOf s)) v ≡ lost (spoiltRecord i)
+    pub root-spoilt : (table : List ℕ) (v : ℕ) → rootBy table (storeOf s) v ≡ o → seen (byTable table (storeOf s)) v ≡ stoppedBy (spoiltRecord i)
     root-spoilt table v e = shown.root-spoilt (byTable table (storeOf s)) v i (e ∙ spoilt-sighted)
 
     pub child-spoilt : (table : List ℕ) (p : Place) (c : Child) → nodeBy table (storeOf s) (c .version) p ≡ o → 1 ≤ c .version →
-        seenBelow s table p c ≡ lost (spoiltRecord i)
+        seenBelow s table p c ≡ stoppedBy (spoiltRecord i)
     unfolding seenBelow
     child-spoilt table p c e h = shown.child-spoilt (byTable table (storeOf s)) p c (256 - length p) i h (e ∙ spoilt-sighted)
 
@@ -168,7 +168,7 @@ module _ (s : Bytes) (size : sizeRight counted (length s) ≡ true) (bytes : All
         let y = valueIn (slotIn counted i s) in
         let b = leaf-body (slotIn counted i s) e in
         root-leaf (byTable table (storeOf s)) v it k y root-is (holds ∙ b)
-        ∙ ap (λ q. cond (begins q k) (leafSeen k y) (lost strayLeaf)) (sym top)
+        ∙ ap (λ q. cond (begins q k) (leafSeen k y) (stoppedBy strayLeaf)) (sym top)
         ∙ ap (bodySeen s table (placeOf p)) (sym b)
 
     root-fork-is : isLeaf (slotIn counted i s) ≡ false → seen (byTable table (storeOf s)) v ≡ bodySeen s table (placeOf p) (bodyIn (slotIn counted i s))

@@ -15,7 +15,7 @@ use Rattle.meaning.specs.Reading.{
   spoiltRecord,
   strayLeaf,
   Seen,
-  lost,
+  stoppedBy,
   gap,
   leafSeen,
   fork,
@@ -68,7 +68,7 @@ troubleSays trouble.Stray = strayLeaf
 -- An inner node's place is shorter than a key.
 abbrev pub Sees : Bytes → List ℕ → Place → Seen → declared.Seen → Type 0
 Sees s table p x Gap = x ≡ gap
-Sees s table p x (Stopped t) = x ≡ lost (troubleSays t)
+Sees s table p x (Stopped t) = x ≡ stoppedBy (troubleSays t)
 Sees s table p x (Leaf i) = (i < roomOf counted (length s)) × (x ≡ leafAt i s)
 Sees s table p x (Inner i) = (i < roomOf counted (length s)) × (length p < 256) × (x ≡ forkAt i s table p)
 

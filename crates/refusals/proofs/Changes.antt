@@ -4,8 +4,7 @@ use native.Mathlib.Omega.{arith}
 use mathlib.Core.Path.{_≡_, refl, sym, _∙_}
 use mathlib.Core.Logic.{inl, inr}
 use mathlib.Core.Bool.{Bool, true, false, cond, _&&_, true≢false}
-use mathlib.Core.List.{[], _∷_}
-use lib.ListN.{length}
+use lib.ListN.{length, drop}
 use lib.Dec.{ltb, leb}
 use borrow.Author.Tests.{ltb-true, ltb-false, leb-true, le-leb}
 use Rattle.terms.specs.Bits.{Bytes}
@@ -17,17 +16,16 @@ use Rattle.meaning.specs.Answers.{numberOf}
 use Rattle.changed.specs.Changes.{items, itemSize}
 use Rattle.changed.specs.Compare.{changesOf, visitsOf, compare}
 use Rattle.layout.specs.Stores.{storeOf}
-use Rattle.refusals.specs.Rows.{NotBothKept, TooManyVisits, ListTooLong}
-use Rattle.refusals.specs.Orders.{comparisonRows}
+use Rattle.refusals.proofs.Parts.{Row, comparisonRows}
 use Rattle.refusals.proofs.Exactly.{First}
 
 -- Where two neighbouring rows are deserved at once, the answer is the number of the one that is tested first.
 module _ (s : Bytes) (first second limit : ℕ) (room : Bytes) where
-  eight-before-thirteen : NotBothKept s first second → TooManyVisits s first second limit → First (comparisonRows s first second limit room) 8
+  eight-before-thirteen : Row 8 (comparisonRows s first second limit room) → Row 13 (comparisonRows s first second limit room) → First (comparisonRows s first second limit room) 8
   eight-before-thirteen a b = inl (a, refl)
 
-  thirteen-before-nine : (NotBothKept s first second → ⊥) → TooManyVisits s first second limit → ListTooLong s first second room →
-      First (comparisonRows s first second limit room) 13
+  thirteen-before-nine : (Row 8 (comparisonRows s first second limit room) → ⊥) → Row 13 (comparisonRows s first second limit room) →
+      Row 9 (comparisonRows s first second limit room) → First (comparisonRows s first second limit room) 13
   thirteen-before-nine kept a b = inr (kept, inl (a, refl))
 
 kept-of : (st : Store) (v : ℕ) → isKept st v ≡ true → Kept st v
@@ -49,7 +47,7 @@ changes-first s first second limit room =
   where
     few : (a b : Bool) → ltb limit (visitsOf (storeOf s) first second) ≡ a →
         ltb (length room) (itemSize * length (items (changesOf (storeOf s) first second))) ≡ b →
-        First ((13, TooManyVisits s first second limit) ∷ (9, ListTooLong s first second room) ∷ [])
+        First (drop 1 (comparisonRows s first second limit room))
         (numberOf (cond a (refuse 13 (storeOf s))
         (cond b (refuse 9 (storeOf s)) (record { answer = accepted (items (changesOf (storeOf s) first second)); store = storeOf s })) .answer))
     few true b e f = inl (ltb-true limit (visitsOf (storeOf s) first second) e, refl)

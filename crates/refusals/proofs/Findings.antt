@@ -11,16 +11,15 @@ use Rattle.layout.specs.Stores.{storeOf}
 use Rattle.forgery.specs.Finding.{Finding}
 use Rattle.finding_rules.specs.Call.{HoldsAt, FoundIn, not-kept, no-grant, not-in-form, not-holding, holding}
 use Rattle.finding_rules.proofs.Hashes.{holds-alike}
-use Rattle.refusals.specs.Rows.{NotKept, ProofOffForm, HoldsNoGrant}
-use Rattle.refusals.specs.Orders.{foundRows}
+use Rattle.refusals.proofs.Parts.{Row, foundRows}
 use Rattle.refusals.proofs.Exactly.{First}
 
 module _ (s : Bytes) (v : ℕ) (k x : Bytes) where
   -- Where two neighbouring rows are deserved at once, the answer is the number of the one that is tested first.
-  eight-before-fourteen : NotKept s v → HoldsNoGrant s v → First (foundRows s v k x) 8
+  eight-before-fourteen : Row 8 (foundRows s v k x) → Row 14 (foundRows s v k x) → First (foundRows s v k x) 8
   eight-before-fourteen a b = inl (a, refl)
 
-  fourteen-before-ten : (NotKept s v → ⊥) → HoldsNoGrant s v → ProofOffForm x → First (foundRows s v k x) 14
+  fourteen-before-ten : (Row 8 (foundRows s v k x) → ⊥) → Row 14 (foundRows s v k x) → Row 10 (foundRows s v k x) → First (foundRows s v k x) 14
   fourteen-before-ten kept a b = inr (kept, inl (a, refl))
 
   pub finding-first : {a : Answer Finding} → FoundIn sha256 (storeOf s) v k x a → First (foundRows s v k x) (numberOf a)
@@ -29,7 +28,7 @@ module _ (s : Bytes) (v : ℕ) (k x : Bytes) where
   finding-first (not-in-form i g n) = inr (λ m. m i, inr (g, inl (n, refl)))
   finding-first (not-holding {p} i g w n) =
       inr (λ m. m i, inr (g, inr (λ f. f p w, inl ((p, w, λ a h. n a (holds-alike (storeOf s) v k p a .1 h)), refl))))
-  finding-first (holding {p} {a} i g w h) =
+  finding-first (holding {p} {a} i g w h t l) =
       inr (
         λ m. m i,
         inr (

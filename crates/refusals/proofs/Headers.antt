@@ -1,5 +1,5 @@
 -- Rows 1 and 2: what reading a header says is what they deserve; and the records of bytes with a right header are in form. Assumes nothing.
-use Prim.Native.Nat.{ℕ, _+_, _*_, _≤_, _<_}
+use Prim.Native.Nat.{ℕ, _+_, _*_, _≤_}
 use native.Mathlib.Omega.{arith}
 use mathlib.Core.Path.{_≡_, refl, ap, sym, _∙_, subst}
 use mathlib.Core.Logic.{inl, inr}
@@ -21,8 +21,8 @@ use Rattle.layout.specs.Slots.{SlotForm}
 use Rattle.layout.specs.Stores.{storeOf}
 use Rattle.layout.proofs.Headers.{size-small, room-of, size-right-of, size-says, size-least, accepted}
 use Rattle.layout.proofs.Stores.{store-form}
-use Rattle.refusals.specs.Rows.{WrongLength, RightHeaderIn, WrongHeader}
-use Rattle.refusals.specs.Orders.{headerRows}
+use Rattle.refusals.specs.Tables.{RightHeader, headerRows}
+use Rattle.refusals.proofs.Parts.{WrongLength}
 use Rattle.refusals.specs.Exactly.{NoneOf}
 use Rattle.refusals.proofs.Exactly.{First}
 
@@ -39,7 +39,7 @@ module _ (fm : Form) (s : Bytes) (size : sizeRight fm (length s) ≡ true) where
   zero-said i n h e =
       zero-bytes (slice i n s) e ∙ ap zeroBytes (length-slice i n s (omega (arith, size-least fm (length s) size, size-small fm)))
 
-  pub header-said : headerRight fm s ≡ true → RightHeaderIn fm s
+  pub header-said : headerRight fm s ≡ true → RightHeader fm s
   unfolding headerRight
   header-said e =
       let t = all-of-tests (headerTests fm s) e in
@@ -53,7 +53,7 @@ module _ (fm : Form) (s : Bytes) (size : sizeRight fm (length s) ≡ true) where
         four-zero = zero-said 20 4 (omega arith) (t .1 .1 .1 .1 .1 .0);
       }
 
-  pub said-header : RightHeaderIn fm s → headerRight fm s ≡ true
+  pub said-header : RightHeader fm s → headerRight fm s ≡ true
   unfolding headerRight
   said-header w =
       let room = room-of fm (length s) (field 8 4 s) (w .capacity) in
@@ -74,8 +74,8 @@ module _ (fm : Form) (s : Bytes) (size : sizeRight fm (length s) ≡ true) where
 -- what reading a header says, by the two rows
 pub data Header (s : Bytes) : Headed → Type 0 where
   wrong-length : WrongLength s → Header s (refusal 1)
-  wrong-header : (WrongLength s → ⊥) → WrongHeader s → Header s (refusal 2)
-  right : {c o l : ℕ} → (WrongLength s → ⊥) → (WrongHeader s → ⊥) → Header s (header c o l)
+  wrong-header : (WrongLength s → ⊥) → (RightHeader counted s → ⊥) → Header s (refusal 2)
+  right : {c o l : ℕ} → (WrongLength s → ⊥) → ((RightHeader counted s → ⊥) → ⊥) → Header s (header c o l)
 
 pub header-is : (s : Bytes) → Header s (headerOf counted s)
 unfolding headerOf

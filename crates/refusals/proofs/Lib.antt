@@ -1,4 +1,5 @@
 pub mod Exactly
+pub mod Parts
 pub mod Stopped
 pub mod Headers
 pub mod Batches

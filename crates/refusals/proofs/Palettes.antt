@@ -21,10 +21,11 @@ use Rattle.ways.proofs.Theorems.{one-trouble, empty-exactly, proof-stopped-exac
 use Rattle.layout.specs.Stores.{storeOf}
 use Rattle.palette_rules.specs.Palette.{wholeKeys, keysIn, followed, inTurn, lengthTogether, fittedTogether, palette}
 use Rattle.palette_rules.specs.Claims.{FirstRefused}
-use Rattle.palette_rules.proofs.Turns.{proofs-of-each, first-refused, refused-first, each-proved}
+use Rattle.palette_rules.proofs.Turns.{proofs-of-each, each-mapped, asked-as, one-asked, first-refused, refused-first, each-proved}
 use Rattle.palette_rules.proofs.Keys.{keys-are-32, keys-counted, list-is-keys, flat-is-whole}
-use Rattle.refusals.specs.Rows.{NotKept, EmptyVersion, NotKeys, AskedOfEmpty, StopsPalette, TooLongTogether}
-use Rattle.refusals.specs.Orders.{askingRows}
+use Rattle.ways.specs.Ways.{EmptyVersion}
+use Rattle.refusals.specs.Tables.{NotKeys, StopsPalette}
+use Rattle.refusals.proofs.Parts.{NotKept, TooLongTogether, askingRows}
 use Rattle.refusals.proofs.Exactly.{First}
 use Rattle.refusals.proofs.Stopped.{Stopped, tested, met, passed}
 use Rattle.refusals.proofs.Walks.{kept-said, not-kept, proof-is, refused-by}
@@ -50,48 +51,34 @@ module _ (s : Bytes) (formed : Formed (storeOf s)) (v : ℕ) (keys : List Bytes)
     stops-refused : (t : Trouble) → StopsPalette s v keys t → inTurn (proof (storeOf s) v) keys ≡ refused (refusalOf t)
     stops-refused t w =
         refused-first (proof (storeOf s) v) keys (refusalOf t)
-        (record {
-          earlier = w .earlier;
-          key = w .key;
-          later = w .later;
-          order = w .order;
-          proved = w .proved;
-          holds = proof-is s formed v (w .key) kept ∙ proof-stopped-exactly (storeOf s) formed v (w .key) t .1 (w .holds);
-        })
+        (asked-as (proof (storeOf s) v) (λ k h. proof-is s formed v k kept ∙ proof-stopped-exactly (storeOf s) formed v k t .1 h) keys w)
 
     fits : (ps : List Proof) → inTurn (proof (storeOf s) v) keys ≡ accepted ps → (b : Bool) → ltb (length room) (lengthTogether ps) ≡ b →
         First ((9, TooLongTogether s v keys room) ∷ []) (numberOf {A = List Proof} (cond b (refused 9) (accepted ps)))
-    fits ps f true e = inl ((ps, proofs-of-each (proof (storeOf s) v) keys ps f, ltb-true (length room) (lengthTogether ps) e), refl)
+    fits ps f true e = inl ((ps, each-mapped (proof (storeOf s) v) keys ps .1 (proofs-of-each (proof (storeOf s) v) keys ps f), ltb-true (length room) (lengthTogether ps) e), refl)
     fits ps f false e =
-        inr (λ w. absurd (omega (arith, ltb-false (length room) (lengthTogether ps) e, ap lengthTogether (same-proofs (sym f ∙ each-proved (proof (storeOf s) v) keys (w .0) (w .1))), w .2)), refl)
+        inr (λ w. absurd (omega (arith, ltb-false (length room) (lengthTogether ps) e, ap lengthTogether (same-proofs (sym f ∙ each-proved (proof (storeOf s) v) keys (w .0) (each-mapped (proof (storeOf s) v) keys (w .0) .0 (w .1)))), w .2)), refl)
 
-    given : (AskedOfEmpty s v keys → ⊥) → (ps : List Proof) → inTurn (proof (storeOf s) v) keys ≡ accepted ps →
+    given : (EmptyVersion (storeOf s) v × (keys ≡ [] → ⊥) → ⊥) → (ps : List Proof) → inTurn (proof (storeOf s) v) keys ≡ accepted ps →
         Deserved (numberOf (fittedTogether (length room) (accepted ps)))
     given full ps f =
         passed (not-8, (full, tt)) (λ t w. let z = sym f ∙ stops-refused t w in clash (cc)) (fits ps f (ltb (length room) (lengthTogether ps)) refl)
 
     -- with a root
-    rooted : (EmptyVersion s v → ⊥) → (a : Answer (List Proof)) → inTurn (proof (storeOf s) v) keys ≡ a → Deserved (numberOf (fittedTogether (length room) a))
+    rooted : (EmptyVersion (storeOf s) v → ⊥) → (a : Answer (List Proof)) → inTurn (proof (storeOf s) v) keys ≡ a → Deserved (numberOf (fittedTogether (length room) a))
     rooted full (accepted ps) f = given (λ q. full (q .0)) ps f
     rooted full (refused n) f = go (first-refused (proof (storeOf s) v) keys n f)
       where
         go : FirstRefused (proof (storeOf s) v) keys n → Deserved n
-        go w = by (refused-by s formed v (w .key) kept (w .holds))
+        go w = let (k, h) = one-asked (proof (storeOf s) v) keys w in by k h (refused-by s formed v k kept h)
           where
-            by : ((t : Trouble) × (n ≡ refusalOf t)) ⊎ (n ≡ 14) → Deserved n
-            by (inl (t, e)) =
+            by : (k : Bytes) → proof (storeOf s) v k ≡ refused n → ((t : Trouble) × (n ≡ refusalOf t)) ⊎ (n ≡ 14) → Deserved n
+            by k h (inl (t, e)) =
                 met (not-8, (λ q. full (q .0), tt)) t
-                (record {
-                  earlier = w .earlier;
-                  key = w .key;
-                  later = w .later;
-                  order = w .order;
-                  proved = w .proved;
-                  holds = proof-stopped-exactly (storeOf s) formed v (w .key) t .0 (sym (proof-is s formed v (w .key) kept) ∙ w .holds ∙ ap refused e);
-                })
+                (asked-as (proof (storeOf s) v) (λ j i. proof-stopped-exactly (storeOf s) formed v j t .0 (sym (proof-is s formed v j kept) ∙ i ∙ ap refused e)) keys w)
                 (λ u p. one-trouble t u (sym e ∙ same-number (sym f ∙ stops-refused u p))) e
-            by (inr fourteen) =
-                absurd (full (empty-exactly (storeOf s) v .0 (fourteen-exactly-without-root (storeOf s) formed v (w .key) .0 (w .holds ∙ ap refused fourteen) .1)))
+            by k h (inr fourteen) =
+                absurd (full (empty-exactly (storeOf s) v .0 (fourteen-exactly-without-root (storeOf s) formed v k .0 (h ∙ ap refused fourteen) .1)))
 
     by-root : (x : Sight) → rootSight (storeOf s) v ≡ x → Deserved (numberOf (fittedTogether (length room) (inTurn (proof (storeOf s) v) keys)))
     by-root (matches r) e = rooted (λ w. let f = sym e ∙ empty-exactly (storeOf s) v .1 w in clash (cc)) (inTurn (proof (storeOf s) v) keys) refl

@@ -2,6 +2,7 @@
 use mathlib.Core.Path.{refl, subst}
 use mathlib.Core.Logic.{inl, inr}
 use mathlib.Core.List.{[], _∷_}
+use lib.ListN.{drop}
 use Rattle.terms.specs.Bits.{Bytes}
 use Rattle.terms.specs.Records.{Proof}
 use Rattle.meaning.specs.Calls.{Answer}
@@ -12,12 +13,12 @@ use Rattle.nodehash.specs.Node.{leafHash, innerHash}
 use Rattle.proofrecords.specs.ProofBytes.{ProofIs}
 use Rattle.proofrecords.proofs.Proofs.{one-proof-is}
 use Rattle.verify_rules.specs.Verify.{Judged, holding, not-holding}
-use Rattle.refusals.specs.Rows.{ProofOffForm, DoesNotHold}
-use Rattle.refusals.specs.Orders.{holdingRows}
+use Rattle.refusals.specs.Tables.{DoesNotHold, verifyRows}
+use Rattle.refusals.proofs.Parts.{Row}
 use Rattle.refusals.proofs.Exactly.{First}
 
 -- Where both rows are deserved at once, the answer is the number of the one that is tested first.
-ten-before-eleven : (root k x : Bytes) → ProofOffForm x → First (holdingRows root k x) 10
+ten-before-eleven : (root k x : Bytes) → Row 10 (verifyRows root k x) → First (drop 1 (verifyRows root k x)) 10
 ten-before-eleven root k x a = inl (a, refl)
 
 -- row 11, by what is said of the proof that the bytes are

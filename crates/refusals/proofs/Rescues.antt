@@ -1,30 +1,30 @@
 -- A rescue's number is that of its first row that holds: its cases are the rows. Assumes nothing.
-use Prim.Native.Nat.{ℕ, _<_}
+use Prim.Native.Nat.{ℕ}
 use native.Mathlib.Omega.{arith}
-use mathlib.Core.Path.{_≡_, refl, sym, _∙_, subst}
+use mathlib.Core.Path.{refl, sym, _∙_}
 use mathlib.Core.Logic.{inl, inr}
-use mathlib.Core.Bool.{true}
 use lib.ListN.{length}
 use Rattle.terms.specs.declared.Form.the-variants.{Counted as counted}
 use Rattle.terms.specs.Bits.{Bytes}
 use Rattle.meaning.specs.Calls.{Answer}
-use Rattle.meaning.specs.Answers.{numberOf}
+use Rattle.meaning.specs.Answers.{numberOf, exports-refusal, exports-answer}
 use Rattle.layout.specs.Sizes.{roomOf}
-use Rattle.layout.specs.Headers.{sizeRight}
 use Rattle.layout.proofs.Headers.{size-says, size-right-of}
-use Rattle.rescue_bytes.specs.Rescues.{SameSize, Report, Rescues, wrong-size, out-of-order, no-version, rescues, RescueExports, exports-refusal, exports-report}
-use Rattle.refusals.specs.Rows.{WrongSizes}
-use Rattle.refusals.specs.Orders.{rescueRows}
+use Rattle.rescue_bytes.specs.Rescues.{SameSize, Report, Rescues, wrong-size, out-of-order, no-version, rescues, RescueExports}
+use Rattle.refusals.specs.Tables.{HasSlots, WrongSize, rescueRows}
 use Rattle.refusals.proofs.Exactly.{First}
 
 module _ (s old : Bytes) where
-  sizes-wrong : (SameSize s old → ⊥) → WrongSizes s old
-  sizes-wrong f n a b e g = f (record { source = size-right-of counted (length s) n e a b; target = size-right-of counted (length old) n g a b; equal = e ∙ sym g })
+  abbrev Sizes : Type 0
+  Sizes = WrongSize (λ n. HasSlots counted s n × HasSlots counted old n)
 
-  sizes-right : SameSize s old → WrongSizes s old → ⊥
+  sizes-wrong : (SameSize s old → ⊥) → Sizes
+  sizes-wrong f n a b (e, g) = f (record { source = size-right-of counted (length s) n e a b; target = size-right-of counted (length old) n g a b; equal = e ∙ sym g })
+
+  sizes-right : SameSize s old → Sizes → ⊥
   sizes-right w f =
       let k = size-says counted (length s) (w .source) in
-      f (roomOf counted (length s)) (k .1) (k .2) (k .0) (sym (w .equal) ∙ k .0)
+      f (roomOf counted (length s)) (k .1) (k .2) (k .0, sym (w .equal) ∙ k .0)
 
   rescue-case : (oldest latest : ℕ) (a : Answer Report) {t : Bytes} → Rescues oldest latest s old a t → First (rescueRows s old oldest latest) (numberOf a)
   rescue-case oldest latest a (wrong-size f) = inl (sizes-wrong f, refl)
@@ -36,4 +36,4 @@ module _ (s old : Bytes) where
   pub rescue-first : (oldest latest : ℕ) {f : Bytes} {r : ℕ} {t g : Bytes} → RescueExports oldest latest s old f r t g →
       First (rescueRows s old oldest latest) r
   rescue-first oldest latest (exports-refusal w) = rescue-case oldest latest _ w
-  rescue-first oldest latest (exports-report w) = rescue-case oldest latest _ w
+  rescue-first oldest latest (exports-answer w) = rescue-case oldest latest _ w

@@ -4,6 +4,7 @@ use native.Mathlib.Omega.{arith}
 use mathlib.Core.Path.{refl, subst}
 use mathlib.Core.Logic.{inl, inr}
 use mathlib.Core.List.{[], _∷_}
+use lib.ListN.{drop}
 use Rattle.terms.specs.Bits.{Bytes}
 use Rattle.meaning.specs.Calls.{Answer}
 use Rattle.meaning.specs.Reading.{Verdict}
@@ -11,22 +12,26 @@ use Rattle.meaning.specs.Answers.{numberOf}
 use Rattle.verify_rules.specs.Verify.{Sizes32}
 use Rattle.shelf_rules.specs.Shelf.{ShelfHolds, ShelfTold, not-32-bytes, too-many-bits, not-in-form, not-holding, holding}
 use Rattle.shelf_rules.proofs.Told.{one-shelf-is}
-use Rattle.refusals.specs.Rows.{Not32, TooManyBits, ShelfOffForm}
-use Rattle.refusals.specs.Orders.{shelfRows}
+use Rattle.refusals.specs.Exactly.{Table}
+use Rattle.refusals.specs.Tables.{Not32, shelfVerifyRows}
+use Rattle.refusals.proofs.Parts.{Row}
 use Rattle.refusals.proofs.Exactly.{First}
 
 -- Where two neighbouring rows are deserved at once, the answer is the number of the one that is tested first.
 module _ (root : Bytes) (b : ℕ) (k x : Bytes) where
-  twenty-one-before-ten : TooManyBits b → ShelfOffForm x → First (shelfRows root b k x) 21
+  abbrev rows : Table
+  rows = drop 1 (shelfVerifyRows root b k x)
+
+  twenty-one-before-ten : Row 21 rows → Row 10 rows → First rows 21
   twenty-one-before-ten a f = inl (a, refl)
 
-  ten-before-eleven : (TooManyBits b → ⊥) → ShelfOffForm x → First (shelfRows root b k x) 10
+  ten-before-eleven : (Row 21 rows → ⊥) → Row 10 rows → First rows 10
   ten-before-eleven few a = inr (few, inl (a, refl))
 
   sized : Sizes32 root k → Not32 (root ∷ k ∷ []) → ⊥
   sized s n = n (s .0, (s .1, tt))
 
-  pub shelf-first : {a : Answer Verdict} → ShelfTold root b k x a → First ((12, Not32 (root ∷ k ∷ [])) ∷ shelfRows root b k x) (numberOf a)
+  pub shelf-first : {a : Answer Verdict} → ShelfTold root b k x a → First (shelfVerifyRows root b k x) (numberOf a)
   shelf-first (not-32-bytes n) = inl (λ z. n (z .0, z .1 .0), refl)
   shelf-first (too-many-bits s m) = inr (sized s, inl (m, refl))
   shelf-first (not-in-form s l n) = inr (sized s, inr (λ m. omega arith, inl (n, refl)))

@@ -1,18 +1,18 @@
 -- A read that tests some rows first and then is stopped by the first trouble that it meets: its number is exact in the low half, and its slot in
 -- the high one. Assumes nothing.
-use Prim.Native.Nat.{ℕ, _+_, _*_, _<_}
+use Prim.Native.Nat.{ℕ, _+_, _/_, _<_}
 use native.Mathlib.Omega.{arith}
-use mathlib.Core.Path.{_≡_, refl, ap, sym, _∙_, subst}
-use mathlib.Core.Logic.{_⊎_, inl, inr}
+use mathlib.Core.Path.{_≡_, ap, sym, _∙_, subst}
+use mathlib.Core.Logic.{inl, inr}
 use mathlib.Core.Bool.{Bool, true, _&&_}
 use mathlib.Core.List.{[], _∷_, _++_}
 use lib.Dec.{ltb}
 use borrow.Author.Tests.{ltb-true}
 use Rattle.terms.proofs.Tests.{and-left, and-right}
 use Rattle.meaning.specs.Reading.{Trouble, lostRecord, spoiltRecord, strayLeaf, beside, refusalOf}
-use Rattle.refusals.specs.Exactly.{Table, Exactly, NoneOf, low, high, Names}
-use Rattle.refusals.specs.Rows.{Lost, Unsound}
-use Rattle.refusals.proofs.Exactly.{First, past, within, distinct, exactly}
+use Rattle.refusals.specs.Exactly.{Table, NoneOf, low, Names}
+use Rattle.refusals.specs.Tables.{Unsound}
+use Rattle.refusals.proofs.Exactly.{First, past, within}
 
 -- what a read answers: a row that is tested first; the one trouble that stops it; or a row that is tested after it
 pub data Stopped (early later : Table) (stops : Trouble → Type 0) (n : ℕ) : Type 0 where
@@ -50,12 +50,14 @@ no-first (row ∷ rows) n none (inl f) = absurd (none .0 (f .0))
 no-first (row ∷ rows) n none (inr f) = no-first rows n (none .1) (f .1)
 
 -- the halves of a number
+abbrev high : ℕ → ℕ
+high r = r / 4294967296
+
 small-low : (n : ℕ) → n < 4294967296 → low n ≡ n
 unfolding low
 small-low n h = omega arith
 
 small-high : (n : ℕ) → n < 4294967296 → high n ≡ 0
-unfolding high
 small-high n h = omega arith
 
 beside-low : (i : ℕ) → low (beside 3 i) ≡ 3
@@ -63,7 +65,7 @@ unfolding low beside
 beside-low i = omega arith
 
 beside-high : (i : ℕ) → high (beside 3 i) ≡ i + 1
-unfolding high beside
+unfolding beside
 beside-high i = omega arith
 
 clash : {A : Type 0} → _≡_ {A = ℕ} 0 1 → A
@@ -77,7 +79,7 @@ module _ {early later : Table} {stops : Trouble → Type 0} {n : ℕ} (few : sma
     (w : Stopped early later stops n) where
   -- Which of 17 and 3 it is, or which other row.
   first-met : (t : Trouble) → stops t → ((u : Trouble) → stops u → t ≡ u) → n ≡ refusalOf t →
-      First ((17, Lost stops) ∷ (3, Unsound stops) ∷ later) (low n)
+      First ((17, stops lostRecord) ∷ (3, Unsound stops) ∷ later) (low n)
   first-met lostRecord p one e = inl (p, ap low e ∙ small-low 17 (omega arith))
   first-met (spoiltRecord i) p one e = inr (λ q. let z = one lostRecord q in clash (cc), inl (inr (i, p), ap low e ∙ beside-low i))
   first-met strayLeaf p one e = inr (λ q. let z = one lostRecord q in clash (cc), inl (inl p, ap low e ∙ small-low 3 (omega arith)))
@@ -88,17 +90,17 @@ module _ {early later : Table} {stops : Trouble → Type 0} {n : ℕ} (few : sma
   before : First early n → First early (low n)
   before f = subst (First early) (sym (small-low n (first-small early n few f))) f
 
-  pub stopped-first : First (early ++ (17, Lost stops) ∷ (3, Unsound stops) ∷ later) (low n)
+  pub stopped-first : First (early ++ (17, stops lostRecord) ∷ (3, Unsound stops) ∷ later) (low n)
   stopped-first = go w
     where
-      go : Stopped early later stops n → First (early ++ (17, Lost stops) ∷ (3, Unsound stops) ∷ later) (low n)
+      go : Stopped early later stops n → First (early ++ (17, stops lostRecord) ∷ (3, Unsound stops) ∷ later) (low n)
       go (tested f z) =
-          let e = small-low n (first-small early n few f) in within early _ (low n) (before f) (λ q. z (sym e ∙ q))
-      go (met none t p one e) = past early _ (low n) none (first-met t p one e)
-      go (passed none p f) = past early _ (low n) none (inr (p lostRecord, inr (none-unsound p, after f)))
+          let e = small-low n (first-small early n few f) in within early ((17, stops lostRecord) ∷ (3, Unsound stops) ∷ later) (low n) (before f) (λ q. z (sym e ∙ q))
+      go (met none t p one e) = past early ((17, stops lostRecord) ∷ (3, Unsound stops) ∷ later) (low n) none (first-met t p one e)
+      go (passed none p f) = past early ((17, stops lostRecord) ∷ (3, Unsound stops) ∷ later) (low n) none (inr (p lostRecord, inr (none-unsound p, after f)))
 
   -- The same of a read that no lost record stops.
-  pub stopped-found : (Lost stops → ⊥) → First (early ++ (3, Unsound stops) ∷ later) (low n)
+  pub stopped-found : (stops lostRecord → ⊥) → First (early ++ (3, Unsound stops) ∷ later) (low n)
   stopped-found found = go w
     where
       met-here : (t : Trouble) → stops t → n ≡ refusalOf t → First ((3, Unsound stops) ∷ later) (low n)

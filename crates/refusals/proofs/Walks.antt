@@ -5,7 +5,7 @@ use mathlib.Core.Path.{_≡_, refl, ap, sym, _∙_, subst}
 use mathlib.Core.Logic.{_⊎_, inl, inr}
 use mathlib.Core.Bool.{Bool, true, false, cond, true≢false}
 use mathlib.Core.List.{[], _∷_, map}
-use lib.ListN.{length}
+use lib.ListN.{length, drop}
 use lib.Dec.{leb, ltb}
 use borrow.Author.Tests.{leb-true, le-leb, ltb-true, ltb-false}
 use Rattle.terms.specs.Bits.{Bytes, left, right, sameBytes}
@@ -15,33 +15,43 @@ use Rattle.meaning.specs.Sight.{Sight, matches, nothing, spoilt, rootSight, sca
 use Rattle.meaning.specs.Sound.{Kept}
 use Rattle.meaning.specs.Calls.{Answer, refused, accepted, isKept, refuse, prune}
 use Rattle.meaning.specs.Answers.{numberOf}
-use Rattle.meaning.specs.Reading.{Trouble, spoiltRecord, refusalOf, seen, End, broken, atLeaf, atGap, walk, readEnd, readKey, rootRead, readRoot}
-use Rattle.meaning.specs.Proving.{stepUp, presenceOf, Sought, lostWay, nobody, somebody, neighbour, absenceFrom, absenceAt, proveEnd, proveSeen, proof, proofLength, fitted, prove}
+use Rattle.meaning.specs.Reading.{Trouble, spoiltRecord, refusalOf, seen, End, walkStopped, atLeaf, atGap, walk, readEnd, readKey, rootRead, readRoot}
+use Rattle.meaning.specs.Proving.{stepUp, presenceOf, Sought, searchStopped, nobody, somebody, neighbour, absenceFrom, absenceAt, proveEnd, proveSeen, proof, proofLength, fitted, prove}
 use Rattle.meaning.proofs.Empty.{proof-by-searches}
 use Rattle.shown.proofs.Fourteen.{fourteen-exactly-without-root}
 use Rattle.histories.proofs.Calls.{prune-cases}
 use Rattle.ways.proofs.Walking.{Formed}
 use Rattle.ways.proofs.Theorems.{one-trouble, empty-exactly, root-stopped-exactly, key-stopped-exactly, proof-stopped-exactly}
 use Rattle.layout.specs.Stores.{storeOf}
-use Rattle.refusals.specs.Exactly.{Table, low}
-use Rattle.refusals.specs.Rows.{StopsRoot, StopsGet, StopsProve, Lost, Unsound, NotKept, TooLong, EmptyVersion}
-use Rattle.refusals.specs.Orders.{versionRows, keyRows, provingRows, proofRows}
+use Rattle.refusals.specs.Exactly.{Table}
+use Rattle.ways.specs.Ways.{RootStopped, KeyStopped, ProofStopped, EmptyVersion}
+use Rattle.refusals.specs.Tables.{TooLong, getRows, proveRows}
+use Rattle.refusals.proofs.Parts.{Row, NotKept, versionRows, provingRows}
 use Rattle.refusals.proofs.Exactly.{First}
-use Rattle.refusals.proofs.Stopped.{Stopped, tested, met, passed, stopped-past, stopped-first}
+use Rattle.refusals.proofs.Stopped.{Stopped, tested, met, passed, stopped-past}
 
 -- Where two neighbouring rows are deserved at once, the answer is the number of the one that is tested first.
 module _ (s : Bytes) (v : ℕ) (k room : Bytes) where
-  eight-before-three : NotKept s v → Unsound (StopsGet s v k) → First (keyRows s v k) 8
+  abbrev key : Table
+  key = drop 3 (getRows s v k)
+
+  abbrev proving : Table
+  proving = drop 3 (proveRows s v k room)
+
+  twelve-before-one : Row 12 (getRows s v k) → Row 1 (getRows s v k) → First (getRows s v k) 12
+  twelve-before-one a b = inl (a, refl)
+
+  eight-before-three : Row 8 key → Row 3 key → First key 8
   eight-before-three a b = inl (a, refl)
 
-  eight-before-fourteen : NotKept s v → EmptyVersion s v → First (proofRows s v k room) 8
+  eight-before-fourteen : Row 8 proving → Row 14 proving → First proving 8
   eight-before-fourteen a b = inl (a, refl)
 
-  module _ (kept : NotKept s v → ⊥) where
-    fourteen-before-three : EmptyVersion s v → Unsound (StopsProve s v k) → First (proofRows s v k room) 14
+  module _ (kept : Row 8 proving → ⊥) where
+    fourteen-before-three : Row 14 proving → Row 3 proving → First proving 14
     fourteen-before-three a b = inr (kept, inl (a, refl))
 
-    three-before-nine : (EmptyVersion s v → ⊥) → (Lost (StopsProve s v k) → ⊥) → Unsound (StopsProve s v k) → First (proofRows s v k room) 3
+    three-before-nine : (Row 14 proving → ⊥) → (Row 17 proving → ⊥) → Row 3 proving → First proving 3
     three-before-nine some found a = inr (kept, inr (some, inr (found, inl (a, refl))))
 
 pub clash : {A : Type 0} → _≡_ {A = ℕ} 0 1 → A
@@ -82,15 +92,15 @@ one-refusal t u e f = one-trouble t u (let g = sym e ∙ f in cc)
 
 -- the root read
 module _ (leafHash innerHash : Bytes → Bytes → Bytes) (s : Bytes) (v : ℕ) where
-  pub root-stopped : Stopped (versionRows s v) [] (StopsRoot s v) (numberOf (readRoot leafHash innerHash (storeOf s) v))
+  pub root-stopped : Stopped (versionRows s v) [] (RootStopped (storeOf s) v) (numberOf (readRoot leafHash innerHash (storeOf s) v))
   unfolding readRoot
   root-stopped = by-kept s v (rootRead leafHash innerHash (rootSight (storeOf s) v)) (go (rootSight (storeOf s) v) refl)
     where
-      not-stopped : {x : Sight} {root : Bytes} → rootSight (storeOf s) v ≡ x → rootRead leafHash innerHash x ≡ accepted root → (t : Trouble) → StopsRoot s v t → ⊥
+      not-stopped : {x : Sight} {root : Bytes} → rootSight (storeOf s) v ≡ x → rootRead leafHash innerHash x ≡ accepted root → (t : Trouble) → RootStopped (storeOf s) v t → ⊥
       not-stopped e f t p =
           let g = sym (root-stopped-exactly (storeOf s) v leafHash innerHash t .1 p) ∙ ap (rootRead leafHash innerHash) e ∙ f in clash (cc)
 
-      go : (x : Sight) → rootSight (storeOf s) v ≡ x → Stopped [] [] (StopsRoot s v) (numberOf (rootRead leafHash innerHash x))
+      go : (x : Sight) → rootSight (storeOf s) v ≡ x → Stopped [] [] (RootStopped (storeOf s) v) (numberOf (rootRead leafHash innerHash x))
       go (matches r) e = passed tt (not-stopped e refl) refl
       go nothing e = passed tt (not-stopped e refl) refl
       go (spoilt i) e =
@@ -100,12 +110,12 @@ module _ (leafHash innerHash : Bytes → Bytes → Bytes) (s : Bytes) (v : ℕ) 
 
 module _ (s : Bytes) (formed : Formed (storeOf s)) (v : ℕ) (k : Bytes) where
   -- the key read
-  pub get-stopped : Stopped (versionRows s v) [] (StopsGet s v k) (numberOf (readKey (storeOf s) v k))
+  pub get-stopped : Stopped (versionRows s v) [] (KeyStopped (storeOf s) v k) (numberOf (readKey (storeOf s) v k))
   unfolding readKey
   get-stopped = by-kept s v (readEnd k (walk k 0 [] (seen (scan (storeOf s)) v))) (go (walk k 0 [] (seen (scan (storeOf s)) v)) refl)
     where
-      go : (e : End) → walk k 0 [] (seen (scan (storeOf s)) v) ≡ e → Stopped [] [] (StopsGet s v k) (numberOf (readEnd k e))
-      go (broken t) f =
+      go : (e : End) → walk k 0 [] (seen (scan (storeOf s)) v) ≡ e → Stopped [] [] (KeyStopped (storeOf s) v k) (numberOf (readEnd k e))
+      go (walkStopped t) f =
           met tt t (key-stopped-exactly (storeOf s) formed v k t .0 f) (λ u p. let g = sym f ∙ key-stopped-exactly (storeOf s) formed v k u .1 p in cc) refl
       go (atLeaf l x trail) f = passed tt (λ t p. let g = sym f ∙ key-stopped-exactly (storeOf s) formed v k t .1 p in clash (cc)) refl
       go (atGap trail) f = passed tt (λ t p. let g = sym f ∙ key-stopped-exactly (storeOf s) formed v k t .1 p in clash (cc)) refl
@@ -115,17 +125,17 @@ module _ (s : Bytes) (formed : Formed (storeOf s)) (v : ℕ) (k : Bytes) where
   By n = ((t : Trouble) × (n ≡ refusalOf t)) ⊎ (n ≡ 14)
 
   absence-refused : (x y : Sought) {n : ℕ} → absenceFrom k x y ≡ refused n → By n
-  absence-refused (lostWay t) y e = inl (t, cc)
-  absence-refused nobody (lostWay t) e = inl (t, cc)
+  absence-refused (searchStopped t) y e = inl (t, cc)
+  absence-refused nobody (searchStopped t) e = inl (t, cc)
   absence-refused nobody nobody e = inr (cc)
   absence-refused nobody (somebody q) e = clash (cc)
-  absence-refused (somebody p) (lostWay t) e = inl (t, cc)
+  absence-refused (somebody p) (searchStopped t) e = inl (t, cc)
   absence-refused (somebody p) nobody e = clash (cc)
   absence-refused (somebody p) (somebody q) e = clash (cc)
 
   end-refused : (e : End) {n : ℕ} → proveEnd k e ≡ refused n → By n
   unfolding absenceAt
-  end-refused (broken t) h = inl (t, cc)
+  end-refused (walkStopped t) h = inl (t, cc)
   end-refused (atGap trail) h = absence-refused (neighbour left k (atGap trail)) (neighbour right k (atGap trail)) h
   end-refused (atLeaf l x trail) {n} h = go (sameBytes k l) h
     where
@@ -152,14 +162,14 @@ module _ (s : Bytes) (formed : Formed (storeOf s)) (v : ℕ) (k : Bytes) where
   module _ (later : Table) (give : Answer Proof → Answer Proof) (stays : (n : ℕ) → give (refused n) ≡ refused n)
       (given : (p : Proof) → proof (storeOf s) v k ≡ accepted p → First later (numberOf (give (accepted p)))) where
     abbrev Deserved : ℕ → Type 0
-    Deserved n = Stopped (provingRows s v) later (StopsProve s v k) n
+    Deserved n = Stopped (provingRows s v) later (ProofStopped (storeOf s) v k) n
 
     module _ (kept : isKept (storeOf s) v ≡ true) where
       not-8 : NotKept s v → ⊥
       not-8 n = n (kept-said (storeOf s) v kept)
 
       -- with a root, proving is stopped, or there is a proof
-      rooted : (EmptyVersion s v → ⊥) → (a : Answer Proof) → proof (storeOf s) v k ≡ a → Deserved (numberOf (give a))
+      rooted : (EmptyVersion (storeOf s) v → ⊥) → (a : Answer Proof) → proof (storeOf s) v k ≡ a → Deserved (numberOf (give a))
       rooted full (refused n) f = subst (λ a. Deserved (numberOf a)) (sym (stays n)) (go (end-refused (walk k 0 [] (seen (scan (storeOf s)) v)) (sym (proof-is kept) ∙ f)))
         where
           go : By n → Deserved n
@@ -171,7 +181,7 @@ module _ (s : Bytes) (formed : Formed (storeOf s)) (v : ℕ) (k : Bytes) where
               absurd (full (empty-exactly (storeOf s) v .0 (fourteen-exactly-without-root (storeOf s) formed v k .0 (f ∙ ap refused fourteen) .1)))
       rooted full (accepted p) f = passed (not-8, (full, tt)) not-stopped (given p f)
         where
-          not-stopped : (t : Trouble) → StopsProve s v k t → ⊥
+          not-stopped : (t : Trouble) → ProofStopped (storeOf s) v k t → ⊥
           not-stopped t l = let z = sym f ∙ proof-is kept ∙ proof-stopped-exactly (storeOf s) formed v k t .1 l in clash (cc)
 
       by-root : (x : Sight) → rootSight (storeOf s) v ≡ x → Deserved (numberOf (give (proof (storeOf s) v k)))
@@ -201,6 +211,6 @@ module _ (s : Bytes) (formed : Formed (storeOf s)) (v : ℕ) (k : Bytes) where
       go false e =
           inr (λ t. absurd (omega (arith, ltb-false (length room) (proofLength p) e, ap proofLength (same-proof (sym f ∙ t .1)), t .2)), refl)
 
-  pub prove-stopped : (room : Bytes) → Stopped (provingRows s v) ((9, TooLong s v k room) ∷ []) (StopsProve s v k) (numberOf (prove (storeOf s) v k (length room)))
+  pub prove-stopped : (room : Bytes) → Stopped (provingRows s v) ((9, TooLong s v k room) ∷ []) (ProofStopped (storeOf s) v k) (numberOf (prove (storeOf s) v k (length room)))
   unfolding prove
   prove-stopped room = proof-stopped ((9, TooLong s v k room) ∷ []) (fitted (length room)) (λ n. refl) (fits-first room)

@@ -33,10 +33,7 @@ NoneOf (row ∷ rows) = (row .1 → ⊥) × NoneOf rows
 unfoldable pub low : ℕ → ℕ
 low r = r % 4294967296
 
-unfoldable pub high : ℕ → ℕ
-high r = r / 4294967296
-
 -- The slot that it names is exactly the one that deserves it, and it names none exactly if none does.
 pub record Names (deserves : ℕ → Type 0) (r : ℕ) : Type 0 where
-  pub slot : (i : ℕ) → (high r ≡ i + 1) ↔ deserves i
-  pub none : (high r ≡ 0) ↔ ((i : ℕ) → deserves i → ⊥)
+  pub slot : (i : ℕ) → (r / 4294967296 ≡ i + 1) ↔ deserves i
+  pub none : (r / 4294967296 ≡ 0) ↔ ((i : ℕ) → deserves i → ⊥)

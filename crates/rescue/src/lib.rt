@@ -1,5 +1,5 @@
 // Rescue from a damaged store, document 02, request 2026-08.
-use layout::size_right;
+use header_form::size_right;
 use order_guess::guide;
 use refusal_numbers::NOT_SOUND;
 use refusal_numbers::WRONG_HEADER;

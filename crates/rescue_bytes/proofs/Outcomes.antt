@@ -7,12 +7,13 @@ use lib.ListN.{length}
 use Rattle.terms.specs.declared.Form.the-variants.{Counted as counted}
 use Rattle.terms.specs.Bits.{Bytes}
 use Rattle.meaning.specs.Calls.{Answer, refused, accepted}
+use Rattle.meaning.specs.Answers.{exports-refusal, exports-answer}
 use Rattle.nodehash.specs.Node.{leafHash, innerHash}
 use Rattle.layout.specs.Headers.{sizeRight}
 use Rattle.layout.specs.Stores.{storeBytes}
 use Rattle.rescue_rules.specs.Rescue.{rescued}
 use Rattle.rescue_laws.proofs.Decides.{one-longest}
-use Rattle.rescue_bytes.specs.Rescues.{slotsIn, SameSize, Report, reportOf, Rescues, wrong-size, out-of-order, no-version, rescues, reportBytes, RescueExports, exports-refusal, exports-report}
+use Rattle.rescue_bytes.specs.Rescues.{slotsIn, SameSize, Report, reportOf, Rescues, wrong-size, out-of-order, no-version, rescues, reportBytes, RescueExports}
 
 -- an answer is a refusal or a report
 not-both : {A : Type 0} {n : ℕ} {r : Report} → refused n ≡ accepted r → A
@@ -55,7 +56,7 @@ module _ {oldest latest : ℕ} {s old : Bytes} where
 
   pub refused-export-leaves : {f : Bytes} {n : ℕ} {t g : Bytes} → RescueExports oldest latest s old f n t g → (n ≡ 0 → ⊥) → (t ≡ old) × (g ≡ f)
   refused-export-leaves (exports-refusal w) z = (refused-leaves w, refl)
-  refused-export-leaves (exports-report w) z = absurd (z refl)
+  refused-export-leaves (exports-answer w) z = absurd (z refl)
 
   -- no rescue is refused with 0
   pub never-0 : {n : ℕ} {t : Bytes} → Rescues oldest latest s old (refused n) t → n ≡ 0 → ⊥
@@ -66,15 +67,15 @@ module _ {oldest latest : ℕ} {s old : Bytes} where
   pub one-export : {f : Bytes} {m n : ℕ} {t u g h : Bytes} → RescueExports oldest latest s old f m t g → RescueExports oldest latest s old f n u h →
       (m ≡ n) × (t ≡ u) × (g ≡ h)
   one-export (exports-refusal w) (exports-refusal x) = let (e, k) = one-rescue w x in (same-number e, k, refl)
-  one-export (exports-refusal w) (exports-report x) = not-both (one-rescue w x .0)
-  one-export (exports-report w) (exports-refusal x) = not-both (sym (one-rescue w x .0))
-  one-export (exports-report w) (exports-report x) = let (e, k) = one-rescue w x in (refl, k, ap reportBytes (same-report e))
+  one-export (exports-refusal w) (exports-answer x) = not-both (one-rescue w x .0)
+  one-export (exports-answer w) (exports-refusal x) = not-both (sym (one-rescue w x .0))
+  one-export (exports-answer w) (exports-answer x) = let (e, k) = one-rescue w x in (refl, k, ap reportBytes (same-report e))
 
   -- the report of an accepted rescue
   pub accepted-report : {f : Bytes} {n : ℕ} {t g : Bytes} → RescueExports oldest latest s old f n t g → n ≡ 0 →
       (r : Report) × Rescues oldest latest s old (accepted r) t × (g ≡ reportBytes r)
   accepted-report (exports-refusal w) e = absurd (never-0 w e)
-  accepted-report (exports-report {r} w) e = (r, w, refl)
+  accepted-report (exports-answer {a = r} w) e = (r, w, refl)
 
 -- the same rescue into another target of the same length
 same-size : {s old new : Bytes} → length old ≡ length new → SameSize s old → SameSize s new
@@ -94,7 +95,7 @@ module _ {oldest latest : ℕ} {s old new : Bytes} (e : length old ≡ length ne
       (m ≡ n) × (m ≡ 0 → (t ≡ u) × (g ≡ k))
   former-never-matter (exports-refusal w) (exports-refusal x) =
       let (a, b) = one-rescue (refused-there w) x in (same-number a, λ z. absurd (never-0 w z))
-  former-never-matter (exports-refusal w) (exports-report x) = not-both (one-rescue (refused-there w) x .0)
-  former-never-matter (exports-report w) (exports-refusal x) = not-both (sym (one-rescue (accepted-there w) x .0))
-  former-never-matter (exports-report w) (exports-report x) =
+  former-never-matter (exports-refusal w) (exports-answer x) = not-both (one-rescue (refused-there w) x .0)
+  former-never-matter (exports-answer w) (exports-refusal x) = not-both (sym (one-rescue (accepted-there w) x .0))
+  former-never-matter (exports-answer w) (exports-answer x) =
       let (a, b) = one-rescue (accepted-there w) x in (refl, λ z. (b, ap reportBytes (same-report a)))

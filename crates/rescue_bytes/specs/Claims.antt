@@ -1,18 +1,15 @@
 -- What an accepted rescue is worth, in the words of document 02, request 2026-08. Assumes nothing.
-use Prim.Native.Nat.{ℕ, zero, suc, _+_, _≤_, _<_}
+use Prim.Native.Nat.{ℕ, _+_, _≤_, _<_}
 use mathlib.Core.Path.{_≡_}
 use mathlib.Core.Logic.{_↔_}
 use mathlib.Core.Bool.{false}
-use mathlib.Core.List.{List, [], _∷_}
 use mathlib.Core.Option.{some}
 use lib.ListN.{length, getD}
 use Rattle.terms.specs.declared.Form.the-variants.{Counted as counted}
 use Rattle.terms.specs.Bits.{Bytes}
-use Rattle.terms.specs.Records.{Record, Slot, free, used, Store}
+use Rattle.terms.specs.Records.{Record, free, used, Store}
 use Rattle.meaning.specs.Store.{isNode, freeSlots, marked, rootOf, treeAtVersion}
-use Rattle.meaning.specs.Tree.{grantsIn}
 use Rattle.meaning.specs.Sound.{At, Kept, Sound}
-use Rattle.meaning.specs.History.{Entry, entry}
 use Rattle.nodehash.specs.Node.{leafHash, innerHash}
 use Rattle.layout.specs.Stores.{slotIn, storeOf, storeBytes}
 use Rattle.rescue_rules.specs.Rescue.{sourceTree, fresh, Run}
@@ -50,13 +47,6 @@ pub record Worth (oldest latest : ℕ) (s t : Bytes) (r : Report) : Type 0 where
   -- slots
   pub adds-up : r .numbers .same + r .numbers .other + r .numbers .out + freeSlots (slotsIn s) ≡ length (slotsIn s)
   pub kept-adds-up : r .numbers .same + r .numbers .other + freeSlots (slotsIn t) ≡ length (slotsIn s)
-
--- The grants of the run's versions, from the source's trees, the newest first: a rescued store's history begins with
--- these (demand 3).
-abbrev pub runLedger : List Slot → ℕ → ℕ → List Entry
-runLedger s first zero = entry first (grantsIn (sourceTree s first)) ∷ []
-runLedger s first (suc more) =
-    entry (first + suc more) (grantsIn (sourceTree s (first + suc more))) ∷ runLedger s first more
 
 -- Nothing changed and nothing left out.
 abbrev pub AsItWas : Report → Type 0

@@ -1,6 +1,5 @@
 -- Document 02, request 2026-08: what a rescue answers for any bytes of a source and of a target, and what it leaves of
--- the target. 'A size that is wrong or not equal gives 1, then oldest above latest 2. No version: 3.' Of the source its
--- slots alone are looked at. Assumes nothing.
+-- the target. Of the source its slots alone are looked at. Assumes nothing.
 use Prim.Native.Nat.{ℕ, _+_, _≤_, _<_}
 use mathlib.Core.Path.{_≡_}
 use mathlib.Core.Bool.{true}
@@ -11,6 +10,7 @@ use Rattle.terms.specs.Bits.{Bytes}
 use Rattle.terms.specs.Fields.{le}
 use Rattle.terms.specs.Records.{Slot}
 use Rattle.meaning.specs.Calls.{Answer, refused, accepted}
+use Rattle.meaning.specs.Answers.{Exports}
 use Rattle.nodehash.specs.Node.{leafHash, innerHash}
 use Rattle.layout.specs.Headers.{sizeRight}
 use Rattle.layout.specs.Stores.{storeOf, storeBytes}
@@ -60,10 +60,6 @@ pub data Rescues (oldest latest : ℕ) (s old : Bytes) : Answer Report → Bytes
 unfoldable pub reportBytes : Report → Bytes
 reportBytes r = le 4 (r .first) ++ (le 4 (r .numbers .same) ++ (le 4 (r .numbers .other) ++ le 4 (r .numbers .out)))
 
--- The same call for C: it answers 0 where it is accepted, else the number of refusal; the report goes to the array f,
--- which a refused call leaves.
-pub data RescueExports (oldest latest : ℕ) (s old f : Bytes) : ℕ → Bytes → Bytes → Type 0 where
-  exports-refusal : {n : ℕ} {t : Bytes} → Rescues oldest latest s old (refused n) t →
-      RescueExports oldest latest s old f n t f
-  exports-report : {r : Report} {t : Bytes} → Rescues oldest latest s old (accepted r) t →
-      RescueExports oldest latest s old f 0 t (reportBytes r)
+-- The same call for C answers r and leaves these bytes of the target; the array f for the report is left as g.
+abbrev pub RescueExports : ℕ → ℕ → Bytes → Bytes → Bytes → ℕ → Bytes → Bytes → Type 0
+RescueExports oldest latest s old f r t g = Exports (λ a. Rescues oldest latest s old a t) reportBytes f r g

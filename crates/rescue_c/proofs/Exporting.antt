@@ -8,7 +8,8 @@ use Rattle.terms.specs.Fields.{le}
 use Rattle.terms.proofs.Fields.{length-le}
 use Rattle.fields.specs.Written.{written}
 use Rattle.fields.proofs.Written.{fields-fill}
-use Rattle.rescue_bytes.specs.Rescues.{Rescues, reportBytes, RescueExports, exports-refusal, exports-report}
+use Rattle.meaning.specs.Answers.{exports-refusal, exports-answer}
+use Rattle.rescue_bytes.specs.Rescues.{Rescues, reportBytes, RescueExports}
 use Rattle.rescue.specs.Answer.{rescuedSays}
 use Rattle.rescue.specs.declared.Rescued as declared
 use Rattle.rescue.specs.declared.Rescued.the-variants.{Refused, Kept}
@@ -31,4 +32,4 @@ module _ (oldest latest : ℕ) {s old t f : Bytes} {a : declared.Rescued} (o : R
   export-refused e = exports-refusal (subst (λ q. Rescues oldest latest s old (rescuedSays q) t) e o)
 
   pub export-kept : {v : ℕ} {c : declared-counts.Counts} {g : Bytes} → a ≡ Kept v c → g ≡ reportBytes (reportSays v c) → RescueExports oldest latest s old f 0 t g
-  export-kept e q = subst (RescueExports oldest latest s old f 0 t) (sym q) (exports-report (subst (λ r. Rescues oldest latest s old (rescuedSays r) t) e o))
+  export-kept e q = subst (RescueExports oldest latest s old f 0 t) (sym q) (exports-answer (subst (λ r. Rescues oldest latest s old (rescuedSays r) t) e o))

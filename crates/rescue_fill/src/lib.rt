@@ -2,7 +2,7 @@
 // one alone, and what it alone has is entered once it has passed.
 use check_kin::later;
 use format::format;
-use layout::put_header;
+use header::put_header;
 use place::Place;
 use rescue_enter::enter;
 use rescue_step::Stepped;

@@ -9,7 +9,7 @@ use order_find::find_by;
 use place::Place;
 use read_hash::record_hash;
 use slots::child_hash;
-use slots::is_leaf;
+use slots_form::is_leaf;
 use store::child_count_at;
 use store::child_version_at;
 use store::slot_count;

@@ -28,7 +28,7 @@ use Rattle.store.proofs.Slots.{slots-many}
 use Rattle.lookup.specs.declared.Found as found
 use Rattle.lookup.specs.declared.Found.the-variants.{At, Nothing}
 use Rattle.check_pass.specs.Passes.{Passed}
-use Rattle.order_find.proofs.Found.{passed-if}
+use Rattle.order_near.proofs.Near.{passed-if}
 use Rattle.rescue_rules.specs.Joining.{linked, bodyRight, recordRight}
 use Rattle.rescue_look.specs.Look.{LowestIn, Inside, linkedAt, weighsAt, tiedAt}
 use Rattle.rescue_look.proofs.Looking.{its-form, leaf-is, inner-is, inner-counts}

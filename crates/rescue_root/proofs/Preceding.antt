@@ -23,8 +23,8 @@ use Rattle.lookup.specs.Lookup.{Located, FoundIn}
 use Rattle.lookup.specs.declared.Found as found
 use Rattle.ordered.specs.Ordered.{nodeKey, keyNo, InForm, Ahead, Named, Ordered, Between}
 use Rattle.ordered.proofs.Ordered.{key-of, same-node, later}
-use Rattle.order_look.proofs.Passed.{inside}
-use Rattle.order_find.proofs.Found.{entry-has}
+use Rattle.order_look.proofs.Keys.{inside}
+use Rattle.order_halves.proofs.Looked.{entry-has}
 use Rattle.rescue_rules.specs.Rescue.{newerRoot, rootUpTo, newestRoot}
 use Rattle.rescue_root.proofs.Exact.{up-to, earlier, exact}
 use Rattle.rescue_root.proofs.Newest.{version-own}

@@ -4,6 +4,7 @@ use fields::get_u32;
 use hash::Hash;
 use hash::hash_at;
 use hash::same_hash;
+use place::same;
 use script::held;
 use script::say;
 use script::words::NONE;
@@ -141,4 +142,24 @@ pub fn levels(store: &[u8]) -> bool {
     say::text(b"  came  ");
     held::say_levels(store, slots(store));
     true
+}
+
+// Comments, which are passed over, and what is written as it stands.
+pub fn said(c: &[u8], words: &[u8]) -> bool {
+    if same(c, b"row") {
+        say::line(b"\n", words, b"\n");
+        return true;
+    }
+    if same(c, b"01") {
+        say::line(b"  01    ", words, b"\n");
+        return true;
+    }
+    if same(c, b"02") {
+        say::line(b"  02    ", words, b"\n");
+        return true;
+    }
+    if same(c, b"#") {
+        return true;
+    }
+    c.len() == 0
 }

@@ -1,6 +1,7 @@
 // The store harmed as a disk would harm it, for document 02, request 2026-07: a byte of a slot changed, or a slot emptied.
 use hash::no_hash;
 use hash::put_hash;
+use place::same;
 use script::say;
 use script::words::number;
 use script::words::part;
@@ -72,4 +73,15 @@ pub fn lose(l: &[u8], store: &mut [u8]) -> bool {
     say::line(b"  harm  slot ", part(l, 1, b' '), b" emptied\n");
     empty_at(store, 24 + 128 * i);
     true
+}
+
+// Lines that no call makes: what a damaged disk would do to the store.
+pub fn harm(l: &[u8], c: &[u8], store: &mut [u8]) -> bool {
+    if same(c, b"byte") {
+        return byte(l, store);
+    }
+    if same(c, b"lose") {
+        return lose(l, store);
+    }
+    false
 }

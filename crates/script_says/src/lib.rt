@@ -7,4 +7,5 @@ pub mod figured;
 pub mod forged;
 pub mod harmed;
 pub mod moving;
+pub mod partners;
 pub mod several;

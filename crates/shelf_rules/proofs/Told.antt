@@ -12,7 +12,8 @@ use borrow.Author.Tests.{eqb-true, eqb-false, leb-true, leb-false}
 use Rattle.terms.specs.Bits.{Bytes, Byte, All}
 use Rattle.meaning.specs.Calls.{Answer, refused, accepted}
 use Rattle.meaning.specs.Reading.{Verdict}
-use Rattle.meaning.specs.Answers.{numberOf, foundAfter}
+use Rattle.meaning.specs.Answers.{foundBytes, Exported}
+use Rattle.meaning.proofs.Told.{exports}
 use Rattle.verify_rules.specs.Verify.{Sizes32}
 use Rattle.shelf_rules.specs.Shelf.{ShelfProof, ShelfIs, ShelfHolds, ShelfTold, not-32-bytes, too-many-bits, not-in-form, not-holding, holding, ShelfVerifies}
 use Rattle.shelf_rules.specs.Reading.{shelfIn, shelfChecked, shelfJudged, shelfVerified}
@@ -120,6 +121,5 @@ module _ (root : Bytes) (b : ℕ) (k x : Bytes) where
   )
 
   -- A check that answers what is read keeps its contract.
-  pub shelf-verifies : {f g : Bytes} {r : ℕ} → All Byte x → r ≡ numberOf (shelfVerified root b k x) → g ≡ foundAfter (shelfVerified root b k x) f →
-      ShelfVerifies root b k x f r g
-  shelf-verifies bytes e i = record { verdict = shelfVerified root b k x; told = shelf-read-told bytes; answer = e; found = i }
+  pub shelf-verifies : {f g : Bytes} {r : ℕ} → All Byte x → Exported (shelfVerified root b k x) foundBytes f r g → ShelfVerifies root b k x f r g
+  shelf-verifies bytes e = exports (shelfVerified root b k x) (shelf-read-told bytes) e

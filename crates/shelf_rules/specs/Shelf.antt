@@ -9,7 +9,7 @@ use Rattle.terms.specs.Bits.{Bytes, bits, pack}
 use Rattle.terms.specs.Records.{Presence, Absence, Proof, presence, absence}
 use Rattle.meaning.specs.Calls.{Answer, refused, accepted}
 use Rattle.meaning.specs.Reading.{Verdict, present, absent}
-use Rattle.meaning.specs.Answers.{numberOf, foundAfter}
+use Rattle.meaning.specs.Answers.{foundBytes, Exports}
 use Rattle.checker.specs.Holding.{Holds}
 use Rattle.nodehash.specs.Node.{leafHash, innerHash}
 use Rattle.proofrecords.specs.ProofBytes.{proofBytes, ProofForm}
@@ -70,8 +70,5 @@ pub data ShelfTold (root : Bytes) (b : ℕ) (k x : Bytes) : Answer Verdict → T
 
 -- Checking the bytes x as a proof of the key k of a shelf of b bits against the list's root answers r; the array f for
 -- what is found is left as g.
-pub record ShelfVerifies (root : Bytes) (b : ℕ) (k x f : Bytes) (r : ℕ) (g : Bytes) : Type 0 where
-  pub verdict : Answer Verdict
-  pub told : ShelfTold root b k x verdict
-  pub answer : r ≡ numberOf verdict
-  pub found : g ≡ foundAfter verdict f
+abbrev pub ShelfVerifies : Bytes → ℕ → Bytes → Bytes → Bytes → ℕ → Bytes → Type 0
+ShelfVerifies root b k x f r g = Exports (ShelfTold root b k x) foundBytes f r g

@@ -21,7 +21,7 @@ use Rattle.terms.proofs.Places.{length-pack}
 use Rattle.meaning.specs.Calls.{Answer, refused, accepted}
 use Rattle.meaning.specs.Reading.{Verdict, present, absent}
 use Rattle.meaning.specs.Checking.{leadsTo, absenceHolds, checked}
-use Rattle.meaning.specs.Answers.{numberOf, foundAfter}
+use Rattle.meaning.proofs.Told.{exported-as, exported-refusal, exported-answer, seen}
 use Rattle.nodehash.specs.Node.{leafHash, innerHash}
 use Rattle.proofrecords.specs.ProofBytes.{isPresence, presenceIn, isAbsence, absenceIn, proofIn}
 use Rattle.proofrecords.proofs.Forms.{presence-off, absence-off, presence-whole}
@@ -33,7 +33,7 @@ use Rattle.shelf_rules.proofs.Told.{shelf-verifies}
 use Rattle.verify_rules.specs.Verify.{Verifies}
 use Rattle.verify_rules.specs.Reading.{judged, verified}
 use Rattle.verify_rules.proofs.Told.{told-exactly}
-use Rattle.verify.proofs.Boundary.{zeros-found}
+use Rattle.verify_call.proofs.Boundary.{zeros-found}
 use Rattle.shelf_verify.specs.Both.{isProof, firstLength, isShelf, both, ChecksBoth}
 
 -- the bytes of that place are the part's key
@@ -302,31 +302,27 @@ module _ (root : Bytes) (b : ℕ) (k x : Bytes) where
 module _ {root part k x : Bytes} {e : ℕ} (f : Bytes) where
   pub list-refused : {n : ℕ} → refused n ≡ verified root part (take e x) → ChecksBoth root part k e x f n f
   unfolding both
-  list-refused h =
-      let go : Answer Verdict → Answer Verdict = λ a. byList a (λ top. verified top k (drop e x)) in
-      record { answer = ap (λ a. numberOf (go a)) h; found = ap (λ a. foundAfter (go a) f) h }
+  list-refused h = record { exported = exported-refusal (ap (λ a. byList a (λ top. verified top k (drop e x))) h) }
 
   pub list-absent : {g : Bytes} → accepted absent ≡ verified root part (take e x) → length f ≡ 33 → g ≡ zeroBytes (length f) →
       ChecksBoth root part k e x f 0 g
   unfolding both
-  list-absent h l z =
-      let go : Answer Verdict → Answer Verdict = λ a. byList a (λ top. verified top k (drop e x)) in
-      record { answer = ap (λ a. numberOf (go a)) h; found = z ∙ zeros-found f l ∙ ap (λ a. foundAfter (go a) f) h }
+  list-absent h l z = record { exported = exported-answer (ap (λ a. byList a (λ top. verified top k (drop e x))) h) (z ∙ zeros-found f l) }
 
   pub list-present : All Byte x → {top tops y g : Bytes} {r : ℕ} → accepted (present top) ≡ verified root part (take e x) → tops ≡ top ++ [] → y ≡ drop e x →
       Verifies tops k y f r g → ChecksBoth root part k e x f r g
   unfolding both
   list-present bytes {top} {tops} {y} h t i w =
       let go : Answer Verdict → Answer Verdict = λ a. byList a (λ top. verified top k (drop e x)) in
-      let is = told-exactly tops k y (subst (All Byte) (sym i) (all-drop Byte e x bytes)) (w .verdict) .0 (w .told) in
+      let is = told-exactly tops k y (subst (All Byte) (sym i) (all-drop Byte e x bytes)) (seen w .answer) .0 (seen w .said) in
       let j = is ∙ ap₂ (λ z y. verified z k y) (t ∙ append-nil top) i ∙ ap go h in
-      record { answer = w .answer ∙ ap (λ a. numberOf a) j; found = w .found ∙ ap (λ a. foundAfter a f) j }
+      record { exported = exported-as j (seen w .exported) }
 
 pub shelf-refused : {root k x : Bytes} {b n : ℕ} → All Byte x → (f : Bytes) → refused n ≡ shelfVerified root b k x → ShelfVerifies root b k x f n f
-shelf-refused {root} {k} {x} {b} bytes f e = shelf-verifies root b k x bytes (ap (λ a. numberOf a) e) (ap (λ a. foundAfter a f) e)
+shelf-refused {root} {k} {x} {b} bytes f e = shelf-verifies root b k x bytes (exported-refusal e)
 
 pub as-both : {root part k x f g : Bytes} {e b r : ℕ} → All Byte x → both root (partKey b k) k (firstLength x) x ≡ shelfVerified root b k x →
     part ≡ partKey b k → e ≡ firstLength x → ChecksBoth root part k e x f r g → ShelfVerifies root b k x f r g
 as-both {root} {k = k} {x} {f} {b = b} bytes h p i w =
     let j = ap₂ (λ z n. both root z k n x) p i ∙ h in
-    shelf-verifies root b k x bytes (w .answer ∙ ap (λ a. numberOf a) j) (w .found ∙ ap (λ a. foundAfter a f) j)
+    shelf-verifies root b k x bytes (exported-as j (w .exported))

@@ -1,7 +1,6 @@
 -- The check of a shelf's proof as the code makes it: the form of both records, then one after the other. No public
 -- promise reaches this file. Assumes nothing.
 use Prim.Native.Nat.{ℕ}
-use mathlib.Core.Path.{_≡_}
 use mathlib.Core.Bool.{Bool, cond, _||_, _&&_}
 use lib.ListN.{length, take, drop}
 use lib.Dec.{eqb, leb}
@@ -9,7 +8,7 @@ use Rattle.terms.specs.Bits.{Bytes}
 use Rattle.terms.specs.Fields.{field}
 use Rattle.meaning.specs.Calls.{Answer}
 use Rattle.meaning.specs.Reading.{Verdict}
-use Rattle.meaning.specs.Answers.{numberOf, foundAfter}
+use Rattle.meaning.specs.Answers.{foundBytes, Exported}
 use Rattle.proofrecords.specs.ProofBytes.{isPresence, isAbsence}
 use Rattle.shelf_rules.specs.Reading.{byList}
 use Rattle.verify_rules.specs.Reading.{verified}
@@ -31,6 +30,6 @@ isShelf e x =
 unfoldable pub both : Bytes → Bytes → Bytes → ℕ → Bytes → Answer Verdict
 both root part k e x = byList (verified root part (take e x)) (λ top. verified top k (drop e x))
 
+-- The number and the array of both checks.
 pub record ChecksBoth (root part k : Bytes) (e : ℕ) (x f : Bytes) (r : ℕ) (g : Bytes) : Type 0 where
-  pub answer : r ≡ numberOf (both root part k e x)
-  pub found : g ≡ foundAfter (both root part k e x) f
+  pub exported : Exported (both root part k e x) foundBytes f r g

@@ -14,8 +14,8 @@ use refusal_numbers::NOT_32_BYTES;
 use refusal_numbers::NOT_IN_FORM;
 use refusal_numbers::TOO_MANY_BITS;
 use verify::Checked;
-use verify::grants_verify;
 use verify::verify;
+use verify_call::grants_verify;
 use verify_form::is_absence;
 use verify_form::is_presence;
 

@@ -71,7 +71,7 @@ module _ {b : ℕ} {x : Shelf} {v : ℕ} (w : StandsAt b x v) (granted : HoldsGr
       let sound = w .sound p (part-long w k whole) in
       let kept = part-kept w p (part-long w k whole) in
       let s = said-present (partsAt x v p) (sym (list-says w k whole) ∙ true-there) in
-      let own : ReadsRoot (x .part p) (readAt (x .part p) v) [] _ _ = record { answer = refl; root = refl } in
+      let own : ReadsRoot (x .part p) (readAt (x .part p) v) [] _ _ = record { exported = record { number = refl; told = refl } } in
       let same = root-of-tree sound kept own .1 ∙ version-root sound kept ∙ sym (s .1) in
       let u = accepted-proof-is-true-or-found-out sound kept (s .0) bytes answer own (subst (λ t. Verifies t k z f 0 g) (sym same) c) e h in
       (u .0, go (u .1))

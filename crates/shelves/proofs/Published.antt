@@ -28,7 +28,8 @@ use Rattle.layout.specs.Stores.{storeOf, storeBytes}
 use Rattle.layout.proofs.Headers.{size-says}
 use Rattle.contracts.specs.Format.{formatAnswer, formatBytes}
 use Rattle.batch.proofs.Batches.{asked-one}
-use Rattle.promises.specs.Calls.{SoundBytes, accepts, exports-refusal, exports-answer}
+use Rattle.meaning.specs.Answers.{exports-refusal, exports-answer}
+use Rattle.promises.specs.Calls.{SoundBytes, accepts}
 use Rattle.shelf_grants.specs.Contents.{Parts, gathered, allGrants, Among, InPlace, rootOf, listed, listGrants, newRoots, shelfRoot}
 use Rattle.shelf_grants.proofs.Gathered.{gathered-same}
 use Rattle.shelf_grants.proofs.Listed.{placed-batch, shelf-root-of-parts, new-roots-make-the-list}
@@ -95,7 +96,7 @@ earlier-twice v w l h = go (leb v w) refl
 module _ {n : ℕ} {batch s t g : Bytes} (a : NextVersion n batch s t g) where
   applied-before : (v : ℕ) → storeOf s .oldest ≤ v → v < n → grantsOfVersion t (earlier v (latestOf t)) ≡ grantsOfVersion s (earlier v (latestOf s))
   applied-before v o h =
-      let here : earlier v (latestOf t) ≡ v = earlier-first v (latestOf t) (omega (arith, a .latest)) in
+      let here : earlier v (latestOf t) ≡ v = earlier-first v (latestOf t) (omega (arith, a .after .latest)) in
       ap (grantsOfVersion t) here ∙ go (leb v (latestOf s)) refl
     where
       go : (c : Bool) → leb v (latestOf s) ≡ c → grantsOfVersion t v ≡ grantsOfVersion s (earlier v (latestOf s))
@@ -104,10 +105,10 @@ module _ {n : ℕ} {batch s t g : Bytes} (a : NextVersion n batch s t g) where
           ap grantsIn (a .after .older v (o, l)) ∙ sym (ap (grantsOfVersion s) (earlier-first v (latestOf s) l))
       go false e =
           let l = leb-false v (latestOf s) e in
-          ap grantsIn (a .after .between v (omega arith) (omega (arith, a .latest))) ∙ sym (ap (grantsOfVersion s) (earlier-second v (latestOf s) (omega arith)))
+          ap grantsIn (a .after .between v (omega arith) (omega (arith, a .after .latest))) ∙ sym (ap (grantsOfVersion s) (earlier-second v (latestOf s) (omega arith)))
 
   applied-now : grantsOfVersion t (earlier n (latestOf t)) ≡ withBatch (a .asks) (grantsOfVersion s (latestOf s))
-  applied-now = ap (grantsOfVersion t) (earlier-second n (latestOf t) (omega (arith, a .latest))) ∙ a .grants
+  applied-now = ap (grantsOfVersion t) (earlier-second n (latestOf t) (omega (arith, a .after .latest))) ∙ a .after .grants
 
 -- what becomes of a part
 record PartStep (n top : ℕ) (p : Place) (s t : Bytes) : Type 0 where
@@ -134,7 +135,7 @@ module _ {b n : ℕ} {x y : Shelf} (w : Standing b x) (act : Publishes b n x y) 
 
   stayed : (p : Place) → length p ≡ b → {t : Bytes} → t ≡ x .part p → PartStep n top p (x .part p) t
   stayed p h e =
-      let below : latestOf (x .part p) ≤ n = omega (arith, w .latest p h, list-next .above) in
+      let below : latestOf (x .part p) ≤ n = omega (arith, w .latest p h, list-next .after .above, list-next .after .latest) in
       subst (PartStep n top p (x .part p)) (sym e) (record {
         sound = w .sound p h;
         oldest = refl;
@@ -151,7 +152,7 @@ module _ {b n : ℕ} {x y : Shelf} (w : Standing b x) (act : Publishes b n x y) 
       record {
         sound = a .sound;
         oldest = a .after .oldest;
-        latest = omega (arith, a .latest);
+        latest = omega (arith, a .after .latest);
         before = applied-before a;
         placed = λ i. subst (λ gs. All (λ g. begins p (g .key) ≡ true) gs) (sym (applied-now a))
             (placed-batch p (a .asks) (grantsOfVersion (x .part p) (latestOf (x .part p)))
@@ -183,7 +184,7 @@ module _ {b n : ℕ} {x y : Shelf} (w : Standing b x) (act : Publishes b n x y) 
       go (inr s) =
           ap (λ t. grantsOfVersion t (earlier n (latestOf t))) (s .1)
           ∙ ap (grantsOfVersion (x .part p))
-          (earlier-second n (latestOf (x .part p)) (omega (arith, w .latest p l, list-next .above)) ∙ sym (at-top p l))
+          (earlier-second n (latestOf (x .part p)) (omega (arith, w .latest p l, list-next .after .above, list-next .after .latest)) ∙ sym (at-top p l))
 
   top-kept : Kept (storeOf (x .list)) top
   top-kept = (w .list-sound .sound .header .0, omega arith)
@@ -191,8 +192,8 @@ module _ {b n : ℕ} {x y : Shelf} (w : Standing b x) (act : Publishes b n x y) 
   new-list : grantsOfVersion (y .list) n ≡ listGrants leafHash innerHash b (partsAt y n)
   new-list =
       let asks = asked-one (list-next .asked) (act .asked) in
-      ap (grantsOfVersion (y .list)) (sym (list-next .latest))
-      ∙ list-next .grants
+      ap (grantsOfVersion (y .list)) (sym (list-next .after .latest))
+      ∙ list-next .after .grants
       ∙ ap₂ withBatch asks (w .roots top top-kept)
       ∙ new-roots-make-the-list leafHash innerHash b (omega (arith, w .few)) leaf-hash-whole inner-hash-whole (partsAt x top) (partsAt y n) (act .touched) (act .here) not-touched
 
@@ -213,7 +214,7 @@ module _ {b n : ℕ} {x y : Shelf} (w : Standing b x) (act : Publishes b n x y) 
   at-or-before {A} v k f g = go (leb n v) refl
     where
       go : (c : Bool) → leb n v ≡ c → A
-      go true e = let l = leb-true n v e in f (omega (arith, k .1, list-next .latest))
+      go true e = let l = leb-true n v e in f (omega (arith, k .1, list-next .after .latest))
       go false e = g (leb-false n v e)
 
   publishing-keeps : Standing b y
@@ -222,7 +223,7 @@ module _ {b n : ℕ} {x y : Shelf} (w : Standing b x) (act : Publishes b n x y) 
     list-sound = list-next .sound;
     sound = λ p l. part-step p l .sound;
     oldest = λ p l. omega (arith, part-step p l .oldest, w .oldest p l, list-next .after .oldest);
-    latest = λ p l. omega (arith, part-step p l .latest, list-next .latest);
+    latest = λ p l. omega (arith, part-step p l .latest, list-next .after .latest);
     placed = λ v k. at-or-before v k
         (λ e. subst (λ m. InPlace b (partsAt y m)) (sym e) (λ p l. part-step p l .placed (w .placed top top-kept p l)))
         (λ h. λ p l. subst (λ gs. All (λ g. begins p (g .key) ≡ true) gs) (sym (older-parts v (omega (arith, k .0, list-next .after .oldest)) h p l)) (w .placed (earlier v top) (old-kept v k) p l));

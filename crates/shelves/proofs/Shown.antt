@@ -20,7 +20,8 @@ use Rattle.meaning.specs.Calls.{Answer, refused, accepted}
 use Rattle.meaning.specs.Reading.{Verdict, present, absent, answerOf}
 use Rattle.meaning.specs.Proving.{HoldsGrant}
 use Rattle.meaning.specs.Checking.{checked}
-use Rattle.meaning.specs.Answers.{numberOf, foundBytes, foundAfter}
+use Rattle.meaning.specs.Answers.{foundBytes}
+use Rattle.meaning.proofs.Told.{exports-left}
 use Rattle.histories.proofs.Theorems.{sound-tree-of-grants}
 use Rattle.checker.specs.Holding.{Holds}
 use Rattle.checker.proofs.Theorems.{accepted-exactly-if-holds}
@@ -38,11 +39,12 @@ use Rattle.shelf_grants.specs.Contents.{Parts, allGrants, InPlace, rootOf, list
 use Rattle.shelf_grants.proofs.Gathered.{front-prefix, answer-of-part}
 use Rattle.shelf_grants.proofs.Listed.{said, answer-in-list}
 use Rattle.contracts.specs.Contracts.{ReadsRoot, Proves, Verifies, ShelfVerifies}
-use Rattle.demands.specs.Claims.{treeOfVersion, grantsOfVersion, latestOf, Shown, NothingToShow}
+use Rattle.demands.specs.Claims.{treeOfVersion, grantsOfVersion, latestOf, Shown}
 use Rattle.demands.proofs.Hashes.{hash-whole}
 use Rattle.demands.proofs.Forms.{proof-form}
 use Rattle.demands.proofs.Given.{kindOf, its-proof, its-tests, kind-told, front-is, told-short}
-use Rattle.demands.proofs.Showing.{root-of-tree, sound-is-shown, sound-has-nothing-to-show}
+use Rattle.demands.proofs.Showing.{root-of-tree, sound-is-shown}
+use Rattle.demands.proofs.Reading.{sound-reads-for}
 use Rattle.shelves.specs.Shelf.{Shelf, earlier, readAt, partsAt, shelfGrants, partOf, StandsAt, Proved, by-list, by-both, ShelfShown, NothingOnShelf}
 
 -- the earlier of two versions
@@ -115,9 +117,7 @@ said-present {y} (g ∷ gs) e =
 -- what the check leaves where an answer is told
 shelf-left : {root k y f : Bytes} {b r : ℕ} {g : Bytes} {a : Verdict} → ShelfVerifies root b k y f r g → ShelfTold root b k y (accepted a) →
     (r ≡ 0) × (g ≡ foundBytes a)
-shelf-left {root} {k} {y} {f} {b} {a = a} x t =
-    let e = one-shelf-told root b k y (x .verdict) (accepted a) (x .told) t in
-    (x .answer ∙ ap (λ c. numberOf c) e, x .found ∙ ap (λ c. foundAfter c f) e)
+shelf-left {root} {k} {y} {b = b} x t = exports-left (one-shelf-told root b k y) x t
 
 -- a proof that is given holds
 module _ {s : Bytes} (w : SoundBytes s) {v : ℕ} (kept : Kept (storeOf s) v) {k : Bytes} (whole : Whole32 k) (some : HoldsGrant (storeOf s) v)
@@ -139,7 +139,7 @@ of-presence (presence p) e h = (p, refl)
 of-presence (absence a) e h = absurd (omega arith)
 
 module _ {b : ℕ} {x : Shelf} {v : ℕ} (w : StandsAt b x v) (k : Bytes) (whole : Whole32 k) (some : HoldsGrant (storeOf (x .list)) v) where
-  abbrev seen : Shown (x .list) v (partKey b k)
+  abbrev seen : Shown (x .list) v (partKey b k) (answerOf (partKey b k) (grantsOfVersion (x .list) v))
   seen = sound-is-shown (w .list-sound) v (w .list-kept) (partKey b k) (key-whole w k whole) some
 
   abbrev root : Bytes
@@ -219,10 +219,10 @@ module _ {b : ℕ} {x : Shelf} {v : ℕ} (w : StandsAt b x v) (k : Bytes) (whole
 -- A shelf whose list has no grant has none: there is no proof.
 pub empty-shelf-has-nothing : {b : ℕ} {x : Shelf} {v : ℕ} → StandsAt b x v → (k : Bytes) → Whole32 k → grantsOfVersion (x .list) v ≡ [] → NothingOnShelf b x v k
 empty-shelf-has-nothing {b} {x} {v} w k whole e =
-    let none = sound-has-nothing-to-show (w .list-sound) v (w .list-kept) (partKey b k) (key-whole w k whole) e in
+    let none = sound-reads-for (w .list-sound) v (w .list-kept) in
     let gone = said-absent (partsAt x v (partOf b k)) (sym (list-says w k whole) ∙ ap (answerOf (partKey b k)) e) in
     record {
       no-grant = part-says w k whole ∙ ap (answerOf k) gone;
-      refused = λ y. none .refused y .0;
-      zero-root = λ y. none .reads-root y;
+      refused = λ y. none .shows-nothing (key-whole w k whole) y .0 .1 e;
+      zero-root = λ y. (none .root y .0, none .zero-root e y);
     }

@@ -9,7 +9,8 @@ use Rattle.terms.specs.Records.{Proof, presence, absence}
 use Rattle.terms.proofs.Places.{length-pack}
 use Rattle.meaning.specs.Calls.{Answer, accepted}
 use Rattle.meaning.specs.Reading.{Verdict, present, absent}
-use Rattle.meaning.specs.Answers.{numberOf, foundBytes, foundAfter}
+use Rattle.meaning.specs.Answers.{numberOf, toldOf, foundBytes, exports-answer}
+use Rattle.meaning.proofs.Told.{seen}
 use Rattle.checker.specs.Holding.{Holds, shown, only-left, only-right, both}
 use Rattle.nodehash.specs.Node.{leafHash, innerHash}
 use Rattle.proofrecords.specs.ProofBytes.{proofBytes, ProofForm}
@@ -30,9 +31,9 @@ pub record Accepted (root : Bytes) (b : ℕ) (k y g : Bytes) : Type 0 where
   pub told : g ≡ foundBytes answer
 
 pub what-was-accepted : {root k y f g : Bytes} {b : ℕ} → ShelfVerifies root b k y f 0 g → Accepted root b k y g
-what-was-accepted {root} {k} {y} {f} {g} {b} w = go (w .told) (w .answer) (w .found)
+what-was-accepted {root} {k} {y} {f} {g} {b} w = let x = seen w in go (x .said) (x .exported .number) (x .exported .told)
   where
-    go : {a : Answer Verdict} → ShelfTold root b k y a → 0 ≡ numberOf a → g ≡ foundAfter a f → Accepted root b k y g
+    go : {a : Answer Verdict} → ShelfTold root b k y a → 0 ≡ numberOf a → g ≡ toldOf foundBytes a f → Accepted root b k y g
     go (not-32-bytes n) c z = absurd (omega arith)
     go (too-many-bits s m) c z = absurd (omega arith)
     go (not-in-form s l n) c z = absurd (omega arith)
@@ -44,7 +45,7 @@ what-was-accepted {root} {k} {y} {f} {g} {b} w = go (w .told) (w .answer) (w .fo
 pub accepted-alone : (root k : Bytes) (p : Proof) (a : Verdict) (f : Bytes) → length root ≡ 32 → length k ≡ 32 → ProofForm p →
     Holds leafHash innerHash root k p a → Verifies root k (proofBytes p) f 0 (foundBytes a)
 accepted-alone root k p a f r l h i =
-    record { verdict = accepted a; told = in-form (r, l) (record { bytes = refl; form = h }) (holding-alone i); answer = refl; found = refl }
+    exports-answer (in-form (r, l) (record { bytes = refl; form = h }) (holding-alone i))
 
 pub key-32 : (b : ℕ) (k : Bytes) → length (partKey b k) ≡ 32
 unfolding partKey

@@ -18,8 +18,8 @@ use Rattle.meaning.specs.Store.{rootOf, childOn}
 use Rattle.meaning.specs.Sight.{Sight, matches, nothing, spoilt, scan}
 use Rattle.meaning.specs.Sound.{At}
 use Rattle.meaning.specs.Calls.{Answer, refused, accepted, isKept}
-use Rattle.meaning.specs.Reading.{Trouble, lostRecord, spoiltRecord, strayLeaf, beside, refusalOf, Seen, lost, gap, leafSeen, fork, seenBody, seenChild, seenAt, seenRoot, seen, Pass, End, broken, atLeaf, atGap, walk}
-use Rattle.meaning.specs.Proving.{step, presenceOf, stepUp, isGap, Descended, stuck, reached, raisedBy, descend, Sought, lostWay, nobody, somebody, sought, turnsAway, beyond, neighbour, absenceFrom, absenceAt, proveEnd, proveSeen, proof}
+use Rattle.meaning.specs.Reading.{Trouble, lostRecord, spoiltRecord, strayLeaf, beside, refusalOf, Seen, stoppedBy, gap, leafSeen, fork, seenBody, seenChild, seenAt, seenRoot, seen, Pass, End, walkStopped, atLeaf, atGap, walk}
+use Rattle.meaning.specs.Proving.{step, presenceOf, stepUp, isGap, Descended, descentStopped, reached, raisedBy, descend, Sought, searchStopped, nobody, somebody, sought, turnsAway, beyond, neighbour, absenceFrom, absenceAt, proveEnd, proveSeen, proof}
 use Rattle.meaning.proofs.Finding.{found-at}
 use Rattle.meaning.proofs.Roots.{root-at}
 use Rattle.meaning.proofs.Sights.{sighted-root, sighted-node}
@@ -28,7 +28,7 @@ use Rattle.shown.proofs.SeenAt.{root-spoilt}
 
 -- each inner node that is seen has a child
 abbrev Forked : Seen → Type 0
-Forked (lost t) = Unit {0}
+Forked (stoppedBy t) = Unit {0}
 Forked gap = Unit {0}
 Forked (leafSeen k x) = Unit {0}
 Forked (fork hashes kids) = (isGap (kids left) ≡ true → isGap (kids right) ≡ true → ⊥) × ((b : Side) → Forked (kids b))
@@ -45,7 +45,7 @@ other-kid b kids h e = go b (isGap (kids (not b))) refl e
 
 -- how a walk for k may end where something is seen: lost, at the key, or with a search that finds somebody or gives 3
 data Ends (k : Bytes) (e : End) : Type 0 where
-  lost-way : (t : Trouble) → e ≡ broken t → Ends k e
+  lost-way : (t : Trouble) → e ≡ walkStopped t → Ends k e
   at-key : (l x : Bytes) (trail : List Pass) → e ≡ atLeaf l x trail → sameBytes k l ≡ true → Ends k e
   flanked : (b : Side) → (neighbour b k e ≡ nobody → ⊥) → Ends k e
 
@@ -53,7 +53,7 @@ somebody-met : (p : Presence) → somebody p ≡ nobody → ⊥
 somebody-met p e = let z : _≡_ {A = ℕ} 0 1 = cc in absurd (omega arith)
 
 sought-met : (o : Descended) → sought o ≡ nobody → ⊥
-sought-met (stuck t) e = let z : _≡_ {A = ℕ} 0 1 = cc in absurd (omega arith)
+sought-met (descentStopped t) e = let z : _≡_ {A = ℕ} 0 1 = cc in absurd (omega arith)
 sought-met (reached p) e = somebody-met p e
 
 leaf-ends : (k l x : Bytes) (trail : List Pass) → Ends k (atLeaf l x trail)
@@ -75,13 +75,13 @@ gap-ends k true hashes kids trail e =
     flanked false (λ n. sought-met (raisedBy (step false (hashes true) ∷ map stepUp trail) (descend true (kids false))) (rw e at n))
 
 gap-is : (s : Seen) → isGap s ≡ true → s ≡ gap
-gap-is (lost t) e = absurd (false≢true e)
+gap-is (stoppedBy t) e = absurd (false≢true e)
 gap-is gap e = refl
 gap-is (leafSeen k x) e = absurd (false≢true e)
 gap-is (fork hashes kids) e = absurd (false≢true e)
 
 walk-ends : (k : Bytes) (i : ℕ) (trail : List Pass) (s : Seen) → Forked s → isGap s ≡ false → Ends k (walk k i trail s)
-walk-ends k i trail (lost t) f e = lost-way t refl
+walk-ends k i trail (stoppedBy t) f e = lost-way t refl
 walk-ends k i trail gap f e = absurd (true≢false e)
 walk-ends k i trail (leafSeen l x) f e = leaf-ends k l x trail
 walk-ends k i trail (fork hashes kids) f e = go (isGap (kids (bit i k))) refl (walk-ends k (suc i) (p ∷ trail) (kids (bit i k)) (f .1 (bit i k)))
@@ -104,11 +104,11 @@ other-number (spoiltRecord i) e = absurd (omega arith)
 other-number strayLeaf e = absurd (omega arith)
 
 both-nobody : (k : Bytes) (x y : Sought) → absenceFrom k x y ≡ refused 14 → (x ≡ nobody) × (y ≡ nobody)
-both-nobody k (lostWay t) y e = other-number t (cc)
-both-nobody k nobody (lostWay t) e = other-number t (cc)
+both-nobody k (searchStopped t) y e = other-number t (cc)
+both-nobody k nobody (searchStopped t) e = other-number t (cc)
 both-nobody k nobody nobody e = (refl, refl)
 both-nobody k nobody (somebody q) e = let z : _≡_ {A = ℕ} 0 1 = cc in absurd (omega arith)
-both-nobody k (somebody p) (lostWay t) e = other-number t (cc)
+both-nobody k (somebody p) (searchStopped t) e = other-number t (cc)
 both-nobody k (somebody p) nobody e = let z : _≡_ {A = ℕ} 0 1 = cc in absurd (omega arith)
 both-nobody k (somebody p) (somebody q) e = let z : _≡_ {A = ℕ} 0 1 = cc in absurd (omega arith)
 
@@ -118,11 +118,11 @@ absence-given k e false m f = m (both-nobody k (neighbour left k e) (neighbour r
 absence-given k e true m f = m (both-nobody k (neighbour left k e) (neighbour right k e) f .1)
 
 not-fourteen : (k : Bytes) (e : End) → Ends k e → proveEnd k e ≡ refused 14 → ⊥
-not-fourteen k e (lost-way t w) f = let g : proveEnd k (broken t) ≡ refused 14 = sym (ap (proveEnd k) w) ∙ f in other-number t (cc)
+not-fourteen k e (lost-way t w) f = let g : proveEnd k (walkStopped t) ≡ refused 14 = sym (ap (proveEnd k) w) ∙ f in other-number t (cc)
 not-fourteen k e (at-key l x trail w same) f =
     let g : proveEnd k (atLeaf l x trail) ≡ refused 14 = sym (ap (proveEnd k) w) ∙ f in
     let z : _≡_ {A = ℕ} 0 1 = let h = rw same at g in cc in omega arith
-not-fourteen k (broken t) (flanked b m) f = other-number t (cc)
+not-fourteen k (walkStopped t) (flanked b m) f = other-number t (cc)
 not-fourteen k (atLeaf l x trail) (flanked b m) f = go (sameBytes k l) f
   where
     go : (c : Bool) → cond c (accepted (presence (presenceOf l x (map stepUp trail)))) (absenceAt k (atLeaf l x trail)) ≡ refused 14 → ⊥
@@ -144,7 +144,7 @@ module _ (st : Store) (formed : (i : ℕ) (r : Record) → At st i r → RecordF
       ((b : Side) (c : Child) → isGap (kid b c) ≡ true → c .version ≡ 0) → (isGap (seenBody p o kid) ≡ false) × Forked (seenBody p o kid)
   body-forked p (leafBody k x) kid f h none-there = go (begins p k)
     where
-      go : (b : Bool) → (isGap (cond b (leafSeen k x) (lost strayLeaf)) ≡ false) × Forked (cond b (leafSeen k x) (lost strayLeaf))
+      go : (b : Bool) → (isGap (cond b (leafSeen k x) (stoppedBy strayLeaf)) ≡ false) × Forked (cond b (leafSeen k x) (stoppedBy strayLeaf))
       go true = (refl, tt)
       go false = (refl, tt)
   body-forked p (innerBody l r) kid f h none-there =
@@ -159,9 +159,9 @@ module _ (st : Store) (formed : (i : ℕ) (r : Record) → At st i r → RecordF
       go : (b : Bool) (o : Sight) → eqb (c .version) 0 ≡ b → scan st .node (c .version) p ≡ o → (isGap s ≡ true → c .version ≡ 0) × Forked s
       go true o f g = let is : s ≡ gap = e ∙ rw f in (λ _. eqb-true (c .version) 0 f, subst Forked (sym is) tt)
       go false nothing f g =
-          let is : s ≡ lost lostRecord = e ∙ rw (f, g) in (λ a. absurd (false≢true (sym (ap isGap is) ∙ a)), subst Forked (sym is) tt)
+          let is : s ≡ stoppedBy lostRecord = e ∙ rw (f, g) in (λ a. absurd (false≢true (sym (ap isGap is) ∙ a)), subst Forked (sym is) tt)
       go false (spoilt i) f g =
-          let is : s ≡ lost (spoiltRecord i) = e ∙ rw (f, g) in (λ a. absurd (false≢true (sym (ap isGap is) ∙ a)), subst Forked (sym is) tt)
+          let is : s ≡ stoppedBy (spoiltRecord i) = e ∙ rw (f, g) in (λ a. absurd (false≢true (sym (ap isGap is) ∙ a)), subst Forked (sym is) tt)
       go false (matches r) f g =
           let is : s ≡ seenBody p (r .body) kid = e ∙ rw (f, g) in
           let (i, a, _, _) = found-at st (c .version) p r (sighted-node st (c .version) p r g) in
@@ -169,7 +169,7 @@ module _ (st : Store) (formed : (i : ℕ) (r : Record) → At st i r → RecordF
           (λ a. absurd (false≢true (sym (w .0) ∙ sym (ap isGap is) ∙ a)), subst Forked (sym is) (w .1))
 
   at-forked : (n : ℕ) (p : Place) (c : Child) → (isGap (seenAt n (scan st) p c) ≡ true → c .version ≡ 0) × Forked (seenAt n (scan st) p c)
-  at-forked zero p c = child-forked p c (λ b d. lost lostRecord) (λ b d. tt) (λ b d e. absurd (false≢true e)) _ refl
+  at-forked zero p c = child-forked p c (λ b d. stoppedBy lostRecord) (λ b d. tt) (λ b d e. absurd (false≢true e)) _ refl
   at-forked (suc n) p c =
       child-forked p c (λ b d. seenAt n (scan st) (longer b p) d) (λ b d. at-forked n (longer b p) d .1)
       (λ b d. at-forked n (longer b p) d .0) _ refl
@@ -193,7 +193,7 @@ module _ (st : Store) (formed : (i : ℕ) (r : Record) → At st i r → RecordF
 
   spoilt-root : (v : ℕ) (k : Bytes) (i : ℕ) → scan st .root v ≡ spoilt i → proveSeen k (seen (scan st) v) ≡ refused 14 → ⊥
   spoilt-root v k i e f =
-      false≢true (seen-or-fourteen k (lost (spoiltRecord i)) tt (sym (ap (proveSeen k) (root-spoilt (scan st) v i e)) ∙ f))
+      false≢true (seen-or-fourteen k (stoppedBy (spoiltRecord i)) tt (sym (ap (proveSeen k) (root-spoilt (scan st) v i e)) ∙ f))
 
   -- 14 is given exactly if the version is kept and it is empty: no slot matches a root for it, and none that is spoilt agrees.
   pub fourteen-exactly-without-root : (v : ℕ) (k : Bytes) → (proof st v k ≡ refused 14) ↔ ((isKept st v ≡ true) × (scan st .root v ≡ nothing))

@@ -14,14 +14,14 @@ use Rattle.terms.proofs.Lists.{all-map}
 use Rattle.meaning.specs.Store.{childOn}
 use Rattle.meaning.specs.Sight.{Sight, matches, nothing, spoilt, Looking, scan}
 use Rattle.meaning.specs.Calls.{Answer, refused, accepted, isKept}
-use Rattle.meaning.specs.Reading.{lostRecord, strayLeaf, Seen, lost, gap, leafSeen, fork, seenBody, seenChild, seenAt, seenRoot, seen, Pass, End, broken, atLeaf, atGap, walk}
-use Rattle.meaning.specs.Proving.{step, presenceOf, stepUp, isGap, Descended, stuck, reached, raisedBy, descend, Sought, lostWay, nobody, somebody, sought, turnsAway, fromTrail, beyond, neighbour, absenceFrom, absenceAt, proveEnd, proveSeen, proof, presenceLength, neighbourLength, proofLength}
+use Rattle.meaning.specs.Reading.{lostRecord, strayLeaf, Seen, stoppedBy, gap, leafSeen, fork, seenBody, seenChild, seenAt, seenRoot, seen, Pass, End, walkStopped, atLeaf, atGap, walk}
+use Rattle.meaning.specs.Proving.{step, presenceOf, stepUp, isGap, Descended, descentStopped, reached, raisedBy, descend, Sought, searchStopped, nobody, somebody, sought, turnsAway, fromTrail, beyond, neighbour, absenceFrom, absenceAt, proveEnd, proveSeen, proof, presenceLength, neighbourLength, proofLength}
 use Rattle.meaning.proofs.Empty.{proof-by-searches}
 use Rattle.shown.proofs.Searches.{orElse, soughtBelow, neighbourBelow, neighbour-from-trail}
 
 -- Each leaf that is seen is less than n steps down.
 abbrev Depth : ℕ → Seen → Type 0
-Depth n (lost t) = Unit {0}
+Depth n (stoppedBy t) = Unit {0}
 Depth n gap = Unit {0}
 Depth zero (leafSeen k x) = ⊥
 Depth (suc n) (leafSeen k x) = Unit {0}
@@ -32,7 +32,7 @@ body-depth : (n : ℕ) (p : Place) (b : Body) (kid : Side → Child → Seen) �
     Depth (suc n) (seenBody p b kid)
 body-depth n p (leafBody k x) kid h = go (begins p k)
   where
-    go : (b : Bool) → Depth (suc n) (cond b (leafSeen k x) (lost strayLeaf))
+    go : (b : Bool) → Depth (suc n) (cond b (leafSeen k x) (stoppedBy strayLeaf))
     go true = tt
     go false = tt
 body-depth n p (innerBody l r) kid h = λ b. h b (childOn b l r)
@@ -48,7 +48,7 @@ child-depth n v p o kid h = go (eqb v 0) o
     go false (matches r) = body-depth n p (r .body) kid h
 
 seen-depth : (n : ℕ) (s : Looking) (p : Place) (c : Child) → Depth (suc n) (seenAt n s p c)
-seen-depth zero s p c = child-depth zero (c .version) p (s .node (c .version) p) (λ b d. lost lostRecord) (λ b d. tt)
+seen-depth zero s p c = child-depth zero (c .version) p (s .node (c .version) p) (λ b d. stoppedBy lostRecord) (λ b d. tt)
 seen-depth (suc n) s p c =
     child-depth (suc n) (c .version) p (s .node (c .version) p) (λ b d. seenAt n s (longer b p) d) (λ b d. seen-depth n s (longer b p) d)
 
@@ -62,11 +62,11 @@ abbrev Short : ℕ → Presence → Type 0
 Short n p = length (p .steps) < n
 
 abbrev ShortIf : ℕ → Descended → Type 0
-ShortIf n (stuck t) = Unit {0}
+ShortIf n (descentStopped t) = Unit {0}
 ShortIf n (reached p) = Short n p
 
 raised-short : (n : ℕ) (s : Step) (o : Descended) → ShortIf n o → ShortIf (suc n) (raisedBy (s ∷ []) o)
-raised-short n s (stuck t) h = tt
+raised-short n s (descentStopped t) h = tt
 raised-short n s (reached p) h = simp length-append (omega arith)
 
 either-short : (n : ℕ) (b : Bool) (o q : Descended) → ShortIf n o → ShortIf n q → ShortIf n (cond b o q)
@@ -75,7 +75,7 @@ either-short n false o q h g = g
 
 -- the descent
 descent-short : (n : ℕ) (b : Side) (s : Seen) → Depth n s → ShortIf n (descend b s)
-descent-short n b (lost t) h = tt
+descent-short n b (stoppedBy t) h = tt
 descent-short n b gap h = tt
 descent-short zero b (leafSeen k x) h = absurd h
 descent-short (suc n) b (leafSeen k x) h = omega arith
@@ -88,17 +88,17 @@ descent-short (suc n) b (fork hashes kids) h =
 
 -- the searches
 abbrev ShortFound : ℕ → Sought → Type 0
-ShortFound n (lostWay t) = Unit {0}
+ShortFound n (searchStopped t) = Unit {0}
 ShortFound n nobody = Unit {0}
 ShortFound n (somebody p) = Short n p
 
 below-short : (n : ℕ) (s : Step) (x : Sought) → ShortFound n x → ShortFound (suc n) (soughtBelow (s ∷ []) x)
-below-short n s (lostWay t) h = tt
+below-short n s (searchStopped t) h = tt
 below-short n s nobody h = tt
 below-short n s (somebody p) h = simp length-append (omega arith)
 
 or-short : (n : ℕ) (x y : Sought) → ShortFound n x → ShortFound n y → ShortFound n (orElse x y)
-or-short n (lostWay t) y h g = tt
+or-short n (searchStopped t) y h g = tt
 or-short n nobody y h g = g
 or-short n (somebody p) y h g = h
 
@@ -108,11 +108,11 @@ turn-short n b p h = go (turnsAway b p) (descend (not b) (p .kids b)) (descent-s
     go : (away : Bool) (o : Descended) → ShortIf n o →
         ShortFound (suc n) (cond away (sought (raisedBy (step b (p .hashes (not b)) ∷ []) o)) nobody)
     go false o g = tt
-    go true (stuck t) g = tt
+    go true (descentStopped t) g = tt
     go true (reached q) g = simp length-append (omega arith)
 
 neighbour-short : (n : ℕ) (b : Side) (k : Bytes) (i : ℕ) (s : Seen) → Depth n s → ShortFound n (neighbourBelow b k i s)
-neighbour-short n b k i (lost t) h = tt
+neighbour-short n b k i (stoppedBy t) h = tt
 neighbour-short n b k i gap h = tt
 neighbour-short zero b k i (leafSeen l x) h = absurd h
 neighbour-short (suc n) b k i (leafSeen l x) h = go (beyond b l k)
@@ -130,13 +130,13 @@ neighbour-short (suc n) b k i (fork hashes kids) h =
 
 -- the walk
 abbrev ShortTrail : ℕ → End → Type 0
-ShortTrail n (broken t) = Unit {0}
+ShortTrail n (walkStopped t) = Unit {0}
 ShortTrail n (atLeaf l x trail) = length (map stepUp trail) < n
 ShortTrail n (atGap trail) = Unit {0}
 
 walk-short : (n : ℕ) (k : Bytes) (i : ℕ) (trail : List Pass) (s : Seen) → Depth n s →
     ShortTrail (n + length (map stepUp trail)) (walk k i trail s)
-walk-short n k i trail (lost t) h = tt
+walk-short n k i trail (stoppedBy t) h = tt
 walk-short n k i trail gap h = tt
 walk-short zero k i trail (leafSeen l x) h = absurd h
 walk-short (suc n) k i trail (leafSeen l x) h = omega arith
@@ -163,17 +163,17 @@ ShortGiven n (refused r) = Unit {0}
 ShortGiven n (accepted p) = All (Short n) (pathsOf p)
 
 absence-short : (n : ℕ) (k : Bytes) (x y : Sought) → ShortFound n x → ShortFound n y → ShortGiven n (absenceFrom k x y)
-absence-short n k (lostWay t) y h g = tt
-absence-short n k nobody (lostWay t) h g = tt
+absence-short n k (searchStopped t) y h g = tt
+absence-short n k nobody (searchStopped t) h g = tt
 absence-short n k nobody nobody h g = tt
 absence-short n k nobody (somebody q) h g = (g, tt)
-absence-short n k (somebody p) (lostWay t) h g = tt
+absence-short n k (somebody p) (searchStopped t) h g = tt
 absence-short n k (somebody p) nobody h g = (h, tt)
 absence-short n k (somebody p) (somebody q) h g = (h, (g, tt))
 
 end-short : (n : ℕ) (k : Bytes) (e : End) → ShortTrail n e → ((b : Side) → ShortFound n (neighbour b k e)) → ShortGiven n (proveEnd k e)
 unfolding absenceAt
-end-short n k (broken t) w f = tt
+end-short n k (walkStopped t) w f = tt
 end-short n k (atLeaf l x trail) w f = go (sameBytes k l)
   where
     go : (b : Bool) → ShortGiven n

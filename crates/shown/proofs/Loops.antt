@@ -6,14 +6,14 @@ use mathlib.Core.List.{List, [], _∷_}
 use mathlib.Core.Option.{Option, none, some}
 use Rattle.terms.specs.Bits.{Side}
 use Rattle.terms.specs.Records.{Step, Presence}
-use Rattle.meaning.specs.Reading.{lostRecord, Seen, lost, gap, leafSeen, fork}
-use Rattle.meaning.specs.Proving.{step, presenceOf, isGap, Descended, stuck, reached, raisedBy, descend}
+use Rattle.meaning.specs.Reading.{lostRecord, Seen, stoppedBy, gap, leafSeen, fork}
+use Rattle.meaning.specs.Proving.{step, presenceOf, isGap, Descended, descentStopped, reached, raisedBy, descend}
 use Rattle.shown.proofs.Searches.{raised-twice}
 
 -- The descent to side b with the steps above it.
 abbrev pub descendBelow : Side → List Step → Seen → Descended
-descendBelow b above (lost t) = stuck t
-descendBelow b above gap = stuck lostRecord
+descendBelow b above (stoppedBy t) = descentStopped t
+descendBelow b above gap = descentStopped lostRecord
 descendBelow b above (leafSeen k x) = reached (presenceOf k x above)
 descendBelow b above (fork hashes kids) =
     cond (isGap (kids b))
@@ -21,7 +21,7 @@ descendBelow b above (fork hashes kids) =
     (descendBelow b (step b (hashes (not b)) ∷ above) (kids b))
 
 raisedBy-twice : (s : Step) (above : List Step) (o : Descended) → raisedBy (s ∷ above) o ≡ raisedBy above (raisedBy (s ∷ []) o)
-raisedBy-twice s above (stuck t) = refl
+raisedBy-twice s above (descentStopped t) = refl
 raisedBy-twice s above (reached p) = ap reached (raised-twice s above p)
 
 either-raised : (b : Bool) (above : List Step) (o q : Descended) →
@@ -30,7 +30,7 @@ either-raised true above o q = refl
 either-raised false above o q = refl
 
 pub descend-below : (b : Side) (above : List Step) (s : Seen) → descendBelow b above s ≡ raisedBy above (descend b s)
-descend-below b above (lost t) = refl
+descend-below b above (stoppedBy t) = refl
 descend-below b above gap = refl
 descend-below b above (leafSeen k x) = refl
 descend-below b above (fork hashes kids) =

@@ -14,7 +14,7 @@ use Rattle.meaning.specs.Tree.{Tree, leaf, inner, grants, hash}
 use Rattle.meaning.specs.Tree as T
 use Rattle.meaning.specs.Calls.{accepted}
 use Rattle.meaning.specs.Reading.{Seen}
-use Rattle.meaning.specs.Proving.{step, presenceOf, Descended, stuck, reached, raisedBy, isGap, descend, Sought, nobody, somebody, sought, fromTrail, beyond, absenceFrom}
+use Rattle.meaning.specs.Proving.{step, presenceOf, Descended, descentStopped, reached, raisedBy, isGap, descend, Sought, nobody, somebody, sought, fromTrail, beyond, absenceFrom}
 use Rattle.shown.proofs.Views.{onSide, each-side, Compared, same, other, compared, not-not, occupied, Seat, Seated, child-seated, viewed, viewed-inner, passing, gap-or-node}
 use Rattle.shown.proofs.Walks.{Reached, next, grants-off-walk}
 use Rattle.shown.proofs.Descent.{descent}
@@ -115,11 +115,11 @@ grantIf (some p) = some (grantOf p)
 
 -- The grant that a descent comes to.
 abbrev grantAt : Descended → Option Grant
-grantAt (stuck t) = none
+grantAt (descentStopped t) = none
 grantAt (reached p) = some (grantOf p)
 
 raised-grant : (steps : List Step) (o : Descended) → grantAt (raisedBy steps o) ≡ grantAt o
-raised-grant steps (stuck t) = refl
+raised-grant steps (descentStopped t) = refl
 raised-grant steps (reached p) = refl
 
 -- A search finds a grant, or nobody where there is none.

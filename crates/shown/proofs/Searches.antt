@@ -8,19 +8,19 @@ use mathlib.Core.Option.{Option, none, some}
 use Rattle.terms.specs.Bits.{Bytes, Side, bit}
 use Rattle.terms.specs.Records.{Step, Presence}
 use Rattle.meaning.specs.Tree.{Tree, hash}
-use Rattle.meaning.specs.Reading.{Seen, lost, gap, leafSeen, fork, Pass, walk}
-use Rattle.meaning.specs.Proving.{step, presenceOf, stepUp, raised, Descended, stuck, reached, raisedBy, descend, Sought, lostWay, nobody, somebody, sought, turnsAway, fromTrail, beyond, neighbour}
+use Rattle.meaning.specs.Reading.{Seen, stoppedBy, gap, leafSeen, fork, Pass, walk}
+use Rattle.meaning.specs.Proving.{step, presenceOf, stepUp, raised, Descended, descentStopped, reached, raisedBy, descend, Sought, searchStopped, nobody, somebody, sought, turnsAway, fromTrail, beyond, neighbour}
 use Rattle.shown.proofs.Views.{onSide, not-not, occupied, viewed, passing, gap-or-node}
 
 -- Where the first search finds nobody, the second.
 abbrev pub orElse : Sought → Sought → Sought
-orElse (lostWay t) y = lostWay t
+orElse (searchStopped t) y = searchStopped t
 orElse nobody y = y
 orElse (somebody p) y = somebody p
 
 -- What a search found, with more steps above it.
 abbrev pub soughtBelow : List Step → Sought → Sought
-soughtBelow steps (lostWay t) = lostWay t
+soughtBelow steps (searchStopped t) = searchStopped t
 soughtBelow steps nobody = nobody
 soughtBelow steps (somebody p) = somebody (raised steps p)
 
@@ -30,9 +30,9 @@ raised-twice s steps p = ap (presenceOf (p .key) (p .value)) (sym (append-assoc 
 at-node : (s u : Step) (steps : List Step) (below : Sought) (turn : Descended) (above : Sought) (away : Bool) →
     orElse (soughtBelow (s ∷ steps) below) (cond away (sought (raisedBy (u ∷ steps) turn)) above)
     ≡ orElse (soughtBelow steps (orElse (soughtBelow (s ∷ []) below) (cond away (sought (raisedBy (u ∷ []) turn)) nobody))) above
-at-node s u steps (lostWay t) turn above away = refl
+at-node s u steps (searchStopped t) turn above away = refl
 at-node s u steps nobody turn above false = refl
-at-node s u steps nobody (stuck t) above true = refl
+at-node s u steps nobody (descentStopped t) above true = refl
 at-node s u steps nobody (reached p) above true = ap somebody (raised-twice u steps p)
 at-node s u steps (somebody p) turn above away = ap somebody (raised-twice s steps p)
 
@@ -48,7 +48,7 @@ neighbourBelow b k i s = neighbour b k (walk k i [] s)
 
 pub neighbour-from-trail : (b : Side) (k : Bytes) (i : ℕ) (trail : List Pass) (s : Seen) →
     neighbour b k (walk k i trail s) ≡ orElse (soughtBelow (map stepUp trail) (neighbourBelow b k i s)) (fromTrail b trail)
-neighbour-from-trail b k i trail (lost t) = refl
+neighbour-from-trail b k i trail (stoppedBy t) = refl
 neighbour-from-trail b k i trail gap = refl
 neighbour-from-trail b k i trail (leafSeen l x) = at-leaf l x (map stepUp trail) (fromTrail b trail) (beyond b l k)
 neighbour-from-trail b k i trail (fork hashes kids) =

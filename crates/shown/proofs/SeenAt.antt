@@ -10,7 +10,7 @@ use Rattle.terms.specs.Bits.{Bytes, Place, longer, begins}
 use Rattle.terms.specs.Records.{Child, leafBody, innerBody, Record}
 use Rattle.meaning.specs.Store.{childOn}
 use Rattle.meaning.specs.Sight.{Sight, matches, nothing, spoilt, Looking}
-use Rattle.meaning.specs.Reading.{lostRecord, spoiltRecord, strayLeaf, Seen, lost, gap, leafSeen, fork, seenBody, seenAt, seenRoot, seen}
+use Rattle.meaning.specs.Reading.{lostRecord, spoiltRecord, strayLeaf, Seen, stoppedBy, gap, leafSeen, fork, seenBody, seenAt, seenRoot, seen}
 
 -- The root; the number of bits below is left a variable, for proofs that would otherwise open it 255 times.
 module _ (look : Looking) (v : ℕ) where
@@ -21,7 +21,7 @@ module _ (look : Looking) (v : ℕ) where
   unfolding seen
   root-gap e = ap from e
 
-  pub root-spoilt : (i : ℕ) → look .root v ≡ spoilt i → seen look v ≡ lost (spoiltRecord i)
+  pub root-spoilt : (i : ℕ) → look .root v ≡ spoilt i → seen look v ≡ stoppedBy (spoiltRecord i)
   unfolding seen
   root-spoilt i e = ap from e
 
@@ -42,17 +42,17 @@ module _ (look : Looking) (p : Place) (c : Child) where
   child-gap zero e = rw (eq-eqb (c .version) 0 e)
   child-gap (suc n) e = rw (eq-eqb (c .version) 0 e)
 
-  pub child-lost : (n : ℕ) → 1 ≤ c .version → look .node (c .version) p ≡ nothing → seenAt n look p c ≡ lost lostRecord
+  pub child-lost : (n : ℕ) → 1 ≤ c .version → look .node (c .version) p ≡ nothing → seenAt n look p c ≡ stoppedBy lostRecord
   child-lost zero h e = rw (ne-eqb (c .version) 0 (omega arith), e)
   child-lost (suc n) h e = rw (ne-eqb (c .version) 0 (omega arith), e)
 
-  pub child-spoilt : (n i : ℕ) → 1 ≤ c .version → look .node (c .version) p ≡ spoilt i → seenAt n look p c ≡ lost (spoiltRecord i)
+  pub child-spoilt : (n i : ℕ) → 1 ≤ c .version → look .node (c .version) p ≡ spoilt i → seenAt n look p c ≡ stoppedBy (spoiltRecord i)
   child-spoilt zero i h e = rw (ne-eqb (c .version) 0 (omega arith), e)
   child-spoilt (suc n) i h e = rw (ne-eqb (c .version) 0 (omega arith), e)
 
   pub child-leaf : (n : ℕ) (r : Record) (k x : Bytes) → 1 ≤ c .version → look .node (c .version) p ≡ matches r → r .body ≡ leafBody k x →
-      seenAt n look p c ≡ cond (begins p k) (leafSeen k x) (lost strayLeaf)
-  child-leaf zero r k x h e b = rw (ne-eqb (c .version) 0 (omega arith), e) (ap (λ y. seenBody p y (λ d a. lost lostRecord)) b)
+      seenAt n look p c ≡ cond (begins p k) (leafSeen k x) (stoppedBy strayLeaf)
+  child-leaf zero r k x h e b = rw (ne-eqb (c .version) 0 (omega arith), e) (ap (λ y. seenBody p y (λ d a. stoppedBy lostRecord)) b)
   child-leaf (suc n) r k x h e b =
       rw (ne-eqb (c .version) 0 (omega arith), e) (ap (λ y. seenBody p y (λ d a. seenAt n look (longer d p) a)) b)
 

@@ -9,7 +9,7 @@ use Rattle.terms.specs.Records.{Presence, Proof, presence}
 use Rattle.terms.proofs.Tests.{bytes-same}
 use Rattle.meaning.specs.Tree.{Tree, grants, hash}
 use Rattle.meaning.specs.Calls.{Answer, accepted}
-use Rattle.meaning.specs.Reading.{Pass, End, broken, atLeaf, atGap, walk, readEnd, Verdict, present, absent, answerOf}
+use Rattle.meaning.specs.Reading.{Pass, End, walkStopped, atLeaf, atGap, walk, readEnd, Verdict, present, absent, answerOf}
 use Rattle.meaning.specs.Proving.{presenceOf, absenceOf, stepUp, Sought, neighbour, absenceFrom, absenceAt, proveEnd, proveSeen}
 use Rattle.meaning.specs.Checking.{leadsTo, neighbourHolds, checked}
 use Rattle.shown.proofs.Views.{occupied, Seated, viewed}
@@ -74,7 +74,7 @@ module _ (leafHash innerHash : Bytes → Bytes → Bytes) where
         shown-absent (atLeaf l x trail) came (sym (accepted-same _ _ (rw e at (end-answers (atLeaf l x trail) came))))
 
     shown-end : (e : End) → Came e → Shows root k (answerOf k (grants t)) (proveEnd k e)
-    shown-end (broken t) came = absurd (end-climbs (broken t) came)
+    shown-end (walkStopped t) came = absurd (end-climbs (walkStopped t) came)
     shown-end (atLeaf l x trail) came = shown-leaf l x trail came _ refl
     shown-end (atGap trail) came = shown-absent (atGap trail) came (sym (accepted-same _ _ (end-answers (atGap trail) came)))
 

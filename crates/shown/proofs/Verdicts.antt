@@ -9,8 +9,8 @@ use Rattle.terms.specs.Bits.{Bytes, left, right, sameBytes}
 use Rattle.terms.specs.Records.{Absence, Proof, presence, absence}
 use Rattle.terms.proofs.Tests.{same-bytes}
 use Rattle.meaning.specs.Calls.{Answer, refused, accepted}
-use Rattle.meaning.specs.Reading.{refusalOf, End, broken, atLeaf, atGap, readEnd, Verdict, present, absent}
-use Rattle.meaning.specs.Proving.{presenceOf, stepUp, Sought, lostWay, nobody, somebody, neighbour, absenceFrom, absenceAt, proveEnd}
+use Rattle.meaning.specs.Reading.{refusalOf, End, walkStopped, atLeaf, atGap, readEnd, Verdict, present, absent}
+use Rattle.meaning.specs.Proving.{presenceOf, stepUp, Sought, searchStopped, nobody, somebody, neighbour, absenceFrom, absenceAt, proveEnd}
 
 pub accepted-same : {A : Type 0} (x y : A) → accepted x ≡ accepted y → x ≡ y
 accepted-same x y e = cc
@@ -26,11 +26,11 @@ data Absent (k : Bytes) : Answer Proof → Type 0 where
   a-proof : (a : Absence) → a .key ≡ k → Absent k (accepted (absence a))
 
 from-searches : (k : Bytes) (x y : Sought) → Absent k (absenceFrom k x y)
-from-searches k (lostWay t) y = no-proof (refusalOf t)
-from-searches k nobody (lostWay t) = no-proof (refusalOf t)
+from-searches k (searchStopped t) y = no-proof (refusalOf t)
+from-searches k nobody (searchStopped t) = no-proof (refusalOf t)
 from-searches k nobody nobody = no-proof 14
 from-searches k nobody (somebody q) = a-proof _ refl
-from-searches k (somebody p) (lostWay t) = no-proof (refusalOf t)
+from-searches k (somebody p) (searchStopped t) = no-proof (refusalOf t)
 from-searches k (somebody p) nobody = a-proof _ refl
 from-searches k (somebody p) (somebody q) = a-proof _ refl
 
@@ -51,7 +51,7 @@ absence-agrees k read given (absence c) (a-proof a f) r e = let same : a ≡ c =
 
 -- What the prover gives at the end of a walk agrees with what a read answers there.
 pub end-agrees : (k : Bytes) (e : End) (p : Proof) → proveEnd k e ≡ accepted p → Agrees k (readEnd k e) p
-end-agrees k (broken t) p h = let z : _≡_ {A = ℕ} 0 1 = cc in absurd (omega arith)
+end-agrees k (walkStopped t) p h = let z : _≡_ {A = ℕ} 0 1 = cc in absurd (omega arith)
 end-agrees k (atGap trail) p h = absence-agrees k (accepted absent) (absenceAt k (atGap trail)) p (from-end k (atGap trail)) refl h
 end-agrees k (atLeaf l x trail) p h = go (sameBytes k l) refl p h
   where
@@ -66,7 +66,7 @@ end-agrees k (atLeaf l x trail) p h = go (sameBytes k l) refl p h
 
 -- A proof of absence comes from the searches.
 pub end-absence : (k : Bytes) (e : End) (a : Absence) → proveEnd k e ≡ accepted (absence a) → absenceAt k e ≡ accepted (absence a)
-end-absence k (broken t) a h = let z : _≡_ {A = ℕ} 0 1 = cc in absurd (omega arith)
+end-absence k (walkStopped t) a h = let z : _≡_ {A = ℕ} 0 1 = cc in absurd (omega arith)
 end-absence k (atGap trail) a h = h
 end-absence k (atLeaf l x trail) a h = go (sameBytes k l) h
   where

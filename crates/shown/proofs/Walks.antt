@@ -14,7 +14,7 @@ use Rattle.terms.proofs.Places.{begins-longer, length-longer}
 use Rattle.terms.proofs.Order.{before-irrefl, before-parted}
 use Rattle.meaning.specs.Tree.{Tree, none, leaf, inner, grants, hash}
 use Rattle.meaning.specs.Calls.{accepted}
-use Rattle.meaning.specs.Reading.{Pass, End, broken, atLeaf, atGap, walk, readEnd, present, absent, answerOf}
+use Rattle.meaning.specs.Reading.{Pass, End, walkStopped, atLeaf, atGap, walk, readEnd, present, absent, answerOf}
 use Rattle.meaning.specs.Proving.{beyond, stepUp}
 use Rattle.meaning.specs.Checking.{parentHash, climb}
 use Rattle.shown.proofs.Views.{onSide, each-side, Seat, Seated, child-seated, grants-seated, viewed, viewed-inner, passing, inner-from}
@@ -117,14 +117,14 @@ module _ (leafHash innerHash : Bytes → Bytes → Bytes) where
 
   -- A walk ends at a leaf from which its whole trail leads where the trail that it had leads from h, or at a missing child.
   abbrev pub Climbs : Bytes → List Pass → End → Type 0
-  Climbs h trail (broken t) = ⊥
+  Climbs h trail (walkStopped t) = ⊥
   Climbs h trail (atLeaf l x whole) =
       climb leafHash innerHash (leafHash l x) (map stepUp whole) ≡ climb leafHash innerHash h (map stepUp trail)
   Climbs h trail (atGap whole) = Unit {0}
 
   climbs-above : (h g : Bytes) (p : Pass) (trail : List Pass) (e : End) → parentHash leafHash innerHash h (stepUp p) ≡ g →
       Climbs h (p ∷ trail) e → Climbs g trail e
-  climbs-above h g p trail (broken t) e c = c
+  climbs-above h g p trail (walkStopped t) e c = c
   climbs-above h g p trail (atLeaf l x whole) e c = c ∙ ap (λ u. climb leafHash innerHash u (map stepUp trail)) e
   climbs-above h g p trail (atGap whole) e c = tt
 

@@ -21,8 +21,9 @@ use Rattle.layout.specs.Stores.{slotIn, slotNo, storeOf, Has}
 use Rattle.layout.proofs.Slots.{SlotCases, are-free, are-leaf, are-inner, are-spoiled, slot-cases}
 use Rattle.store.proofs.Slots.{slot-is}
 use Rattle.store.proofs.Scans.{Scan, scan-start, scan-passed, scan-inside, scan-here, scan-next, scan-end}
-use Rattle.lookup.specs.Lookup.{isUsed, covers, Located}
-use Rattle.lookup.proofs.Rooting.{and-false}
+use Rattle.lookup.specs.Lookup.{isUsed, Located}
+use Rattle.lifetime.specs.Lifetime.{covers}
+use Rattle.lookup.proofs.Matching.{and-false}
 use Rattle.lookup.specs.declared.Found as declared-found
 use Rattle.lookup.specs.declared.Found.the-variants.{At, Nothing}
 use Rattle.sights.specs.Sights.{spoiltBy, isSpoilt, SpoiltIn, Sighted}

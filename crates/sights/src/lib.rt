@@ -1,11 +1,11 @@
 // What finding a node in lent memory tells apart, document 02, 2026-07: a match, nothing, or a spoilt slot whose fields agree.
 use agree::agrees;
 use fields::all_zero;
+use lifetime::covers;
 use lookup::Found;
-use lookup::covers;
 use lookup::find;
-use lookup::find_root;
 use lookup::holds_record;
+use lookup_root::find_root;
 use place::Place;
 use slots::bits_of;
 use store::count_at;

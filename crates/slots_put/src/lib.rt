@@ -8,7 +8,7 @@ use hash::put_hash;
 use layout::sizes;
 use place::Place;
 use slots::Child;
-use slots::inner_kind;
+use slots_form::inner_kind;
 ghost use mathlib.Core.Path.{_≡_};
 ghost use Prim.Native.Nat.{_+_, _≤_};
 ghost use lib.ListN.{length};

@@ -6,7 +6,8 @@ use Rattle.meaning.specs.Computed.{computed}
 use Rattle.meaning.specs.Store.{formatted}
 use Rattle.meaning.specs.History.{entry, ledger}
 use Rattle.meaning.specs.Course.{run, history}
-use Rattle.meaning.specs.Desk.{calls, granted, s₈}
+use Rattle.meaning.specs.Desk.{s₈}
+use Rattle.meaning.specs.DeskGaps.{calls, granted}
 
 pub desk-history : (leafHash innerHash : Bytes → Bytes → Bytes) →
     ledger (history leafHash innerHash calls (formatted 20)) (entry 0 [] ∷ []) ≡ granted

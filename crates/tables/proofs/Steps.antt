@@ -2,7 +2,8 @@
 use mathlib.Core.Path.{refl}
 use Rattle.terms.specs.Bits.{Bytes, All}
 use Rattle.meaning.specs.Computed.{computed}
-use Rattle.meaning.specs.Desk.{table, gaps}
+use Rattle.meaning.specs.Desk.{table}
+use Rattle.meaning.specs.DeskGaps.{gaps}
 use Rattle.steps.specs.Step.{grow, stepLeaf, innerBy, stepInner, stepNode, stepRoot}
 use Rattle.steps.specs.Writing.{markIn}
 use Rattle.steps.specs.Apply.{stepped, applySteps}

@@ -17,6 +17,7 @@ use script::words::number;
 use script::words::part;
 use script::words::rest;
 use script::words::stop;
+use script_says::calls::said;
 use script_says::harmed;
 
 // Which bytes of the memory are the store: the first of them, and how many.
@@ -78,26 +79,6 @@ fn line(l: &[u8], store: Region, memory: &mut [u8]) -> Region {
         }
     }
     store
-}
-
-// Comments, which are passed over, and what is written as it stands.
-fn said(c: &[u8], words: &[u8]) -> bool {
-    if same(c, b"row") {
-        say::line(b"\n", words, b"\n");
-        return true;
-    }
-    if same(c, b"01") {
-        say::line(b"  01    ", words, b"\n");
-        return true;
-    }
-    if same(c, b"02") {
-        say::line(b"  02    ", words, b"\n");
-        return true;
-    }
-    if same(c, b"#") {
-        return true;
-    }
-    c.len() == 0
 }
 
 // A call on the store, where it lies in the memory.
@@ -204,16 +185,5 @@ fn by_moves(l: &[u8], c: &[u8], store: &mut [u8]) -> bool {
     if same(c, b"over") {
         return moving::over(l, store);
     }
-    harm(l, c, store)
-}
-
-// Lines that no call makes: what a damaged disk would do to the store.
-fn harm(l: &[u8], c: &[u8], store: &mut [u8]) -> bool {
-    if same(c, b"byte") {
-        return harmed::byte(l, store);
-    }
-    if same(c, b"lose") {
-        return harmed::lose(l, store);
-    }
-    false
+    harmed::harm(l, c, store)
 }

@@ -2,34 +2,15 @@
 use crate::calls::accepted;
 use crate::calls::number_in;
 use digest::digest;
-use fields::get_u32;
-use hash::Hash;
-use hash::hash_at;
 use hash::put_hash;
-use hash::same_hash;
-use place::same;
 use script::say;
 use script::words::NONE;
 use script::words::number;
-use script::words::part;
-
-fn word(l: &[u8], n: usize) -> &[u8] {
-    part(l, n, b' ')
-}
-
-// A raw word; - is none.
-fn raw(w: &[u8]) -> &[u8] {
-    if same(w, b"-") {
-        return &w[0..0];
-    }
-    w
-}
-
-fn say_root(answer: &[u8; 40]) {
-    say::text(b"root ");
-    say::hex(hash_at(answer, 4));
-    say::text(b"\n");
-}
+use script_says::partners::put_grant;
+use script_says::partners::raw;
+use script_says::partners::say_read;
+use script_says::partners::say_root;
+use script_says::partners::word;
 
 fn publish(store: &mut [u8], version: u32, record: &[u8; 72]) {
     let before = digest(store);
@@ -38,23 +19,6 @@ fn publish(store: &mut [u8], version: u32, record: &[u8; 72]) {
     if accepted(no, before, store) {
         say_root(&answer);
     }
-}
-
-fn put_byte(record: &mut [u8], at: usize, b: u8) {
-    if record.len() <= at {
-        return;
-    }
-    record[at] = b;
-}
-
-fn put_at(record: &mut [u8], at: usize, h: Hash) {
-    if record.len() < 32 {
-        return;
-    }
-    if record.len() - 32 < at {
-        return;
-    }
-    put_hash(&mut record[at..at + 32], h);
 }
 
 // grant NUMBER KEY VALUE
@@ -67,41 +31,9 @@ pub fn grant(l: &[u8], store: &mut [u8]) -> bool {
     say::text(word(l, 3));
     say::text(b": ");
     let mut record = [0u8; 72];
-    put_byte(&mut record, 0, 72);
-    put_byte(&mut record, 4, 1);
-    put_at(&mut record, 8, digest(word(l, 2)));
-    put_at(&mut record, 40, digest(word(l, 3)));
+    put_grant(&mut record, word(l, 2), word(l, 3));
     publish(store, (version % NONE) as u32, &record);
     true
-}
-
-// Where a raw part stands.
-fn say_spot(answer: &[u8; 44], at: usize) {
-    if 36 < at {
-        return;
-    }
-    say::text(b", ");
-    say::count(get_u32(answer, at + 4) as usize);
-    say::text(b" at ");
-    say::count(get_u32(answer, at) as usize);
-}
-
-fn say_read(answer: &[u8; 44], own: &[u8], record: &[u8]) {
-    let n = get_u32(answer, 0) as usize;
-    if own.len() < n {
-        return;
-    }
-    say::choice(
-        same_hash(digest(&own[0..n]), digest(record)),
-        b"the record again",
-        b"ANOTHER RECORD",
-    );
-    say_spot(answer, 4);
-    say_spot(answer, 12);
-    say_spot(answer, 20);
-    say_spot(answer, 28);
-    say_spot(answer, 36);
-    say::text(b"\n");
 }
 
 fn read_all(message: &[u8], own: &mut [u8], record: &[u8]) {

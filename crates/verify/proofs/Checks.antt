@@ -12,7 +12,7 @@ use Rattle.meaning.specs.Reading.{present, absent}
 use Rattle.meaning.specs.Checking.{checked}
 use Rattle.nodehash.specs.Node.{leafHash, innerHash}
 use Rattle.proofrecords.specs.ProofBytes.{isPresence, presenceIn, isAbsence, absenceIn, proofIn}
-use Rattle.verify.specs.Holding.{presenceHolds, absenceProofHolds}
+use Rattle.verify_holds.specs.Holding.{presenceHolds, absenceProofHolds}
 use Rattle.verify_rules.specs.Reading.{judged, verified}
 use Rattle.verify.proofs.Judged as by-form
 

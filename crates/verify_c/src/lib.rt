@@ -5,5 +5,5 @@ ghost use Rattle.verify_rules.specs.Verify.{Verifies};
 pub fn verified_out(root: &[u8], key: &[u8], proof: &[u8], found: &mut [u8; 33]) -> u32
     ensures { λ r. ⌜ Verifies (now (root .entry)) (now (key .entry)) (now (proof .entry)) (now (found .entry)) r (now (found .exit)) ⌝ }
 {
-    verify::grants_verify(root, key, proof, found)
+    verify_call::grants_verify(root, key, proof, found)
 }

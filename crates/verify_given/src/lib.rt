@@ -11,11 +11,11 @@ use hash::hash_at;
 use proofrecords::VALUE_AT;
 use refusal_numbers::NOT_IN_FORM;
 use verify::Checked;
-use verify::absence_holds;
 use verify::held;
-use verify::presence_holds;
 use verify_form::is_absence;
 use verify_form::is_presence;
+use verify_holds::absence_holds;
+use verify_holds::presence_holds;
 
 // What a proof says of a key under a root, where it is known of its paths whether they lead there.
 pub fn verify_given(root: Hash, g: bool, h: bool, key: &[u8], proof: &[u8]) -> Checked

@@ -11,11 +11,12 @@ use borrow.Author.Tests.{eq-eqb, ne-eqb, eqb-true, leb-true, le-leb, lt-leb}
 use Rattle.terms.specs.Bits.{Bytes, Byte, All}
 use Rattle.terms.proofs.Tests.{and-left, and-right}
 use Rattle.meaning.specs.Calls.{Answer, refused, accepted}
-use Rattle.meaning.specs.Answers.{numberOf, toldOf}
+use Rattle.meaning.specs.Answers.{Exported}
+use Rattle.meaning.proofs.Told.{exported-refusal, exported-answer, exports}
 use Rattle.palette_rules.specs.Palette.{wholeKeys, keysFrom, keysIn}
 use Rattle.sha256_eight.specs.Each.{Each}
 use Rattle.verify_lanes.specs.Lanes.{LeadsAt}
-use Rattle.verify_rows.specs.Rows.{overFront, VerifiesMany}
+use Rattle.verify_rows.specs.Rows.{VerifiesMany}
 use Rattle.verify_rows.specs.Reading.{cutsInto, pieces, answersOf, manyVerified}
 use Rattle.verify_rows.proofs.Told.{told-of-row-exactly}
 use Rattle.verify_cut.specs.Row.{Plan, Planned, Known, KnownAt}
@@ -38,12 +39,12 @@ module _ (root keys proofs old : Bytes) where
   abbrev said : Answer Bytes
   said = manyVerified root keys proofs (length old)
 
-  meets : All Byte proofs → {r : ℕ} {new : Bytes} (a : Answer Bytes) → said ≡ a → r ≡ numberOf a → new ≡ toldOf (λ (b : Bytes). overFront b old) a old →
+  meets : All Byte proofs → {r : ℕ} {new : Bytes} (a : Answer Bytes) → said ≡ a → Exported a (λ b. b ++ drop (length b) old) old r new →
       VerifiesMany root keys proofs old r new
-  meets bytes a e n w = record { answers = a; told = told-of-row-exactly root keys proofs (length old) bytes a .1 (sym e); answer = n; buffer = w }
+  meets bytes a e w = exports a (told-of-row-exactly root keys proofs (length old) bytes a .1 (sym e)) w
 
   pub refuses : All Byte proofs → (k : ℕ) → said ≡ refused k → VerifiesMany root keys proofs old k old
-  refuses bytes k e = meets bytes (refused k) e refl refl
+  refuses bytes k e = meets bytes (refused k) e (exported-refusal refl)
 
   pub root-off : (length root ≡ 32 → ⊥) → said ≡ refused 12
   unfolding manyVerified
@@ -77,7 +78,7 @@ module _ (root keys proofs old : Bytes) where
             e ∙ ap (λ (x : Bytes). answersOf x (keysFrom (length keys / 32) keys) (pieces (length keys / 32) proofs) ++ drop (34 * (length keys / 32)) old) t in
             let m : length b ≡ 34 * (length keys / 32) =
             omega (arith, ap length d, length-append b (drop (34 * (length keys / 32)) old), length-drop (34 * (length keys / 32)) old) in
-            meets bytes (accepted b) (answers-all f) refl (d ∙ ap (λ (k : ℕ). b ++ drop k old) (sym m))
+            meets bytes (accepted b) (answers-all f) (exported-answer refl (d ∙ ap (λ (k : ℕ). b ++ drop k old) (sym m)))
 
 pub root-whole : (root h : Bytes) → length root ≡ 32 → h ≡ take 32 (drop 0 root) → h ≡ root
 root-whole root h l e = e ∙ take-all 32 root (omega arith)

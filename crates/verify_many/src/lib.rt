@@ -5,7 +5,7 @@ ghost use mathlib.Core.List.{_++_};
 ghost use Prim.Native.Nat.{_*_, _<_, _≤_};
 ghost use lib.ListN.{length, drop};
 ghost use Rattle.meaning.specs.Answers.{numberOf};
-ghost use Rattle.palette_rules.specs.Palette.{wholeKeys, keysFrom};
+ghost use Rattle.palette_rules.specs.Palette.{keysFrom};
 ghost use Rattle.hash.specs.Hash.{hashBytes};
 ghost use Rattle.verify_rules.specs.Reading.{verified};
 ghost use Rattle.verify.specs.Says.{says};
@@ -16,6 +16,8 @@ ghost use Rattle.verify_cut.specs.Row.{Known};
 use fields::clear;
 use hash::Hash;
 use hash::hash_at;
+use key_list::KEY_SIZE;
+use key_list::whole_keys;
 use refusal_numbers::NO_ROOM;
 use refusal_numbers::NOT_32_BYTES;
 use refusal_numbers::NOT_IN_FORM;
@@ -26,10 +28,6 @@ use verify_cut::put_refusal;
 use verify_cut::put_value;
 use verify_given::verify_given;
 use verify_lanes::lead_many;
-
-const KEY_SIZE: usize = 32;
-
-const MOST_KEYS: usize = 256;
 
 // The bytes of an answer: its number, and the 33 bytes of what is found.
 const ANSWER_SIZE: usize = 34;
@@ -93,15 +91,6 @@ fn put_answers(
         a = e;
         i += 1;
     }
-}
-
-fn whole_keys(keys: &[u8]) -> bool
-    ensures { λ r. ⌜ r ≡ wholeKeys (now (keys .entry)) ⌝ }
-{
-    if keys.len() % KEY_SIZE != 0 {
-        return false;
-    }
-    keys.len() / KEY_SIZE <= MOST_KEYS
 }
 
 // The check of many proofs for callers in other languages: 0 where it is accepted, with 34 bytes for each key at the front of `answers`; else

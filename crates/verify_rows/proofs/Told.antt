@@ -14,7 +14,7 @@ use Rattle.terms.specs.Records.{Proof, zeros}
 use Rattle.terms.proofs.Tests.{and-left, and-right}
 use Rattle.meaning.specs.Calls.{Answer, refused, accepted}
 use Rattle.meaning.specs.Reading.{Verdict}
-use Rattle.meaning.specs.Answers.{foundAfter}
+use Rattle.meaning.specs.Answers.{toldOf, foundBytes}
 use Rattle.checker.specs.Holding.{Holds, shown, only-left, only-right, both}
 use Rattle.palette_rules.specs.Palette.{keySize, wholeKeys, keysIn}
 use Rattle.palette_rules.proofs.Keys.{keys-many}
@@ -55,14 +55,14 @@ one-answers root _ _ _ _ (next {k} {x} {b} {a} {keys} {xs} t r) (next {b = c} {a
     ap₂ _++_ (ap answerBytes (one-verdict root k x a d t u)) (one-answers root keys xs b c r s)
 
 -- Each answer is 34 bytes, for a value that is shown has 32.
-value-long : (root k : Bytes) (p : Proof) (v : Verdict) → ProofForm p → Holds leafHash innerHash root k p v → length (foundAfter (accepted v) (zeroBytes 33)) ≡ 33
+value-long : (root k : Bytes) (p : Proof) (v : Verdict) → ProofForm p → Holds leafHash innerHash root k p v → length (toldOf foundBytes (accepted v) (zeroBytes 33)) ≡ 33
 unfolding zeros
 value-long root k _ _ f (shown e h) = ap suc (f .value32 .0)
 value-long root k _ _ f (only-left e h o) = refl
 value-long root k _ _ f (only-right e h o) = refl
 value-long root k _ _ f (both e h g o) = refl
 
-found-long : (root k x : Bytes) (a : Answer Verdict) → Told Judged root k x a → length (foundAfter a (zeroBytes 33)) ≡ 33
+found-long : (root k x : Bytes) (a : Answer Verdict) → Told Judged root k x a → length (toldOf foundBytes a (zeroBytes 33)) ≡ 33
 unfolding zeroBytes
 found-long root k x _ (not-32-bytes n) = refl
 found-long root k x _ (not-in-form s n) = refl

@@ -1,6 +1,5 @@
 -- Many proofs checked in one call, beyond document 02: a row of pieces, one for each key of a list, and the answers of
--- single checks in their order. Order: 12, 10, 9. Whether a piece is a proof in form is its own number. Assumes
--- nothing.
+-- single checks in their order. Whether a piece is a proof in form is its own number. Assumes nothing.
 use Prim.Native.Nat.{ℕ, _*_, _≤_, _<_}
 use mathlib.Core.Path.{_≡_}
 use mathlib.Core.Bool.{true}
@@ -10,7 +9,7 @@ use Rattle.terms.specs.Bits.{Bytes, All}
 use Rattle.terms.specs.Fields.{field, flat, zeroBytes}
 use Rattle.meaning.specs.Calls.{Answer, refused, accepted}
 use Rattle.meaning.specs.Reading.{Verdict}
-use Rattle.meaning.specs.Answers.{numberOf, foundAfter, toldOf}
+use Rattle.meaning.specs.Answers.{numberOf, toldOf, foundBytes, Exports}
 use Rattle.palette_rules.specs.Palette.{wholeKeys, keysIn}
 use Rattle.verify_rules.specs.Verify.{Judged, Told}
 
@@ -29,7 +28,7 @@ answerSize = 34
 
 -- The answer of a single check in 34 bytes: its number, then what it leaves in 33 bytes of zeros.
 unfoldable pub answerBytes : Answer Verdict → Bytes
-answerBytes a = numberOf a ∷ foundAfter a (zeroBytes 33)
+answerBytes a = numberOf a ∷ toldOf foundBytes a (zeroBytes 33)
 
 -- The answers of single checks for keys and pieces, in their order.
 pub data Answers (root : Bytes) : List Bytes → List Bytes → Bytes → Type 0 where
@@ -53,13 +52,7 @@ pub data ToldOfRow (root list row : Bytes) (room : ℕ) : Answer Bytes → Type 
       answerSize * length (keysIn list) ≤ room → Answers root (keysIn list) xs b →
       ToldOfRow root list row room (accepted b)
 
--- The answers at the front of the buffer; what is behind them stays.
-abbrev pub overFront : Bytes → Bytes → Bytes
-overFront b old = b ++ drop (length b) old
-
--- Checking many proofs answers r; the buffer is left as new. A refused call writes nothing.
-pub record VerifiesMany (root list row old : Bytes) (r : ℕ) (new : Bytes) : Type 0 where
-  pub answers : Answer Bytes
-  pub told : ToldOfRow root list row (length old) answers
-  pub answer : r ≡ numberOf answers
-  pub buffer : new ≡ toldOf (λ (b : Bytes). overFront b old) answers old
+-- Checking many proofs answers r; the buffer is left as new: the answers at its front, and what is behind them stays.
+abbrev pub VerifiesMany : Bytes → Bytes → Bytes → Bytes → ℕ → Bytes → Type 0
+VerifiesMany root list row old r new =
+    Exports (ToldOfRow root list row (length old)) (λ (b : Bytes). b ++ drop (length b) old) old r new

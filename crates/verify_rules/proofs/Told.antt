@@ -15,16 +15,21 @@ use Rattle.terms.proofs.Tests.{and-left, and-right}
 use Rattle.meaning.specs.Calls.{Answer, refused, accepted}
 use Rattle.meaning.specs.Reading.{Verdict}
 use Rattle.meaning.specs.Checking.{checked}
-use Rattle.meaning.specs.Answers.{numberOf, foundAfter}
+use Rattle.meaning.specs.Answers.{foundBytes, Exported}
+use Rattle.meaning.proofs.Told.{exports}
 use Rattle.checker.proofs.Theorems.{accepted-exactly-if-holds, refused-with-11}
 use Rattle.nodehash.specs.Node.{leafHash, innerHash}
 use Rattle.proofrecords.specs.ProofBytes.{proofIn}
 use Rattle.proofrecords.proofs.Proofs.{proof-is, no-proof-is, one-proof-is}
 use Rattle.pocket.specs.Pocket.{small}
-use Rattle.pocket.proofs.Theorems.{inside-they-agree, outside-is-refused, inside-shows-short, outside-shows-long}
-use Rattle.verify_rules.specs.Verify.{Judged, holding, not-holding, Sizes32, Judgement, Told, not-32-bytes, not-in-form, in-form, Verifies}
+use Rattle.pocket.proofs.Theorems.{inside-they-agree, outside-is-refused, not-both-sides}
+use Rattle.verify_rules.specs.Verify.{Judged, holding, not-holding, Sizes32, Told, not-32-bytes, not-in-form, in-form, Verifies}
 use Rattle.verify_rules.specs.Pocket.{PocketJudged, outside, inside, PocketVerifies}
 use Rattle.verify_rules.specs.Reading.{judged, verified, pocketJudged, pocketVerified}
+
+-- What is said of a proof for a key against a root.
+abbrev Judgement : Type 1
+Judgement = Bytes → Bytes → Proof → Answer Verdict → Type 0
 
 -- One answer alone is told of any bytes, if one alone is said of any proof.
 one-told : (said : Judgement) (root k x : Bytes) →
@@ -84,20 +89,20 @@ module _ (root k : Bytes) (p : Proof) where
       go : (b : Bool) → small p ≡ b → PocketJudged root k p (pocketJudged root k (some p))
       go true e =
           subst (PocketJudged root k p) (sym (inside-they-agree leafHash innerHash root k p e))
-          (inside (inside-shows-short p e) (judged-so (checked leafHash innerHash root k p) refl))
-      go false e = subst (PocketJudged root k p) (sym (outside-is-refused leafHash innerHash root k p e)) (outside (outside-shows-long p e))
+          (inside (not-both-sides p e) (judged-so (checked leafHash innerHash root k p) refl))
+      go false e = subst (PocketJudged root k p) (sym (outside-is-refused leafHash innerHash root k p e)) (outside e)
 
   so-pocket-judged : (a : Answer Verdict) → PocketJudged root k p a → a ≡ pocketJudged root k (some p)
   so-pocket-judged _ (outside o) = go (small p) refl
     where
       go : (b : Bool) → small p ≡ b → refused 19 ≡ pocketJudged root k (some p)
-      go true e = absurd (inside-shows-short p e o)
+      go true e = absurd (not-both-sides p e o)
       go false e = sym (outside-is-refused leafHash innerHash root k p e)
   so-pocket-judged a (inside n h) = go (small p) refl
     where
       go : (b : Bool) → small p ≡ b → a ≡ pocketJudged root k (some p)
       go true e = so-judged a h ∙ sym (inside-they-agree leafHash innerHash root k p e)
-      go false e = absurd (n (outside-shows-long p e))
+      go false e = absurd (n e)
 
 module _ (root k x : Bytes) where
   -- One answer alone is told by the full check, and it is what is read;
@@ -130,10 +135,8 @@ module _ (root k x : Bytes) where
   )
 
 -- So a call that answers what is read meets its contract.
-pub verifies : {root k x f g : Bytes} {r : ℕ} → All Byte x → r ≡ numberOf (verified root k x) → g ≡ foundAfter (verified root k x) f → Verifies root k x f r g
-verifies {root} {k} {x} bytes e d = record { verdict = verified root k x; told = verified-told root k x bytes; answer = e; found = d }
+pub verifies : {root k x f g : Bytes} {r : ℕ} → All Byte x → Exported (verified root k x) foundBytes f r g → Verifies root k x f r g
+verifies {root} {k} {x} bytes e = exports (verified root k x) (verified-told root k x bytes) e
 
-pub pocket-verifies : {root k x f g : Bytes} {r : ℕ} → All Byte x → r ≡ numberOf (pocketVerified root k x) → g ≡ foundAfter (pocketVerified root k x) f →
-    PocketVerifies root k x f r g
-pocket-verifies {root} {k} {x} bytes e d =
-    record { verdict = pocketVerified root k x; told = pocket-told root k x bytes; answer = e; found = d }
+pub pocket-verifies : {root k x f g : Bytes} {r : ℕ} → All Byte x → Exported (pocketVerified root k x) foundBytes f r g → PocketVerifies root k x f r g
+pocket-verifies {root} {k} {x} bytes e = exports (pocketVerified root k x) (pocket-told root k x bytes) e

@@ -1,11 +1,10 @@
 -- Document 02, request 2026-14: what the pocket checker answers to any bytes. Order: 12, 10, 19, 11. Assumes nothing.
 use Prim.Native.Nat.{ℕ}
-use mathlib.Core.Path.{_≡_}
 use Rattle.terms.specs.Bits.{Bytes}
 use Rattle.terms.specs.Records.{Proof}
 use Rattle.meaning.specs.Calls.{Answer, refused}
 use Rattle.meaning.specs.Reading.{Verdict}
-use Rattle.meaning.specs.Answers.{numberOf, foundAfter}
+use Rattle.meaning.specs.Answers.{foundBytes, Exports}
 use Rattle.pocket.specs.Pocket.{Outside}
 use Rattle.verify_rules.specs.Verify.{Judged, Told}
 
@@ -16,8 +15,5 @@ pub data PocketJudged (root k : Bytes) (p : Proof) : Answer Verdict → Type 0 w
 
 -- Checking the bytes x as a proof of the profile for the key k against a root answers r; the array f for what is found
 -- is left as g.
-pub record PocketVerifies (root k x f : Bytes) (r : ℕ) (g : Bytes) : Type 0 where
-  pub verdict : Answer Verdict
-  pub told : Told PocketJudged root k x verdict
-  pub answer : r ≡ numberOf verdict
-  pub found : g ≡ foundAfter verdict f
+abbrev pub PocketVerifies : Bytes → Bytes → Bytes → Bytes → ℕ → Bytes → Type 0
+PocketVerifies root k x f r g = Exports (Told PocketJudged root k x) foundBytes f r g

@@ -1,5 +1,4 @@
--- Document 01, 'Checking', with the numbers of refusal 10, 11 and 12: what the proof check answers to any bytes.
--- Assumes nothing.
+-- Document 01, 'Checking', with the refusals 10, 11 and 12: the proof check, over any bytes. Assumes nothing.
 use Prim.Native.Nat.{ℕ}
 use mathlib.Core.Path.{_≡_}
 use lib.ListN.{length}
@@ -7,7 +6,7 @@ use Rattle.terms.specs.Bits.{Bytes}
 use Rattle.terms.specs.Records.{Proof}
 use Rattle.meaning.specs.Calls.{Answer, refused, accepted}
 use Rattle.meaning.specs.Reading.{Verdict}
-use Rattle.meaning.specs.Answers.{numberOf, foundAfter}
+use Rattle.meaning.specs.Answers.{foundBytes, Exports}
 use Rattle.checker.specs.Holding.{Holds}
 use Rattle.nodehash.specs.Node.{leafHash, innerHash}
 use Rattle.proofrecords.specs.ProofBytes.{ProofIs}
@@ -21,20 +20,14 @@ pub data Judged (root k : Bytes) (p : Proof) : Answer Verdict → Type 0 where
 abbrev pub Sizes32 : Bytes → Bytes → Type 0
 Sizes32 root k = (length root ≡ 32) × (length k ≡ 32)
 
--- What is said of a proof for a key against a root.
-abbrev pub Judgement : Type 1
-Judgement = Bytes → Bytes → Proof → Answer Verdict → Type 0
-
 -- What is said of the bytes x, given what is said of a proof: 12 if the root or the key isn't 32 bytes, 10 if x is no
 -- proof in form, else what is said of the proof that x is.
-pub data Told (judged : Judgement) (root k x : Bytes) : Answer Verdict → Type 0 where
+pub data Told (judged : Bytes → Bytes → Proof → Answer Verdict → Type 0) (root k x : Bytes) : Answer Verdict →
+    Type 0 where
   not-32-bytes : (Sizes32 root k → ⊥) → Told judged root k x (refused 12)
   not-in-form : Sizes32 root k → ((p : Proof) → ProofIs x p → ⊥) → Told judged root k x (refused 10)
   in-form : {p : Proof} {a : Answer Verdict} → Sizes32 root k → ProofIs x p → judged root k p a → Told judged root k x a
 
 -- Checking the bytes x as a proof of the key k against a root answers r; the array f for what is found is left as g.
-pub record Verifies (root k x f : Bytes) (r : ℕ) (g : Bytes) : Type 0 where
-  pub verdict : Answer Verdict
-  pub told : Told Judged root k x verdict
-  pub answer : r ≡ numberOf verdict
-  pub found : g ≡ foundAfter verdict f
+abbrev pub Verifies : Bytes → Bytes → Bytes → Bytes → ℕ → Bytes → Type 0
+Verifies root k x f r g = Exports (Told Judged root k x) foundBytes f r g

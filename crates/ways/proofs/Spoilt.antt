@@ -7,19 +7,20 @@ use mathlib.Core.Logic.{_↔_, _⊎_, inl, inr}
 use mathlib.Core.Bool.{Bool, true, false, _&&_, not, true≢false, false≢true}
 use mathlib.Core.List.{[], _∷_}
 use mathlib.Core.Option.{Option, none, some}
-use lib.ListN.{length, getD}
+use lib.ListN.{length}
 use lib.Dec.{eqb, leb}
 use borrow.Author.Tests.{eqb-true, eq-eqb, leb-true, leb-false, le-leb, lt-leb}
 use Rattle.terms.specs.Bits.{Bytes, All, Place, pack, sameBytes}
 use Rattle.terms.specs.Fields.{allZero, allOf}
 use Rattle.terms.specs.Heads.{countIn, bitsIn, versionIn, sinceIn}
-use Rattle.terms.specs.Records.{Record, free, spoiled, Store}
-use Rattle.terms.proofs.Tests.{and-left, and-right, is-false, same-bytes, bytes-same}
+use Rattle.terms.specs.Records.{Record, Store}
+use Rattle.terms.proofs.Tests.{and-left, and-right, same-bytes, bytes-same}
 use Rattle.terms.proofs.Fields.{all-of-tests}
 use Rattle.meaning.specs.Store.{find, rootOf}
 use Rattle.meaning.specs.Sight.{Sight, matches, nothing, spoilt, agrees, livesBy, agreesRoot, lowestSpoilt, sighted, rootSight, nodeSight}
 use Rattle.meaning.proofs.Sights.{Spoilt, none-spoilt, spoilt-in, spoilt-is}
-use Rattle.ways.specs.Ways.{Agrees, AgreesRoot, SpoiltIn, NoneSpoilt, NoMatch, NoRoot}
+use Rattle.meaning.specs.Reading.{spoiltRecord}
+use Rattle.ways.specs.Ways.{Agrees, AgreesRoot, SpoiltIn, Stop, stoppedBy, missing, Met, stop, found, Meets, first, second, third, AtRoot}
 
 agrees-by : (v : ℕ) (p : Place) (x : Bytes) → (agrees v p x ≡ true) ↔ Agrees v p x
 unfolding agrees allOf
@@ -27,15 +28,14 @@ agrees-by v p x = (there, back)
   where
     there : allOf (eqb (versionIn x) v ∷ eqb (countIn x) (length p) ∷ sameBytes (bitsIn x) (pack 32 p) ∷ []) ≡ true → Agrees v p x
     there e =
-        let w = all-of-tests (eqb (versionIn x) v ∷ eqb (countIn x) (length p) ∷ sameBytes (bitsIn x) (pack 32 p) ∷ []) e in
-        record {
-          version = eqb-true (versionIn x) v (w .0);
-          count = eqb-true (countIn x) (length p) (w .1 .0);
-          bits = same-bytes (bitsIn x) (pack 32 p) (w .1 .1 .0);
-        }
+        let w = all-of-tests (eqb (versionIn x) v ∷ eqb (countIn x) (length p) ∷ sameBytes (bitsIn x) (pack 32 p) ∷ []) e in (
+          eqb-true (versionIn x) v (w .0),
+          eqb-true (countIn x) (length p) (w .1 .0),
+          same-bytes (bitsIn x) (pack 32 p) (w .1 .1 .0),
+        )
 
     back : Agrees v p x → allOf (eqb (versionIn x) v ∷ eqb (countIn x) (length p) ∷ sameBytes (bitsIn x) (pack 32 p) ∷ []) ≡ true
-    back w = rw (eq-eqb (versionIn x) v (w .version), eq-eqb (countIn x) (length p) (w .count), w .bits, bytes-same (pack 32 p))
+    back w = rw (eq-eqb (versionIn x) v (w .0), eq-eqb (countIn x) (length p) (w .1), w .2, bytes-same (pack 32 p))
 
 -- zero bytes
 zero-bytes : (y : Bytes) → (allZero y ≡ true) ↔ All (λ b. b ≡ 0) y
@@ -80,10 +80,10 @@ agrees-root-by v x = (there, back)
     there e =
         let w = all-of-tests (eqb (countIn x) 0 ∷ allZero (bitsIn x) ∷ livesBy v x ∷ []) e in
         let l = lives-by v x .0 (w .1 .1 .0) in
-        record { count = eqb-true (countIn x) 0 (w .0); bits = zero-bytes (bitsIn x) .0 (w .1 .0); version = l .0; since = l .1 }
+        (eqb-true (countIn x) 0 (w .0), zero-bytes (bitsIn x) .0 (w .1 .0), l .0, l .1)
 
     back : AgreesRoot v x → allOf (eqb (countIn x) 0 ∷ allZero (bitsIn x) ∷ livesBy v x ∷ []) ≡ true
-    back w = rw (eq-eqb (countIn x) 0 (w .count), zero-bytes (bitsIn x) .1 (w .bits), lives-by v x .1 (w .version, w .since))
+    back w = rw (eq-eqb (countIn x) 0 (w .0), zero-bytes (bitsIn x) .1 (w .1), lives-by v x .1 (w .2, w .3))
 
 -- the lowest spoilt slot that passes a test, where the test holds exactly if the bytes agree
 module _ (st : Store) (test : Bytes → Bool) (agree : Bytes → Type 0) (by : (x : Bytes) → (test x ≡ true) ↔ agree x) where
@@ -100,37 +100,29 @@ module _ (st : Store) (test : Bytes → Bool) (agree : Bytes → Type 0) (by : (
           subst (SpoiltIn st agree) same
           (record { bytes = x; inside = l; here = h; agrees = by x .0 t; lowest = λ k y m g a. true≢false (sym (by y .1 a) ∙ low k y m g) })
 
-  pub none-named : named ≡ none → NoneSpoilt st agree
+  pub none-named : named ≡ none → (i : ℕ) → SpoiltIn st agree i → ⊥
   none-named e i w = go named e (spoilt-is test 0 (st .slots))
     where
       go : (o : Option ℕ) → o ≡ none → Spoilt test 0 (st .slots) o → ⊥
       go none f (none-spoilt h) = true≢false (sym (by (w .bytes) .1 (w .agrees)) ∙ h i (w .bytes) (w .inside) (w .here))
       go (some n) f s = let z : _≡_ {A = ℕ} 0 1 = cc in omega arith
 
--- what is sighted, in words
-pub data Kind (st : Store) (o : Option Record) (agree : Bytes → Type 0) : Sight → Type 0 where
-  first : (r : Record) → o ≡ some r → Kind st o agree (matches r)
-  second : o ≡ none → NoneSpoilt st agree → Kind st o agree nothing
-  third : (i : ℕ) → o ≡ none → SpoiltIn st agree i → Kind st o agree (spoilt i)
+-- what a sight meets, where one that sees nothing ends the way so
+abbrev pub metBy : Stop → Sight → Met
+metBy end (matches r) = found r
+metBy end nothing = stop end
+metBy end (spoilt i) = stop (stoppedBy (spoiltRecord i))
 
-kind-of : (st : Store) (test : Bytes → Bool) (agree : Bytes → Type 0) → ((x : Bytes) → (test x ≡ true) ↔ agree x) → (o : Option Record) →
-    Kind st o agree (sighted o (lowestSpoilt test 0 (st .slots)))
-kind-of st test agree by (some r) = first r refl
-kind-of st test agree by none = go (lowestSpoilt test 0 (st .slots)) refl
+meets-of : (st : Store) (test : Bytes → Bool) (agree : Bytes → Type 0) → ((x : Bytes) → (test x ≡ true) ↔ agree x) → (o : Option Record) (end : Stop) →
+    Meets st o agree end (metBy end (sighted o (lowestSpoilt test 0 (st .slots))))
+meets-of st test agree by (some r) end = first refl
+meets-of st test agree by none end = go (lowestSpoilt test 0 (st .slots)) refl
   where
-    go : (n : Option ℕ) → lowestSpoilt test 0 (st .slots) ≡ n → Kind st none agree (sighted none n)
+    go : (n : Option ℕ) → lowestSpoilt test 0 (st .slots) ≡ n → Meets st none agree end (metBy end (sighted none n))
     go none e = second refl (none-named st test agree by e)
-    go (some i) e = third i refl (named-in st test agree by i e)
+    go (some i) e = third refl (named-in st test agree by i e)
 
-pub node-kind : (st : Store) (v : ℕ) (p : Place) → Kind st (find v p (st .slots)) (Agrees v p) (nodeSight st v p)
-unfolding nodeSight
-node-kind st v p = kind-of st (agrees v p) (Agrees v p) (agrees-by v p) (find v p (st .slots))
-
-pub root-kind : (st : Store) (v : ℕ) → Kind st (rootOf st v) (AgreesRoot v) (rootSight st v)
-unfolding rootSight
-root-kind st v = kind-of st (agreesRoot v) (AgreesRoot v) (agrees-root-by v) (rootOf st v)
-
--- and by the words, which exclude each other
+-- what is met excludes all else
 same-slot : (st : Store) (agree : Bytes → Type 0) (i j : ℕ) → SpoiltIn st agree i → SpoiltIn st agree j → i ≡ j
 same-slot st agree i j a b = go (leb i j) (leb j i) refl refl
   where
@@ -139,13 +131,32 @@ same-slot st agree i j a b = go (leb i j) (leb j i) refl refl
     go true false e f = absurd (b .lowest i (a .bytes) (leb-false j i f) (a .here) (a .agrees))
     go true true e f = let x = leb-true i j e in let y = leb-true j i f in omega arith
 
-module _ (st : Store) (o : Option Record) (agree : Bytes → Type 0) where
-  pub second-is : {x : Sight} → Kind st o agree x → o ≡ none → NoneSpoilt st agree → x ≡ nothing
-  second-is (first r e) n h = let f = sym n ∙ e in let z : _≡_ {A = ℕ} 0 1 = cc in absurd (omega arith)
-  second-is (second e w) n h = refl
-  second-is (third i e w) n h = absurd (h i w)
+clash : {A : Type 0} {o : Option Record} {r : Record} → o ≡ some r → o ≡ none → A
+clash e f = let g = sym e ∙ f in let z : _≡_ {A = ℕ} 0 1 = cc in absurd (omega arith)
 
-  pub third-is : {x : Sight} → Kind st o agree x → (i : ℕ) → o ≡ none → SpoiltIn st agree i → x ≡ spoilt i
-  third-is (first r e) i n h = let f = sym n ∙ e in let z : _≡_ {A = ℕ} 0 1 = cc in absurd (omega arith)
-  third-is (second e w) i n h = absurd (w i h)
-  third-is (third j e w) i n h = ap spoilt (same-slot st agree j i w h)
+one-met : (st : Store) (o : Option Record) (agree : Bytes → Type 0) (end : Stop) (m n : Met) → Meets st o agree end m → Meets st o agree end n → m ≡ n
+one-met st o agree end m n (first {r = r} e) (first {r = q} f) = let g = sym e ∙ f in let same : r ≡ q = cc in ap found same
+one-met st o agree end m n (first e) (second f w) = clash e f
+one-met st o agree end m n (first e) (third f w) = clash e f
+one-met st o agree end m n (second e w) (first f) = clash f e
+one-met st o agree end m n (second e w) (second f u) = refl
+one-met st o agree end m n (second e w) (third {i = i} f u) = absurd (w i u)
+one-met st o agree end m n (third e w) (first f) = clash f e
+one-met st o agree end m n (third {i = i} e w) (second f u) = absurd (u i w)
+one-met st o agree end m n (third {i = i} e w) (third {i = j} f u) = ap (λ k. stop (stoppedBy (spoiltRecord k))) (same-slot st agree i j w u)
+
+-- of a node, and of a root
+module _ (st : Store) (v : ℕ) (end : Stop) where
+  pub node-meets : (p : Place) → Meets st (find v p (st .slots)) (Agrees v p) end (metBy end (nodeSight st v p))
+  unfolding nodeSight
+  node-meets p = meets-of st (agrees v p) (Agrees v p) (agrees-by v p) (find v p (st .slots)) end
+
+  pub node-met : (p : Place) (m : Met) → Meets st (find v p (st .slots)) (Agrees v p) end m → metBy end (nodeSight st v p) ≡ m
+  node-met p m w = one-met st (find v p (st .slots)) (Agrees v p) end (metBy end (nodeSight st v p)) m (node-meets p) w
+
+pub root-meets : (st : Store) (v : ℕ) → AtRoot st v (metBy missing (rootSight st v))
+unfolding rootSight
+root-meets st v = meets-of st (agreesRoot v) (AgreesRoot v) (agrees-root-by v) (rootOf st v) missing
+
+pub root-met : (st : Store) (v : ℕ) (m : Met) → AtRoot st v m → metBy missing (rootSight st v) ≡ m
+root-met st v m w = one-met st (rootOf st v) (AgreesRoot v) missing (metBy missing (rootSight st v)) m (root-meets st v) w

@@ -1,130 +1,153 @@
 -- Every way ends, and what a read sees there is what the way says. By the bits that a place is short of a key; records in form keep inner
 -- nodes above the places of whole keys. Assumes nothing.
-use Prim.Native.Nat.{ℕ, zero, suc, _+_, _-_, _<_, _≤_}
+use Prim.Native.Nat.{ℕ, zero, suc, _+_, _-_, _≤_}
 use native.Mathlib.Omega.{arith}
-use mathlib.Core.Path.{_≡_, refl, ap, sym, _∙_}
+use mathlib.Core.Path.{_≡_, refl, ap, sym, _∙_, subst}
 use mathlib.Core.Bool.{Bool, true, false, cond}
-use mathlib.Core.List.{List, _∷_, map}
-use mathlib.Core.Option.{some}
+use mathlib.Core.List.{List, [], _∷_, map}
 use lib.ListN.{length}
 use lib.Dec.{eqb}
 use borrow.Author.Tests.{eq-eqb, ne-eqb, eqb-true, eqb-false}
-use Rattle.terms.specs.Bits.{Bytes, Place, longer, bit, begins}
+use Rattle.terms.specs.Bits.{Bytes, Side, Place, longer, bit, begins}
 use Rattle.terms.specs.Records.{Child, Body, leafBody, innerBody, Record, Store}
-use Rattle.terms.specs.Form.{RecordForm}
+use Rattle.terms.specs.Form.{RecordForm, placeLimit}
 use Rattle.terms.proofs.Places.{length-longer}
-use Rattle.meaning.specs.Store.{find, childOn}
-use Rattle.meaning.specs.Sound.{At, Found}
-use Rattle.meaning.specs.Reading.{gap, leafSeen, fork, seenAt, seen, Pass, End, broken, atLeaf, atGap, walk}
-use Rattle.meaning.specs.Sight.{Sight, nothing, spoilt, nodeSight, scan}
-use Rattle.meaning.specs.Reading.{lostRecord, spoiltRecord, strayLeaf}
+use Rattle.meaning.specs.Store.{childOn}
+use Rattle.meaning.specs.Sound.{At}
+use Rattle.meaning.specs.Reading.{Seen, gap, leafSeen, seenBody, seenChild, seenRoot, seenAt, seen, Pass, End, walkStopped, atLeaf, atGap, walk}
+use Rattle.meaning.specs.Sight.{Sight, matches, nothing, spoilt, nodeSight, rootSight, scan}
+use Rattle.meaning.specs.Reading.{lostRecord, strayLeaf}
 use Rattle.meaning.specs.Reading as reading
 use Rattle.meaning.proofs.Finding.{found-at}
-use Rattle.meaning.proofs.Sights.{node-sighted}
-use Rattle.ways.specs.Ways as ways
-use Rattle.ways.proofs.Spoilt.{Kind, first, second, third, node-kind, second-is, third-is}
-use Rattle.ways.specs.Ways.{Present, Agrees, SpoiltIn, NoneSpoilt, NoMatch, Rule, byKey, Inner, inner, Stop, lost, leaf, missing, Way, no-child, not-found, misplaced, at-leaf, onward}
+use Rattle.ways.proofs.Spoilt.{metBy, node-meets, node-met, root-met}
+use Rattle.ways.specs.Ways.{byKey, Inner, Stop, stoppedBy, leaf, missing, Met, stop, found, first, second, third, AtRoot, AtChild, no-child, child, Way, ended, misplaced, at-leaf, onward}
 
 -- records are in form, as those of every store read from bytes are
 abbrev pub Formed : Store → Type 0
 Formed st = (i : ℕ) (r : Record) → At st i r → RecordForm r
 
+-- which way to go below an inner record
+abbrev pub Rule : Type 0
+Rule = Place → Child → Child → Side
+
+-- a child is present
+abbrev pub Present : Child → Type 0
+Present c = c .version ≡ 0 → ⊥
+
+abbrev pub inner : Place → Child → Child → Inner
+inner p l r = record { place = p; left = l; right = r }
+
+clash : {A : Type 0} → _≡_ {A = ℕ} 0 1 → A
+clash e = absurd (omega arith)
+
+-- what is met at a place can stand there
+abbrev pub Above : Place → Met → Type 0
+Above p (stop x) = Unit {0}
+Above p (found r) = length p ≤ placeLimit (r .body)
+
+pub inner-short : (p : Place) (r : Record) (l m : Child) → r .body ≡ innerBody l m → length p ≤ placeLimit (r .body) → length p ≤ 255
+inner-short p r l m e h = subst (λ b. length p ≤ placeLimit b) e h
+
+pub root-above : (m : Met) → Above [] m
+root-above (stop x) = tt
+root-above (found r) = omega arith
+
 module _ (st : Store) (formed : Formed st) where
-  -- so is what is found
-  found-form : (v : ℕ) (p : Place) (r : Record) → find v p (st .slots) ≡ some r → RecordForm r × (r .place ≡ p)
-  found-form v p r e = let (i, a, w, q) = found-at st v p r e in (formed i r a, q)
+  -- so is what is met at a child
+  pub child-form : (p : Place) (c : Child) (m : Met) (r : Record) → AtChild st p c m → m ≡ found r → RecordForm r × (r .place ≡ p)
+  child-form p c m r (no-child e) q = clash (cc)
+  child-form p c m r (child h (first {r = s} e)) q =
+      let same : s ≡ r = cc in
+      let (i, a, w, f) = found-at st (c .version) p s e in
+      subst (λ x. RecordForm x × (x .place ≡ p)) same (formed i s a, f)
+  child-form p c m r (child h (second e w)) q = clash (cc)
+  child-form p c m r (child h (third e w)) q = clash (cc)
 
-  -- an inner record's place is shorter than a key, and it has a child
-  pub inner-short : (v : ℕ) (p : Place) (l r : Child) → Found st v p (innerBody l r) → length p < 256
-  unfolding Found
-  inner-short v p l r f =
-      let w = found-form v p (f .0) (f .1) in
-      let h : length (f .0 .place) ≤ 255 = rw (f .2) at (w .0 .short) in omega (arith, ap length (w .1))
+  pub child-above : (p : Place) (c : Child) (m : Met) → AtChild st p c m → Above p m
+  child-above p c (stop x) w = tt
+  child-above p c (found r) w = let f = child-form p c (found r) r w refl in subst (λ q. length q ≤ placeLimit (r .body)) (f .1) (f .0 .short)
 
-  pub inner-child : (v : ℕ) (p : Place) (l r : Child) → Found st v p (innerBody l r) → l .version ≡ 0 → r .version ≡ 0 → ⊥
-  unfolding Found
-  inner-child v p l r f = let h = found-form v p (f .0) (f .1) .0 .body in (rw (f .2) at h) .2
+  -- no child is missing that is present
+  pub not-missing : (p : Place) (c : Child) (m : Met) → AtChild st p c m → Present c → m ≡ stop missing → ⊥
+  not-missing p c m (no-child e) h q = h e
+  not-missing p c m (child h (first e)) g q = clash (cc)
+  not-missing p c m (child h (second e w)) g q = clash (cc)
+  not-missing p c m (child h (third e w)) g q = clash (cc)
 
-  -- what stands at a child
-  pub data View (p : Place) (c : Child) : Type 0 where
-    gone : c .version ≡ 0 → View p c
-    none-found : Present c → NoMatch st (c .version) p → NoneSpoilt st (Agrees (c .version) p) → View p c
-    spoilt-found : (i : ℕ) → Present c → NoMatch st (c .version) p → SpoiltIn st (Agrees (c .version) p) i → View p c
-    leaf-found : (k x : Bytes) → Present c → Found st (c .version) p (leafBody k x) → View p c
-    inner-found : (l r : Child) → Present c → Found st (c .version) p (innerBody l r) → View p c
+  pub missing-met : (p : Place) (c : Child) (m : Met) → AtChild st p c m → c .version ≡ 0 → m ≡ stop missing
+  missing-met p c m (no-child e) z = refl
+  missing-met p c m (child h w) z = absurd (h z)
 
-  pub view : (p : Place) (c : Child) → View p c
-  unfolding Found
-  view p c = go (eqb (c .version) 0) refl (node-kind st (c .version) p)
+  -- something is met at every child
+  pub at-child : (p : Place) (c : Child) → (m : Met) × AtChild st p c m
+  at-child p c = go (eqb (c .version) 0) refl
     where
-      found : Present c → (r : Record) (b : Body) → r .body ≡ b → find (c .version) p (st .slots) ≡ some r → View p c
-      found h r (leafBody k x) f e = leaf-found k x h (r, e, f)
-      found h r (innerBody a b) f e = inner-found a b h (r, e, f)
+      go : (b : Bool) → eqb (c .version) 0 ≡ b → (m : Met) × AtChild st p c m
+      go true e = (stop missing, no-child (eqb-true (c .version) 0 e))
+      go false e = (metBy (stoppedBy lostRecord) (nodeSight st (c .version) p), child (eqb-false (c .version) 0 e) (node-meets st (c .version) (stoppedBy lostRecord) p))
 
-      go : (b : Bool) → eqb (c .version) 0 ≡ b → {x : Sight} → Kind st (find (c .version) p (st .slots)) (Agrees (c .version) p) x → View p c
-      go true h k = gone (eqb-true (c .version) 0 h)
-      go false h (first r e) = found (eqb-false (c .version) 0 h) r (r .body) refl e
-      go false h (second e w) = none-found (eqb-false (c .version) 0 h) e w
-      go false h (third i e w) = spoilt-found i (eqb-false (c .version) 0 h) e w
+  -- what is seen of what is met, n bits short of a key
+  abbrev kidsAt : ℕ → Place → Side → Child → Seen
+  kidsAt zero p = λ b d. reading.stoppedBy lostRecord
+  kidsAt (suc n) p = λ b d. seenAt n (scan st) (longer b p) d
 
-  -- what is seen there
-  pub seen-gap : (n : ℕ) (p : Place) (c : Child) → c .version ≡ 0 → seenAt n (scan st) p c ≡ gap
-  seen-gap zero p c e = rw (eq-eqb (c .version) 0 e)
-  seen-gap (suc n) p c e = rw (eq-eqb (c .version) 0 e)
+  abbrev pub seenMet : ℕ → Place → Met → Seen
+  seenMet n p (stop (stoppedBy t)) = reading.stoppedBy t
+  seenMet n p (stop (leaf k x)) = leafSeen k x
+  seenMet n p (stop missing) = gap
+  seenMet n p (found r) = seenBody p (r .body) (kidsAt n p)
 
-  pub seen-lost : (n : ℕ) (p : Place) (c : Child) → Present c → NoMatch st (c .version) p → NoneSpoilt st (Agrees (c .version) p) →
-      seenAt n (scan st) p c ≡ reading.lost lostRecord
-  seen-lost n p c h e w = go n (second-is st (find (c .version) p (st .slots)) (Agrees (c .version) p) (node-kind st (c .version) p) e w)
+  seen-is : (n : ℕ) (p : Place) (c : Child) → seenAt n (scan st) p c ≡ cond (eqb (c .version) 0) gap (seenChild p (nodeSight st (c .version) p) (kidsAt n p))
+  seen-is zero p c = refl
+  seen-is (suc n) p c = refl
+
+  sight-met : (n : ℕ) (p : Place) (x : Sight) → seenChild p x (kidsAt n p) ≡ seenMet n p (metBy (stoppedBy lostRecord) x)
+  sight-met n p (matches r) = refl
+  sight-met n p nothing = refl
+  sight-met n p (spoilt i) = refl
+
+  pub child-seen : (n : ℕ) (p : Place) (c : Child) (m : Met) → AtChild st p c m → seenAt n (scan st) p c ≡ seenMet n p m
+  child-seen n p c m (no-child e) = seen-is n p c ∙ rw (eq-eqb (c .version) 0 e)
+  child-seen n p c m (child h w) =
+      seen-is n p c ∙ rw (ne-eqb (c .version) 0 h)
+      (sight-met n p (nodeSight st (c .version) p) ∙ ap (seenMet n p) (node-met st (c .version) (stoppedBy lostRecord) p m w))
+
+  pub root-seen : (v : ℕ) (m : Met) → AtRoot st v m → seen (scan st) v ≡ seenMet 256 [] m
+  unfolding seen longer
+  root-seen v m w = go (rootSight st v) ∙ ap (seenMet 256 []) (root-met st v m w)
     where
-      go : (n : ℕ) → nodeSight st (c .version) p ≡ nothing → seenAt n (scan st) p c ≡ reading.lost lostRecord
-      go zero f = rw (ne-eqb (c .version) 0 h, f)
-      go (suc n) f = rw (ne-eqb (c .version) 0 h, f)
-
-  pub seen-spoilt : (n : ℕ) (p : Place) (c : Child) (i : ℕ) → Present c → NoMatch st (c .version) p → SpoiltIn st (Agrees (c .version) p) i →
-      seenAt n (scan st) p c ≡ reading.lost (spoiltRecord i)
-  seen-spoilt n p c i h e w = go n (third-is st (find (c .version) p (st .slots)) (Agrees (c .version) p) (node-kind st (c .version) p) i e w)
-    where
-      go : (n : ℕ) → nodeSight st (c .version) p ≡ spoilt i → seenAt n (scan st) p c ≡ reading.lost (spoiltRecord i)
-      go zero f = rw (ne-eqb (c .version) 0 h, f)
-      go (suc n) f = rw (ne-eqb (c .version) 0 h, f)
-
-  pub seen-leaf : (n : ℕ) (p : Place) (c : Child) (k x : Bytes) → Present c → Found st (c .version) p (leafBody k x) →
-      seenAt n (scan st) p c ≡ cond (begins p k) (leafSeen k x) (reading.lost strayLeaf)
-  unfolding Found
-  seen-leaf zero p c k x h f = rw (ne-eqb (c .version) 0 h, node-sighted st (c .version) p (f .0) (f .1), f .2)
-  seen-leaf (suc n) p c k x h f = rw (ne-eqb (c .version) 0 h, node-sighted st (c .version) p (f .0) (f .1), f .2)
-
-  pub seen-fork : (n : ℕ) (p : Place) (c l r : Child) → Present c → Found st (c .version) p (innerBody l r) →
-      seenAt (suc n) (scan st) p c ≡ fork (λ b. childOn b l r .hash) (λ b. seenAt n (scan st) (longer b p) (childOn b l r))
-  unfolding Found
-  seen-fork n p c l r h f = rw (ne-eqb (c .version) 0 h, node-sighted st (c .version) p (f .0) (f .1), f .2)
+      go : (x : Sight) → seenRoot x (λ b d. seenAt 255 (scan st) (b ∷ []) d) ≡ seenMet 256 [] (metBy missing x)
+      go (matches r) = refl
+      go nothing = refl
+      go (spoilt i) = refl
 
   -- every way ends
-  abbrev pub Ends : Rule → List Inner → Place → Child → Type 0
-  Ends rule before p c = (passed : List Inner) × (end : Stop) × Way st rule before p c passed end
+  abbrev pub Ends : Rule → List Inner → Place → Met → Type 0
+  Ends rule before p m = (passed : List Inner) × (end : Stop) × Way st rule before p m passed end
 
-  at-found-leaf : (rule : Rule) (before : List Inner) (p : Place) (c : Child) (k x : Bytes) → Present c → Found st (c .version) p (leafBody k x) →
-      (b : Bool) → begins p k ≡ b → Ends rule before p c
-  at-found-leaf rule before p c k x h f true e = (before, leaf k x, at-leaf k x h f e)
-  at-found-leaf rule before p c k x h f false e = (before, lost strayLeaf, misplaced k x h f e)
+  ends-by : (rule : Rule) (before : List Inner) (p : Place) (r : Record) → ((l c : Child) → r .body ≡ innerBody l c → Ends rule before p (found r)) →
+      Ends rule before p (found r)
+  ends-by rule before p r go = by-body (r .body) refl
+    where
+      at-begins : (k x : Bytes) → r .body ≡ leafBody k x → (b : Bool) → begins p k ≡ b → Ends rule before p (found r)
+      at-begins k x e true f = (before, leaf k x, at-leaf k x e f)
+      at-begins k x e false f = (before, stoppedBy strayLeaf, misplaced k x e f)
 
-  ends-by : (rule : Rule) (before : List Inner) (p : Place) (c : Child) → View p c →
-      ((l r : Child) → Present c → Found st (c .version) p (innerBody l r) → Ends rule before p c) → Ends rule before p c
-  ends-by rule before p c (gone e) go = (before, missing, no-child e)
-  ends-by rule before p c (none-found h e w) go = (before, lost lostRecord, not-found h e w)
-  ends-by rule before p c (spoilt-found i h e w) go = (before, lost (spoiltRecord i), ways.spoilt i h e w)
-  ends-by rule before p c (leaf-found k x h f) go = at-found-leaf rule before p c k x h f (begins p k) refl
-  ends-by rule before p c (inner-found l r h f) go = go l r h f
+      by-body : (b : Body) → r .body ≡ b → Ends rule before p (found r)
+      by-body (leafBody k x) e = at-begins k x e (begins p k) refl
+      by-body (innerBody l c) e = go l c e
 
-  pub way-ends : (n : ℕ) (rule : Rule) (before : List Inner) (p : Place) (c : Child) → length p + n ≡ 256 → Ends rule before p c
-  way-ends zero rule before p c s =
-      ends-by rule before p c (view p c) (λ l r h f. absurd (omega (arith, inner-short (c .version) p l r f)))
-  way-ends (suc n) rule before p c s =
-      ends-by rule before p c (view p c)
-      (λ l r h f.
-      let b = rule p l r in
-      let w = way-ends n rule (inner p l r ∷ before) (longer b p) (childOn b l r) (omega (arith, length-longer b p)) in
-      (w .0, w .1, onward l r h f (w .2)))
+  pub way-ends : (n : ℕ) (rule : Rule) (before : List Inner) (p : Place) (m : Met) → length p + n ≡ 256 → Above p m → Ends rule before p m
+  way-ends zero rule before p (stop x) s h = (before, x, ended)
+  way-ends (suc n) rule before p (stop x) s h = (before, x, ended)
+  way-ends zero rule before p (found r) s h = ends-by rule before p r (λ l c e. absurd (omega (arith, inner-short p r l c e h)))
+  way-ends (suc n) rule before p (found r) s h =
+      ends-by rule before p r
+      (λ l c e.
+      let b = rule p l c in
+      let a = at-child (longer b p) (childOn b l c) in
+      let w = way-ends n rule (inner p l c ∷ before) (longer b p) (a .0) (omega (arith, length-longer b p)) (child-above (longer b p) (childOn b l c) (a .0) (a .1)) in
+      (w .0, w .1, onward l c e (a .1) (w .2)))
 
   -- an inner record that was passed, as a walk notes it
   abbrev pub passOf : Bytes → Inner → Pass
@@ -135,28 +158,32 @@ module _ (st : Store) (formed : Formed st) where
   }
 
   abbrev pub endOf : Bytes → List Inner → Stop → End
-  endOf k passed (lost t) = broken t
+  endOf k passed (stoppedBy t) = walkStopped t
   endOf k passed (leaf l x) = atLeaf l x (map (passOf k) passed)
   endOf k passed missing = atGap (map (passOf k) passed)
 
   -- the walk ends as the way says
-  pub walk-is : (k : Bytes) (before : List Inner) (p : Place) (c : Child) (passed : List Inner) (end : Stop) → Way st (byKey k) before p c passed end →
-      (n i : ℕ) → i ≡ length p → length p + n ≡ 256 → walk k i (map (passOf k) before) (seenAt n (scan st) p c) ≡ endOf k passed end
-  walk-is k before p c passed end (no-child e) n i f s = rw (seen-gap n p c e)
-  walk-is k before p c passed end (not-found h e w) n i f s = rw (seen-lost n p c h e w)
-  walk-is k before p c passed end (ways.spoilt j h e w) n i f s = rw (seen-spoilt n p c j h e w)
-  walk-is k before p c passed end (misplaced l x h f e) n i g s = rw (seen-leaf n p c l x h f, e)
-  walk-is k before p c passed end (at-leaf l x h f e) n i g s = rw (seen-leaf n p c l x h f, e)
-  walk-is k before p c passed end (onward l r h f w) zero i g s = absurd (omega (arith, inner-short (c .version) p l r f))
-  walk-is k before p c passed end (onward l r h f w) (suc n) i g s =
+  stop-is : (k : Bytes) (before : List Inner) (n : ℕ) (p : Place) (i : ℕ) (x : Stop) → walk k i (map (passOf k) before) (seenMet n p (stop x)) ≡ endOf k before x
+  stop-is k before n p i (stoppedBy t) = refl
+  stop-is k before n p i (leaf l x) = refl
+  stop-is k before n p i missing = refl
+
+  pub walk-is : (k : Bytes) (before : List Inner) (p : Place) (m : Met) (passed : List Inner) (end : Stop) → Way st (byKey k) before p m passed end →
+      (n i : ℕ) → i ≡ length p → length p + n ≡ 256 → Above p m → walk k i (map (passOf k) before) (seenMet n p m) ≡ endOf k passed end
+  walk-is k before p m passed end ended n i f s h = stop-is k before n p i end
+  walk-is k before p m passed end (misplaced l x e f) n i g s h = rw (e, f)
+  walk-is k before p m passed end (at-leaf l x e f) n i g s h = rw (e, f)
+  walk-is k before p m passed end (onward {r = r} l c e a w) zero i g s h = absurd (omega (arith, inner-short p r l c e h))
+  walk-is k before p m passed end (onward {r = r} l c {met = met} e a w) (suc n) i g s h =
       let b = bit (length p) k in
-      let m : n ≡ 255 - length p = omega arith in
-      rw (seen-fork n p c l r h f, g)
+      let less : n ≡ 255 - length p = omega arith in
+      rw (e, g)
       (ap (λ j. walk k (suc (length p))
       (record {
         turn = b;
-        hashes = λ t. childOn t l r .hash;
-        kids = λ t. seenAt j (scan st) (longer t p) (childOn t l r);
-      } ∷ map (passOf k) before) (seenAt n (scan st) (longer b p) (childOn b l r))) m
-      ∙ walk-is k (inner p l r ∷ before) (longer b p) (childOn b l r) passed end w n (suc (length p)) (sym (length-longer b p))
-      (omega (arith, length-longer b p)))
+        hashes = λ t. childOn t l c .hash;
+        kids = λ t. seenAt j (scan st) (longer t p) (childOn t l c);
+      } ∷ map (passOf k) before) (seenAt n (scan st) (longer b p) (childOn b l c))) less
+      ∙ ap (walk k (suc (length p)) (map (passOf k) (inner p l c ∷ before))) (child-seen n (longer b p) (childOn b l c) met a)
+      ∙ walk-is k (inner p l c ∷ before) (longer b p) met passed end w n (suc (length p)) (sym (length-longer b p))
+      (omega (arith, length-longer b p)) (child-above (longer b p) (childOn b l c) met a))

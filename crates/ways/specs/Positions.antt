@@ -3,53 +3,35 @@
 -- gives 3 also where it meets a missing child, or a leaf with a position left over.' Assumes nothing.
 use Prim.Native.Nat.{ℕ, _+_, _-_, _<_, _≤_}
 use mathlib.Core.Path.{_≡_}
+use mathlib.Core.Logic.{_⊎_}
 use mathlib.Core.Bool.{true, false}
 use mathlib.Core.List.{[]}
-use mathlib.Core.Option.{some}
 use Rattle.terms.specs.Bits.{Bytes, Side, left, right, Place, longer, begins}
 use Rattle.terms.specs.Records.{Grant, grant, Child, leafBody, innerBody, Record, Store}
-use Rattle.meaning.specs.Store.{find, rootOf, childOn}
+use Rattle.meaning.specs.Store.{childOn}
 use Rattle.meaning.specs.Calls.{Answer, refused, accepted}
-use Rattle.meaning.specs.Reading.{beside}
-use Rattle.ways.specs.Ways.{Present, Agrees, AgreesRoot, SpoiltIn, NoneSpoilt, NoMatch, NoRoot}
+use Rattle.meaning.specs.Reading.{Trouble, refusalOf}
+use Rattle.ways.specs.Ways.{stoppedBy, missing, Met, stop, found, AtRoot, AtChild}
 
 -- By a record's counts position i goes to side b, and is position j there.
 pub data Turn (r : Record) (i : ℕ) : Side → ℕ → Type 0 where
   to-left : i < r .counts .leftward → Turn r i left i
   to-right : r .counts .leftward ≤ i → Turn r i right (i - r .counts .leftward)
 
--- The descent from the record r at the place p, with position i, ends so.
-pub data Lands (st : Store) : Place → Record → ℕ → Answer Grant → Type 0 where
-  -- a leaf whose key doesn't begin with its place
-  misplaced : {p : Place} {r : Record} {i : ℕ} (k x : Bytes) → r .body ≡ leafBody k x → begins p k ≡ false →
-      Lands st p r i (refused 3)
-  -- a leaf with a position left over
-  left-over : {p : Place} {r : Record} {i : ℕ} (k x : Bytes) → r .body ≡ leafBody k x → 1 ≤ i →
-      Lands st p r i (refused 3)
+-- The descent from what is met at the place p, with position i, ends so.
+pub data Lands (st : Store) : Place → Met → ℕ → Answer Grant → Type 0 where
+  no-child : {p : Place} {i : ℕ} → Lands st p (stop missing) i (refused 3)
+  stopped : {p : Place} {i : ℕ} {t : Trouble} → Lands st p (stop (stoppedBy t)) i (refused (refusalOf t))
+  -- a leaf whose key doesn't begin with its place, or with a position left over
+  not-there : {p : Place} {r : Record} {i : ℕ} (k x : Bytes) → r .body ≡ leafBody k x →
+      (begins p k ≡ false) ⊎ (1 ≤ i) → Lands st p (found r) i (refused 3)
   -- the leaf asked for
   at-leaf : {p : Place} {r : Record} {i : ℕ} (k x : Bytes) → r .body ≡ leafBody k x → begins p k ≡ true → i ≡ 0 →
-      Lands st p r i (accepted (grant k x))
-  -- a missing child
-  no-child : {p : Place} {r : Record} {i : ℕ} (l m : Child) (b : Side) (j : ℕ) → r .body ≡ innerBody l m →
-      Turn r i b j →
-      childOn b l m .version ≡ 0 → Lands st p r i (refused 3)
-  -- a present child of the second kind, and of the third
-  not-found : {p : Place} {r : Record} {i : ℕ} (l m : Child) (b : Side) (j : ℕ) → r .body ≡ innerBody l m →
-      Turn r i b j →
-      Present (childOn b l m) → NoMatch st (childOn b l m .version) (longer b p) →
-      NoneSpoilt st (Agrees (childOn b l m .version) (longer b p)) →
-      Lands st p r i (refused 17)
-  spoilt : {p : Place} {r : Record} {i : ℕ} (l m : Child) (b : Side) (j s : ℕ) → r .body ≡ innerBody l m →
-      Turn r i b j →
-      Present (childOn b l m) → NoMatch st (childOn b l m .version) (longer b p) →
-      SpoiltIn st (Agrees (childOn b l m .version) (longer b p)) s →
-      Lands st p r i (refused (beside 3 s))
-  -- a found child, and on from there
-  onward : {p : Place} {r : Record} {i : ℕ} (l m : Child) (b : Side) (j : ℕ) (q : Record) {a : Answer Grant} →
-      r .body ≡ innerBody l m →
-      Turn r i b j → Present (childOn b l m) → find (childOn b l m .version) (longer b p) (st .slots) ≡ some q →
-      Lands st (longer b p) q j a →
-      Lands st p r i a
+      Lands st p (found r) i (accepted (grant k x))
+  -- an inner record, and on from there
+  onward : {p : Place} {r : Record} {i : ℕ} (l m : Child) (b : Side) (j : ℕ) {met : Met} {a : Answer Grant} →
+      r .body ≡ innerBody l m → Turn r i b j → AtChild st (longer b p) (childOn b l m) met →
+      Lands st (longer b p) met j a → Lands st p (found r) i a
 
 -- How many leaves a record says that it has.
 pub data Says (r : Record) : ℕ → Type 0 where
@@ -58,13 +40,17 @@ pub data Says (r : Record) : ℕ → Type 0 where
 
 -- The number of a kept version.
 pub data Number (st : Store) (v : ℕ) : Answer ℕ → Type 0 where
-  no-root : NoRoot st v → NoneSpoilt st (AgreesRoot v) → Number st v (accepted 0)
-  root-spoilt : (s : ℕ) → NoRoot st v → SpoiltIn st (AgreesRoot v) s → Number st v (refused (beside 3 s))
-  of-root : (r : Record) (n : ℕ) → rootOf st v ≡ some r → Says r n → Number st v (accepted n)
+  no-root : AtRoot st v (stop missing) → Number st v (accepted 0)
+  root-lost : {t : Trouble} → AtRoot st v (stop (stoppedBy t)) → Number st v (refused (refusalOf t))
+  of-root : {r : Record} {n : ℕ} → AtRoot st v (found r) → Says r n → Number st v (accepted n)
 
 -- The grant at position i of a kept version.
 pub data Position (st : Store) (v i : ℕ) : Answer Grant → Type 0 where
-  root-spoilt : (s : ℕ) → NoRoot st v → SpoiltIn st (AgreesRoot v) s → Position st v i (refused (beside 3 s))
+  root-lost : {t : Trouble} → AtRoot st v (stop (stoppedBy t)) → Position st v i (refused (refusalOf t))
   not-below : (n : ℕ) → Number st v (accepted n) → n ≤ i → Position st v i (refused 20)
-  from-root : (r : Record) (n : ℕ) {a : Answer Grant} → rootOf st v ≡ some r → Says r n → i < n → Lands st [] r i a →
-      Position st v i a
+  from-root : {r : Record} {n : ℕ} {a : Answer Grant} → AtRoot st v (found r) → Says r n → i < n →
+      Lands st [] (found r) i a → Position st v i a
+
+-- The read of a position is stopped by t.
+abbrev pub PositionStopped : Store → ℕ → ℕ → Trouble → Type 0
+PositionStopped st v i t = Position st v i (refused (refusalOf t))

@@ -1,6 +1,6 @@
 -- `apply::apply` meets its contract: it is refused by check, or the store is sound. Assumes nothing.
 use borrow.Author.Needs.{needs}
-use Rattle.apply_publish.specs.Apply.{appliedSays}
+use Rattle.apply_answer.specs.Answers.{appliedSays}
 use Rattle.promises.proofs.Calls.{checked-refuses, checked-sound}
 use Rattle.apply.proofs.apply.Statement.{statement}
 use Rattle.apply.proofs.apply.Tie as tie

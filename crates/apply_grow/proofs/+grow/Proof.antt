@@ -12,12 +12,12 @@ use borrow.Fn.PlainCycle.{Measures, is, falls, and}
 use Rattle.apply_grow.proofs.grow.Reads as grow
 use Rattle.apply_grow.proofs.grow.Kinds as grow-kinds
 use Rattle.apply_grow.proofs.+grow.Lts-grow as grow-lts
-use Rattle.apply_grow.proofs.stays_at.Reads as stays-at-reads
-use Rattle.apply_grow.proofs.to_grow.Reads as to-grow-reads
+use Rattle.apply_inserts.proofs.stays_at.Reads as stays-at-reads
+use Rattle.apply_inserts.proofs.to_grow.Reads as to-grow-reads
 use Rattle.apply_outcome.proofs.child_of.Reads as child-of-reads
-use Rattle.apply_outcome.proofs.fork.Reads as fork-reads
-use Rattle.batch.proofs.left_run.Reads as left-run-reads
-use Rattle.batch.proofs.right_run.Reads as right-run-reads
+use Rattle.apply_fork.proofs.fork.Reads as fork-reads
+use Rattle.batch_runs.proofs.left_run.Reads as left-run-reads
+use Rattle.batch_runs.proofs.right_run.Reads as right-run-reads
 use Rattle.place.proofs.Place.left.Reads as left-reads
 use Rattle.place.proofs.Place.right.Reads as right-reads
 use Rattle.apply_grow.proofs.+grow.{statement}

@@ -5,7 +5,7 @@ use borrow.Author.Tests.{not-true, not-false}
 use Rattle.terms.specs.Bits.{Byte}
 use Rattle.terms.proofs.Lists.{all-of}
 use Rattle.batch.proofs.Runs.{run-of-batch}
-use Rattle.apply_publish.specs.Apply.{appliedSays}
+use Rattle.apply_answer.specs.Answers.{appliedSays}
 use Rattle.apply_sound.proofs.Refusing.{refused-4, refused-5}
 use borrow.Author.Needs.{needs}
 use Rattle.apply_sound.proofs.apply_sound.Statement.{statement}

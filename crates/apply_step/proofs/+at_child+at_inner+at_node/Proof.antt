@@ -23,8 +23,8 @@ use Rattle.apply_inner.proofs.settle_in.Reads as settle-in-reads
 use Rattle.apply_read.proofs.onward_from.Reads as onward-from-reads
 use Rattle.apply_read.proofs.unchanged_at.Reads as unchanged-at-reads
 use Rattle.apply_tip.proofs.at_tip.Reads as at-tip-reads
-use Rattle.batch.proofs.left_run.Reads as left-run-reads
-use Rattle.batch.proofs.right_run.Reads as right-run-reads
+use Rattle.batch_runs.proofs.left_run.Reads as left-run-reads
+use Rattle.batch_runs.proofs.right_run.Reads as right-run-reads
 use Rattle.place.proofs.Place.left.Reads as left-reads
 use Rattle.place.proofs.Place.right.Reads as right-reads
 use Rattle.apply_step.proofs.+at_child+at_inner+at_node.{statement}

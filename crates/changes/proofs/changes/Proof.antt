@@ -1,7 +1,7 @@
 -- `changes::changes` meets its contract: it is refused by check, or the store is sound. Assumes nothing.
 use mathlib.Core.Path.{refl}
 use Rattle.promises.proofs.Calls.{checked-refuses, checked-sound}
-use Rattle.changes.proofs.Answers.{refused-by-check}
+use Rattle.changes.proofs.Opening.{refused-by-check}
 use borrow.Author.Needs.{needs}
 use Rattle.changes.proofs.changes.Statement.{statement}
 use Rattle.changes.proofs.changes.Tie as tie

@@ -1,11 +1,5 @@
--- `changes::changes_sound` meets its contract: versions, visits and room are tested in this order, then the list is written. Assumes nothing.
-use native.Mathlib.Omega.{arith}
-use mathlib.Core.Path.{subst}
-use mathlib.Core.Bool.{false, true}
-use Rattle.terms.specs.Bits.{Byte}
-use Rattle.terms.proofs.Lists.{all-of}
-use Rattle.changes_walk.specs.Walk.{WalkSays}
-use Rattle.changes.proofs.Answers.{is-kept, not-kept, sound-size, first-refused, second-refused, may-count, limit-passed, list-small, list-too-long, may-write, list-written}
+-- `changes::changes_sound` meets its contract: both versions are tested, then compared. Assumes nothing.
+use Rattle.changes.proofs.Opening.{is-kept, not-kept, first-refused, second-refused}
 use borrow.Author.Needs.{needs}
 use Rattle.changes.proofs.changes_sound.Statement.{statement}
 use Rattle.changes.proofs.changes_sound.Tie as tie
@@ -26,27 +20,6 @@ start-from-open c = c .before .before .before
 abbrev start-from-open2 : tie.After-open2 → tie.Start
 start-from-open2 c = start-from-open (c .before .before .before)
 
-abbrev open-from-open2 : tie.After-open2 → tie.After-open
-open-from-open2 c = c .before .before .before
-
-abbrev start-from-top : tie.After-top → tie.Start
-start-from-top c = start-from-open2 (c .before .before .before)
-
-abbrev open2-from-top : tie.After-top → tie.After-open2
-open2-from-top c = c .before .before .before
-
-abbrev top-from-root-top2 : tie.After-root-top2 → tie.After-top
-top-from-root-top2 c = c .before .before
-
-abbrev root-top2-from-walk : tie.After-walk → tie.After-root-top2
-root-top2-from-walk c = c .before .before
-
-abbrev walk-from-n : tie.After-n → tie.After-walk
-walk-from-n c = c .before .before .before .before
-
-abbrev n-from-walk-arg2 : tie.After-walk-arg2 → tie.After-n
-n-from-walk-arg2 c = c .before .before .before
-
 returns : tie.Need-returns
 returns c =
     let at-match-keys2 = c .before in
@@ -54,7 +27,6 @@ returns c =
     let start = start-from-open after-open in
     let a = start .args in
     let w = start .pre in
-    let s = a .store .now in
     first-refused w (a .first) (a .second) (a .limit) (a .room .now) (not-kept w (a .first) (after-open .«open» .result) (after-open .«open» .ensures) (at-match-keys2 .match .keys2))
 
 open-requires-2 : tie.Need-open-requires-2
@@ -73,141 +45,22 @@ returns-2 c =
     let start = start-from-open2 after-open2 in
     let a = start .args in
     let w = start .pre in
-    let s = a .store .now in
     second-refused w (a .first) (a .second) (a .limit) (a .room .now) (not-kept w (a .second) (after-open2 .open2 .result) (after-open2 .open2 .ensures) (at-match2-keys2 .match2 .keys2))
 
-top-requires : tie.Need-top-requires
-top-requires c κs = search needs
-
-root-top-requires : tie.Need-root-top-requires
-root-top-requires c κs = (sound-size (start-from-top c .pre), c .top .ensures)
-
-root-top-requires-2 : tie.Need-root-top-requires-2
-root-top-requires-2 c κs = (sound-size (start-from-top (c .before) .pre), c .before .top .ensures)
-
-walk-requires : tie.Need-walk-requires
-walk-requires c κs =
-    let after-root-top2 = c .before in
-    let after-root-top = after-root-top2 .before in
-    let after-top = after-root-top .before in
-    let after-open2 = open2-from-top after-top in
-    let after-open = open-from-open2 after-open2 in
+changes-kept-requires : tie.Need-changes-kept-requires
+changes-kept-requires c κs =
+    let after-open2 = c .before .before .before in
+    let after-open = after-open2 .before .before .before in
     let start = start-from-open after-open in
     let a = start .args in
     let w = start .pre in
-    let s = a .store .now in
-    may-count w (a .first) (a .second) (a .limit) (a .room .now) (is-kept w (a .first) (after-open .«open» .result) (after-open .«open» .ensures) (after-open2 .before .enum-told .given .1)) (is-kept w (a .second) (after-open2 .open2 .result) (after-open2 .open2 .ensures) (after-top .before .enum-told3 .given .1))
-    (after-top .top .ensures) (after-root-top .root-top .ensures) (after-root-top2 .root-top2 .ensures)
-    (omega (arith, start .fits))
-
-enum-known-n : tie.Need-enum-known-n
-enum-known-n c = search needs
-
-enum-told-5 : tie.Need-enum-told-5
-enum-told-5 c = search needs
+    (w, is-kept w (a .first) (after-open .«open» .result) (after-open .«open» .ensures) (after-open2 .before .enum-told .given .1), is-kept w (a .second) (after-open2 .open2 .result) (after-open2 .open2 .ensures) (c .before .enum-told3 .given .1))
 
 same-length : tie.Need-same-length
 same-length c = search needs
 
 returns-3 : tie.Need-returns-3
-returns-3 c =
-    let after-walk = c .before .before .before .before in
-    let after-root-top2 = root-top2-from-walk after-walk in
-    let after-top = top-from-root-top2 after-root-top2 in
-    let after-open2 = open2-from-top after-top in
-    let after-open = open-from-open2 after-open2 in
-    let start = start-from-open after-open in
-    let a = start .args in
-    let w = start .pre in
-    let s = a .store .now in
-    let x = after-walk .walk .last .1 .1 .1 .1 .1 .1 .1 .0 in
-    let q = subst (λ z. WalkSays s (after-top .top .result) (after-root-top2 .before .root-top .result) (after-root-top2 .root-top2 .result) (a .limit) false (a .room .now) 0 z x) (c .enum-told5 .given .1) (after-walk .walk .ensures) in
-    limit-passed w (a .first) (a .second) (a .limit) (a .room .now) (is-kept w (a .first) (after-open .«open» .result) (after-open .«open» .ensures) (after-open2 .before .enum-told .given .1)) (is-kept w (a .second) (after-open2 .open2 .result) (after-open2 .open2 .ensures) (after-top .before .enum-told3 .given .1))
-    (after-top .top .ensures) (after-root-top2 .before .root-top .ensures) (after-root-top2 .root-top2 .ensures) x q
-
-same-length-2 : tie.Need-same-length-2
-same-length-2 c = search needs
-
-returns-4 : tie.Need-returns-4
-returns-4 c =
-    let after-n = c .before .before in
-    let after-walk = walk-from-n after-n in
-    let after-root-top2 = root-top2-from-walk after-walk in
-    let after-top = top-from-root-top2 after-root-top2 in
-    let after-open2 = open2-from-top after-top in
-    let after-open = open-from-open2 after-open2 in
-    let start = start-from-open after-open in
-    let a = start .args in
-    let w = start .pre in
-    let s = a .store .now in
-    let x = after-walk .walk .last .1 .1 .1 .1 .1 .1 .1 .0 in
-    let q = subst (λ z. WalkSays s (after-top .top .result) (after-root-top2 .before .root-top .result) (after-root-top2 .root-top2 .result) (a .limit) false (a .room .now) 0 z x) (after-n .n .given .1) (after-walk .walk .ensures) in
-    list-too-long w (a .first) (a .second) (a .limit) (a .room .now) (is-kept w (a .first) (after-open .«open» .result) (after-open .«open» .ensures) (after-open2 .before .enum-told .given .1)) (is-kept w (a .second) (after-open2 .open2 .result) (after-open2 .open2 .ensures) (after-top .before .enum-told3 .given .1))
-    (after-top .top .ensures) (after-root-top2 .before .root-top .ensures) (after-root-top2 .root-top2 .ensures)
-    (after-n .n .given .0 .0) (after-n .n .given .0 .1 .0) x q (c .if1 .taken)
-
-walk-requires-2 : tie.Need-walk-requires-2
-walk-requires-2 c κs =
-    let after-n = n-from-walk-arg2 c in
-    let after-walk = walk-from-n after-n in
-    let after-root-top2 = root-top2-from-walk after-walk in
-    let after-top = top-from-root-top2 after-root-top2 in
-    let after-open2 = open2-from-top after-top in
-    let after-open = open-from-open2 after-open2 in
-    let start = start-from-open after-open in
-    let a = start .args in
-    let w = start .pre in
-    let s = a .store .now in
-    let x = after-walk .walk .last .1 .1 .1 .1 .1 .1 .1 .0 in
-    let q = subst (λ z. WalkSays s (after-top .top .result) (after-root-top2 .before .root-top .result) (after-root-top2 .root-top2 .result) (a .limit) false (a .room .now) 0 z x) (after-n .n .given .1) (after-walk .walk .ensures) in
-    may-write w (a .first) (a .second) (a .limit) (a .room .now) (is-kept w (a .first) (after-open .«open» .result) (after-open .«open» .ensures) (after-open2 .before .enum-told .given .1)) (is-kept w (a .second) (after-open2 .open2 .result) (after-open2 .open2 .ensures) (after-top .before .enum-told3 .given .1))
-    (after-top .top .ensures) (after-root-top2 .before .root-top .ensures) (after-root-top2 .root-top2 .ensures)
-    (after-n .n .given .0 .0) (after-n .n .given .0 .1 .0) x q (λ h. omega (arith, h, c .before .if1 .left)) (omega (arith, start .fits))
-
-cast-many : tie.Need-cast-many
-cast-many c =
-    let after-n = n-from-walk-arg2 (c .before .before .before) in
-    let after-walk = walk-from-n after-n in
-    let after-root-top2 = root-top2-from-walk after-walk in
-    let after-top = top-from-root-top2 after-root-top2 in
-    let after-open2 = open2-from-top after-top in
-    let after-open = open-from-open2 after-open2 in
-    let start = start-from-open after-open in
-    let a = start .args in
-    let w = start .pre in
-    let s = a .store .now in
-    let x = after-walk .walk .last .1 .1 .1 .1 .1 .1 .1 .0 in
-    let q = subst (λ z. WalkSays s (after-top .top .result) (after-root-top2 .before .root-top .result) (after-root-top2 .root-top2 .result) (a .limit) false (a .room .now) 0 z x) (after-n .n .given .1) (after-walk .walk .ensures) in
-    omega (
-      arith,
-      list-small w (a .first) (a .second) (a .limit) (a .room .now) (is-kept w (a .first) (after-open .«open» .result) (after-open .«open» .ensures) (after-open2 .before .enum-told .given .1)) (is-kept w (a .second) (after-open2 .open2 .result) (after-open2 .open2 .ensures) (after-top .before .enum-told3 .given .1))
-          (after-top .top .ensures) (after-root-top2 .before .root-top .ensures) (after-root-top2 .root-top2 .ensures)
-          (after-n .n .given .0 .0) (after-n .n .given .0 .1 .0) x q,
-    )
-
-same-length-3 : tie.Need-same-length-3
-same-length-3 c = search needs
-
-returns-5 : tie.Need-returns-5
-returns-5 c =
-    let after-walk2 = c .before .before in
-    let after-walk-arg2 = after-walk2 .before in
-    let after-n = n-from-walk-arg2 after-walk-arg2 in
-    let after-walk = walk-from-n after-n in
-    let after-root-top2 = root-top2-from-walk after-walk in
-    let after-top = top-from-root-top2 after-root-top2 in
-    let after-open2 = open2-from-top after-top in
-    let after-open = open-from-open2 after-open2 in
-    let start = start-from-open after-open in
-    let a = start .args in
-    let w = start .pre in
-    let s = a .store .now in
-    let x = after-walk .walk .last .1 .1 .1 .1 .1 .1 .1 .0 in
-    let q = subst (λ z. WalkSays s (after-top .top .result) (after-root-top2 .before .root-top .result) (after-root-top2 .root-top2 .result) (a .limit) false (a .room .now) 0 z x) (after-n .n .given .1) (after-walk .walk .ensures) in
-    list-written w (a .first) (a .second) (a .limit) (a .room .now) (is-kept w (a .first) (after-open .«open» .result) (after-open .«open» .ensures) (after-open2 .before .enum-told .given .1)) (is-kept w (a .second) (after-open2 .open2 .result) (after-open2 .open2 .ensures) (after-top .before .enum-told3 .given .1))
-    (after-top .top .ensures) (after-root-top2 .before .root-top .ensures) (after-root-top2 .root-top2 .ensures)
-    (after-n .n .given .0 .0) (after-n .n .given .0 .1 .0) x q (λ h. omega (arith, h, after-walk-arg2 .before .if1 .left)) (omega (arith, start .fits)) (after-walk2 .walk2 .result) _ (after-walk2 .walk2 .ensures)
-    (all-of Byte s 0 (λ i _. omega (arith, after-open .before .before .shared-slice-known .given i)))
+returns-3 c = search needs
 
 pub changes-sound-spec : {M : Type 1} → statement M
 changes-sound-spec =
@@ -221,17 +74,6 @@ changes-sound-spec =
     enum-told-3
     enum-told-4
     returns-2
-    top-requires
-    root-top-requires
-    root-top-requires-2
-    walk-requires
-    enum-known-n
-    enum-told-5
+    changes-kept-requires
     same-length
-    returns-3
-    same-length-2
-    returns-4
-    walk-requires-2
-    cast-many
-    same-length-3
-    returns-5)
+    returns-3)

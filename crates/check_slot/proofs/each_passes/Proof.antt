@@ -6,7 +6,7 @@ use Rattle.local.specs.Test.{slotTest, slotsTest}
 use Rattle.nodehash.specs.Node.{leafHash, innerHash}
 use Rattle.layout.specs.Stores.{storeIn}
 use Rattle.store.proofs.Scans.{scan-slot}
-use Rattle.check_kin.proofs.Scanning.{Passed, pass-start, pass-next, pass-off, pass-end}
+use Rattle.check_roots.proofs.Scanning.{Passed, pass-start, pass-next, pass-off, pass-end}
 use Rattle.check_slot.proofs.each_passes.Statement.{statement}
 use Rattle.check_slot.proofs.each_passes.Tie as tie
 

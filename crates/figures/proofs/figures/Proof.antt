@@ -1,6 +1,6 @@
 -- `figures::figures` meets its contract: it is refused by check, or the store is sound. Assumes nothing.
 use Rattle.promises.proofs.Calls.{checked-refuses, checked-sound}
-use Rattle.figures.proofs.Answers.{refused-by-check}
+use Rattle.figures_sound.proofs.Answers.{refused-by-check}
 use borrow.Author.Needs.{needs}
 use Rattle.figures.proofs.figures.Statement.{statement}
 use Rattle.figures.proofs.figures.Tie as tie

@@ -4,7 +4,7 @@ use borrow.Author.Needs.{needs}
 use borrow.Author.Tests.{not-true}
 use Rattle.store.proofs.Slots.{slot-within}
 use Rattle.forged_message.specs.Parts.{messageBytes}
-use Rattle.forged_nodes.specs.Nodes.{messageIn}
+use Rattle.forged_slot.specs.Slot.{messageIn}
 use Rattle.forged_nodes.proofs.Noting.{no-node-any-word, node-word}
 use Rattle.forged_nodes.proofs.word_here.Statement.{statement}
 use Rattle.forged_nodes.proofs.word_here.Tie as tie

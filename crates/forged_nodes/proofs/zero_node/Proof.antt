@@ -6,7 +6,7 @@ use borrow.Author.Needs.{needs}
 use Rattle.terms.specs.declared.Form.the-variants.{Counted as counted}
 use Rattle.store.proofs.Slots.{slot-within}
 use Rattle.store.proofs.Scans.{Scan, scan-slot}
-use Rattle.forged_nodes.specs.Nodes.{messageIn}
+use Rattle.forged_slot.specs.Slot.{messageIn}
 use Rattle.forged_nodes.proofs.Words.{noted-inside, word-of}
 use Rattle.forged_nodes.proofs.Scanning.{ZeroAhead, zero-start, zero-next, zero-found, no-zero}
 use Rattle.forged_nodes.proofs.zero_node.Statement.{statement}

@@ -2,7 +2,7 @@
 use native.Mathlib.Omega.{arith}
 use mathlib.Core.Path.{sym}
 use lib.ListN.{List·getD-eq-default}
-use Rattle.index_search.proofs.Looked.{any-default}
+use Rattle.index_search.proofs.Searching.{any-default}
 use borrow.Author.Needs.{needs}
 use Rattle.index_search.proofs.entry_at.Statement.{statement}
 use Rattle.index_search.proofs.entry_at.Tie as tie

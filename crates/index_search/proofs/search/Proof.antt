@@ -11,8 +11,8 @@ use Rattle.place.specs.Place.{placeOf}
 use Rattle.layout.specs.Stores.{storeOf}
 use Rattle.layout.proofs.Headers.{size-says}
 use Rattle.store.proofs.Slots.{slots-many}
-use Rattle.index_search.specs.Looks.{lookFor}
-use Rattle.index_search.proofs.Looked.{own-met, was-small, was-great, was-met, in-middle}
+use Rattle.index_entry.specs.Entries.{lookFor}
+use Rattle.index_search.proofs.Searching.{own-met, was-small, was-great, was-met, in-middle}
 use borrow.Author.Needs.{needs}
 use Rattle.index_search.proofs.search.Statement.{statement}
 use Rattle.index_search.proofs.search.Tie as tie

@@ -6,8 +6,8 @@ use Rattle.lookup.proofs.holds_record.Statement.{statement}
 use Rattle.lookup.proofs.holds_record.Tie as tie
 use Rattle.lookup.proofs.holds_record.Reads as reads
 use Rattle.lookup.proofs.holds_record.Lts as lts
-use Rattle.slots.proofs.is_inner.Reads as is-inner-reads
-use Rattle.slots.proofs.is_leaf.Reads as is-leaf-reads
+use Rattle.slots_form.proofs.is_inner.Reads as is-inner-reads
+use Rattle.slots_form.proofs.is_leaf.Reads as is-leaf-reads
 
 -- src/lib.rt:21:8
 is-leaf-requires : tie.Need-is-leaf-requires

@@ -1,7 +1,7 @@
 -- `message_fields::field` meets its contract: the tag, then the length, then as many bytes. Assumes nothing.
 use native.Mathlib.Omega.{arith}
 use borrow.Author.Tests.{not-true, not-false}
-use Rattle.message_fields.proofs.Numbers.{stands-end, stands-other, stands-no-size, stands-short, stands-there}
+use Rattle.message_fields.proofs.Fields.{stands-end, stands-other, stands-no-size, stands-short, stands-there}
 use borrow.Author.Needs.{needs}
 use Rattle.message_fields.proofs.field.Statement.{statement}
 use Rattle.message_fields.proofs.field.Tie as tie

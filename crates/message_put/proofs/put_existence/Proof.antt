@@ -5,7 +5,7 @@ use Rattle.proofrecords.specs.ProofBytes.{presenceIn}
 use Rattle.message_rules.proofs.Writing.{puts-then}
 use mathlib.Core.List.{_++_}
 use Rattle.messages.specs.Wire.{messageField}
-use Rattle.messages.specs.Message.{leafOp, path}
+use Rattle.messages.specs.Raws.{leafOp, path}
 use Rattle.message_put.proofs.Parts.{room-first, room-second, existence-parts, puts-four, room-third, room-fourth}
 use native.Mathlib.Omega.{arith}
 use borrow.Author.Needs.{needs}

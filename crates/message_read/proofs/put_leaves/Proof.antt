@@ -2,7 +2,7 @@
 use mathlib.Core.Path.{ap, sym, _∙_}
 use mathlib.Core.List.{_++_}
 use Rattle.terms.specs.Fields.{le}
-use Rattle.message_rules.specs.Contracts.{spotsBytes}
+use Rattle.message_rules.specs.Answers.{spotsBytes}
 use Rattle.message_read.proofs.Spotting.{left-bounded, right-bounded, key-bounds, spots-with-left, spots-without-left}
 use Rattle.message_read.proofs.put_leaves.Statement.{statement}
 use Rattle.message_read.proofs.put_leaves.Tie as tie

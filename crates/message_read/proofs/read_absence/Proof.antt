@@ -3,7 +3,7 @@ use mathlib.Core.Path.{ap, sym, _∙_}
 use mathlib.Core.List.{_++_}
 use Rattle.terms.specs.Fields.{le}
 use Rattle.messages.specs.Spots.{spotsIn}
-use Rattle.message_rules.specs.Contracts.{spotsBytes}
+use Rattle.message_rules.specs.Answers.{spotsBytes}
 use Rattle.terms.specs.Records.{absence}
 use Rattle.message_form.specs.Said.{absentAt}
 use Rattle.message_read.proofs.Spotting.{absent-ready, absent-few, absent-long, absent-small}

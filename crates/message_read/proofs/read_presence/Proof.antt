@@ -2,7 +2,7 @@
 use mathlib.Core.Path.{ap, ap₂, sym, _∙_}
 use mathlib.Core.List.{_++_}
 use Rattle.terms.specs.Fields.{le}
-use Rattle.message_rules.specs.Contracts.{spotsBytes}
+use Rattle.message_rules.specs.Answers.{spotsBytes}
 use Rattle.message_record.proofs.Records.{held-ready, few-steps, length-own}
 use Rattle.message_read.proofs.Spotting.{bounded, nothing-bounded, presence-spots}
 use Rattle.message_read.proofs.Answering.{reads-no-room, reads-there}

@@ -7,7 +7,7 @@ use lib.Seq.{length-take-le}
 use Rattle.terms.specs.Fields.{slice}
 use Rattle.fields.specs.Written.{written}
 use Rattle.proofrecords.specs.ProofBytes.{neighbourBytes}
-use Rattle.messages.specs.Message.{ownNeighbour}
+use Rattle.messages.specs.Raws.{ownNeighbour}
 use Rattle.sha256.specs.Sha256.{sha256}
 use Rattle.message_form.specs.Said.{shownIn}
 use Rattle.message_record.specs.Ready.{absentSize, ReadyOr}

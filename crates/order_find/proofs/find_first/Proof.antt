@@ -6,7 +6,8 @@ use Rattle.terms.specs.Bits.{Byte}
 use Rattle.terms.proofs.Lists.{all-of}
 use Rattle.place.specs.Place.{placeOf}
 use Rattle.layout.specs.Stores.{Has}
-use Rattle.order_find.proofs.Found.{entry-has, found-here, none-before, none-after, none-left}
+use Rattle.order_halves.proofs.Looked.{entry-has}
+use Rattle.order_find.proofs.Found.{found-here, none-before, none-after, none-left}
 use borrow.Author.Needs.{needs}
 use Rattle.order_find.proofs.find_first.Statement.{statement}
 use Rattle.order_find.proofs.find_first.Tie as tie

@@ -4,7 +4,7 @@ use mathlib.Core.Path.{sym, subst}
 use Rattle.terms.specs.declared.Form.the-variants.{Counted as counted}
 use Rattle.layout.specs.Stores.{Has}
 use Rattle.store.proofs.Slots.{slot-within}
-use Rattle.order_find.proofs.Found.{entry-has}
+use Rattle.order_halves.proofs.Looked.{entry-has}
 use borrow.Author.Needs.{needs}
 use Rattle.order_find.proofs.root_guess.Statement.{statement}
 use Rattle.order_find.proofs.root_guess.Tie as tie

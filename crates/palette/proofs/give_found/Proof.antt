@@ -1,7 +1,7 @@
 -- `palette::give_found` meets its contract: what was found leads. Assumes nothing.
 use Rattle.layout.specs.Stores.{storeOf}
 use Rattle.palette_near.proofs.Near.{led-zeros}
-use Rattle.palette.proofs.Passing.{left-start}
+use Rattle.palette_give.proofs.Passing.{left-start}
 use borrow.Author.Needs.{needs}
 use Rattle.palette.proofs.give_found.Statement.{statement}
 use Rattle.palette.proofs.give_found.Tie as tie

@@ -3,8 +3,9 @@ use mathlib.Core.Path.{ap, sym, _∙_}
 use lib.ListN.{length}
 use borrow.Author.Tests.{not-true, not-false}
 use Rattle.palette_rules.specs.Palette.{fittedTogether}
-use Rattle.palette.specs.Parts.{plannedIn}
-use Rattle.palette.proofs.Answering.{gives-as, torn-list, first-refused, all-given, kept-size}
+use Rattle.palette_give.specs.Together.{plannedIn}
+use Rattle.palette_give.proofs.Giving.{gives-as}
+use Rattle.palette.proofs.Answering.{torn-list, first-refused, all-given, kept-size}
 use borrow.Author.Needs.{needs}
 use Rattle.palette.proofs.palette.Statement.{statement}
 use Rattle.palette.proofs.palette.Tie as tie

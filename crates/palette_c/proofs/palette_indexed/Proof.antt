@@ -5,7 +5,7 @@ use lib.ListN.{length}
 use borrow.Author.Tests.{not-true, not-false}
 use Rattle.palette.proofs.Answering.{palette-as-many, palette-not-as-many}
 use Rattle.contracts.proofs.Refusing.{list-torn}
-use Rattle.palette_c.proofs.Exported.{palette-as, palette-refusal, palette-told-by}
+use Rattle.palette_c.proofs.Exported.{palette-as, palette-refusal, palette-told}
 use borrow.Author.Needs.{needs}
 use Rattle.palette_c.proofs.palette_indexed.Statement.{statement}
 use Rattle.palette_c.proofs.palette_indexed.Tie as tie
@@ -22,7 +22,7 @@ start-from-whole-keys c = c .before .before .before .before .before
 
 returns : tie.Need-returns
 returns c = let a = start-from-whole-keys (c .before) .args in
-    palette-told-by (palette-refusal 12 (a .room .now) (a .length .now) (list-torn (a .store .now) (some (a .index .now)) (a .version) (a .keys .now) (length (a .room .now)) (sym (c .before .whole-keys .ensures) ∙ not-true _ (c .if1 .taken))))
+    palette-told (palette-refusal 12 (a .room .now) (a .length .now) (list-torn (a .store .now) (some (a .index .now)) (a .version) (a .keys .now) (length (a .room .now)) (sym (c .before .whole-keys .ensures) ∙ not-true _ (c .if1 .taken))))
 
 as-many-requires : tie.Need-as-many-requires
 as-many-requires c κs = search needs
@@ -36,7 +36,7 @@ returns-2 c =
     let else1 = after-as-many .before in
     let after-whole-keys = else1 .before in
     let a = start-from-whole-keys after-whole-keys .args in
-    palette-told-by (palette-refusal 1 (a .room .now) (a .length .now)
+    palette-told (palette-refusal 1 (a .room .now) (a .length .now)
     (palette-not-as-many (a .store .now) (a .index .now) (a .version) (a .keys .now) (length (a .room .now)) (sym (after-whole-keys .whole-keys .ensures) ∙ not-false _ (else1 .if1 .left)) (sym (after-as-many .as-many .ensures) ∙ not-true _ (c .if2 .taken))))
 
 palette-by-requires : tie.Need-palette-by-requires
@@ -53,7 +53,7 @@ returns-3 c =
     let else1 = after-as-many .before in
     let after-whole-keys = else1 .before in
     let a = start-from-whole-keys after-whole-keys .args in
-    palette-told-by (palette-as (palette-as-many (a .store .now) (a .index .now) (a .version) (a .keys .now) (length (a .room .now)) (sym (after-whole-keys .whole-keys .ensures) ∙ not-false _ (else1 .if1 .left)) (sym (after-as-many .as-many .ensures) ∙ not-false _ (else2 .if2 .left)))
+    palette-told (palette-as (palette-as-many (a .store .now) (a .index .now) (a .version) (a .keys .now) (length (a .room .now)) (sym (after-whole-keys .whole-keys .ensures) ∙ not-false _ (else1 .if1 .left)) (sym (after-as-many .as-many .ensures) ∙ not-false _ (else2 .if2 .left)))
     (after-palette-by .palette-by .ensures))
 
 pub palette-indexed-spec : {M : Type 1} → statement M

@@ -4,7 +4,7 @@ use mathlib.Core.Option.{some}
 use borrow.Author.Tests.{not-true, not-false}
 use Rattle.contracts.proofs.Refusing.{key-not-32, key-not-as-many}
 use Rattle.read.proofs.Answers.{key-as-many}
-use Rattle.read_c.proofs.Exported.{key-as, key-refusal, key-told-by}
+use Rattle.meaning.proofs.Told.{exported-as, exported-refusal}
 use borrow.Author.Needs.{needs}
 use Rattle.read_c.proofs.get_indexed.Statement.{statement}
 use Rattle.read_c.proofs.get_indexed.Tie as tie
@@ -19,7 +19,7 @@ start-from-as-many c = c .before .before .before .before .before
 returns : tie.Need-returns
 returns c =
     let a = c .before .before .before .before .args in
-    key-told-by (key-refusal 12 (a .found .now) (key-not-32 (a .store .now) (some (a .index .now)) (a .version) (a .key .now) (c .if1 .taken)))
+    record { exported = exported-refusal (key-not-32 (a .store .now) (some (a .index .now)) (a .version) (a .key .now) (c .if1 .taken)) }
 
 as-many-requires : tie.Need-as-many-requires
 as-many-requires c κs = search needs
@@ -31,8 +31,10 @@ returns-2 : tie.Need-returns-2
 returns-2 c =
     let after-as-many = c .before in
     let a = start-from-as-many after-as-many .args in
-    key-told-by (key-refusal 1 (a .found .now)
-    (key-not-as-many (a .store .now) (a .index .now) (a .version) (a .key .now) (after-as-many .before .if1 .left) (sym (after-as-many .as-many .ensures) ∙ not-true _ (c .if2 .taken))))
+    record {
+      exported = exported-refusal
+          (key-not-as-many (a .store .now) (a .index .now) (a .version) (a .key .now) (after-as-many .before .if1 .left) (sym (after-as-many .as-many .ensures) ∙ not-true _ (c .if2 .taken)));
+    }
 
 get-by-requires : tie.Need-get-by-requires
 get-by-requires c κs = search needs
@@ -42,8 +44,10 @@ returns-3 c =
     let else2 = c .before .before in
     let after-as-many = else2 .before in
     let a = start-from-as-many after-as-many .args in
-    key-told-by (key-as (key-as-many (a .store .now) (a .index .now) (a .version) (a .key .now) (after-as-many .before .if1 .left) (sym (after-as-many .as-many .ensures) ∙ not-false _ (else2 .if2 .left)))
-    (c .get-by .ensures))
+    record {
+      exported = exported-as (key-as-many (a .store .now) (a .index .now) (a .version) (a .key .now) (after-as-many .before .if1 .left) (sym (after-as-many .as-many .ensures) ∙ not-false _ (else2 .if2 .left)))
+          (c .get-by .ensures);
+    }
 
 pub get-indexed-spec : {M : Type 1} → statement M
 get-indexed-spec =

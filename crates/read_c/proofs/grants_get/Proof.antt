@@ -1,6 +1,6 @@
 -- `read_c::grants_get` meets its contract: a table without entries is the scan. Assumes nothing.
 use Rattle.read.proofs.Answers.{key-plain}
-use Rattle.read_c.proofs.Exported.{key-as, key-told}
+use Rattle.meaning.proofs.Told.{exported-as}
 use borrow.Author.Needs.{needs}
 use Rattle.read_c.proofs.grants_get.Statement.{statement}
 use Rattle.read_c.proofs.grants_get.Tie as tie
@@ -14,7 +14,7 @@ get-by-requires c κs = search needs
 returns : tie.Need-returns
 returns c =
     let a = c .before .before .before .before .before .args in
-    key-told (key-as (key-plain (a .store .now) (a .version) (a .key .now)) (c .get-by .ensures))
+    record { exported = exported-as (key-plain (a .store .now) (a .version) (a .key .now)) (c .get-by .ensures) }
 
 pub grants-get-spec : {M : Type 1} → statement M
 grants-get-spec = tie.close (tie.spec slice-aggregate-get-by get-by-requires returns)

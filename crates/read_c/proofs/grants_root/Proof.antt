@@ -1,6 +1,6 @@
 -- `read_c::grants_root` meets its contract: a table without entries is the scan. Assumes nothing.
 use Rattle.read.proofs.Answers.{root-plain}
-use Rattle.read_c.proofs.Exported.{root-as, root-told}
+use Rattle.meaning.proofs.Told.{exported-as}
 use borrow.Author.Needs.{needs}
 use Rattle.read_c.proofs.grants_root.Statement.{statement}
 use Rattle.read_c.proofs.grants_root.Tie as tie
@@ -14,7 +14,7 @@ root-by-requires c κs = search needs
 returns : tie.Need-returns
 returns c =
     let a = c .before .before .before .before .args in
-    root-told (root-as (root-plain (a .store .now) (a .version)) (c .root-by .ensures))
+    record { exported = exported-as (root-plain (a .store .now) (a .version)) (c .root-by .ensures) }
 
 pub grants-root-spec : {M : Type 1} → statement M
 grants-root-spec = tie.close (tie.spec slice-aggregate-root-by root-by-requires returns)

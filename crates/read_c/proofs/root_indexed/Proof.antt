@@ -3,7 +3,7 @@ use mathlib.Core.Path.{sym, _∙_}
 use borrow.Author.Tests.{not-true, not-false}
 use Rattle.contracts.proofs.Refusing.{root-not-as-many}
 use Rattle.read.proofs.Answers.{root-as-many}
-use Rattle.read_c.proofs.Exported.{root-as, root-refusal, root-told-by}
+use Rattle.meaning.proofs.Told.{exported-as, exported-refusal}
 use borrow.Author.Needs.{needs}
 use Rattle.read_c.proofs.root_indexed.Statement.{statement}
 use Rattle.read_c.proofs.root_indexed.Tie as tie
@@ -20,8 +20,10 @@ start-from-as-many c = c .before .before .before
 
 returns : tie.Need-returns
 returns c = let a = start-from-as-many (c .before) .args in
-    root-told-by (root-refusal 1 (a .root .now)
-    (root-not-as-many (a .store .now) (a .index .now) (a .version) (sym (c .before .as-many .ensures) ∙ not-true _ (c .if1 .taken))))
+    record {
+      exported = exported-refusal
+          (root-not-as-many (a .store .now) (a .index .now) (a .version) (sym (c .before .as-many .ensures) ∙ not-true _ (c .if1 .taken)));
+    }
 
 root-by-requires : tie.Need-root-by-requires
 root-by-requires c κs = search needs
@@ -31,8 +33,10 @@ returns-2 c =
     let else1 = c .before .before in
     let after-as-many = else1 .before in
     let a = start-from-as-many after-as-many .args in
-    root-told-by (root-as (root-as-many (a .store .now) (a .index .now) (a .version) (sym (after-as-many .as-many .ensures) ∙ not-false _ (else1 .if1 .left)))
-    (c .root-by .ensures))
+    record {
+      exported = exported-as (root-as-many (a .store .now) (a .index .now) (a .version) (sym (after-as-many .as-many .ensures) ∙ not-false _ (else1 .if1 .left)))
+          (c .root-by .ensures);
+    }
 
 pub root-indexed-spec : {M : Type 1} → statement M
 root-indexed-spec =

@@ -2,7 +2,7 @@
 use mathlib.Core.Path.{sym, _∙_}
 use borrow.Author.Tests.{not-true, not-false}
 use Rattle.read_position.proofs.Answers.{position-as-many, position-not-as-many}
-use Rattle.read_counts_c.proofs.Exported.{grant-as, grant-refusal, grant-told-by}
+use Rattle.meaning.proofs.Told.{exported-as, exported-refusal}
 use borrow.Author.Needs.{needs}
 use Rattle.read_counts_c.proofs.at_indexed.Statement.{statement}
 use Rattle.read_counts_c.proofs.at_indexed.Tie as tie
@@ -19,8 +19,10 @@ start-from-as-many c = c .before .before .before
 
 returns : tie.Need-returns
 returns c = let a = start-from-as-many (c .before) .args in
-    grant-told-by (grant-refusal 1 (a .grant .now)
-    (position-not-as-many (a .store .now) (a .index .now) (a .version) (a .position) (sym (c .before .as-many .ensures) ∙ not-true _ (c .if1 .taken))))
+    record {
+      exported = exported-refusal
+          (position-not-as-many (a .store .now) (a .index .now) (a .version) (a .position) (sym (c .before .as-many .ensures) ∙ not-true _ (c .if1 .taken)));
+    }
 
 at-by-requires : tie.Need-at-by-requires
 at-by-requires c κs = search needs
@@ -30,8 +32,10 @@ returns-2 c =
     let else1 = c .before .before in
     let after-as-many = else1 .before in
     let a = start-from-as-many after-as-many .args in
-    grant-told-by (grant-as (position-as-many (a .store .now) (a .index .now) (a .version) (a .position) (sym (after-as-many .as-many .ensures) ∙ not-false _ (else1 .if1 .left)))
-    (c .at-by .ensures))
+    record {
+      exported = exported-as (position-as-many (a .store .now) (a .index .now) (a .version) (a .position) (sym (after-as-many .as-many .ensures) ∙ not-false _ (else1 .if1 .left)))
+          (c .at-by .ensures);
+    }
 
 pub at-indexed-spec : {M : Type 1} → statement M
 at-indexed-spec =

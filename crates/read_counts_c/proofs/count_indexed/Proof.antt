@@ -2,7 +2,7 @@
 use mathlib.Core.Path.{sym, _∙_}
 use borrow.Author.Tests.{not-true, not-false}
 use Rattle.read_number.proofs.Answers.{number-as-many, number-not-as-many}
-use Rattle.read_counts_c.proofs.Exported.{number-as, number-refusal, number-told-by}
+use Rattle.meaning.proofs.Told.{exported-as, exported-refusal}
 use borrow.Author.Needs.{needs}
 use Rattle.read_counts_c.proofs.count_indexed.Statement.{statement}
 use Rattle.read_counts_c.proofs.count_indexed.Tie as tie
@@ -19,8 +19,10 @@ start-from-as-many c = c .before .before .before
 
 returns : tie.Need-returns
 returns c = let a = start-from-as-many (c .before) .args in
-    number-told-by (number-refusal 1 (a .count .now)
-    (number-not-as-many (a .store .now) (a .index .now) (a .version) (sym (c .before .as-many .ensures) ∙ not-true _ (c .if1 .taken))))
+    record {
+      exported = exported-refusal
+          (number-not-as-many (a .store .now) (a .index .now) (a .version) (sym (c .before .as-many .ensures) ∙ not-true _ (c .if1 .taken)));
+    }
 
 count-by-requires : tie.Need-count-by-requires
 count-by-requires c κs = search needs
@@ -30,8 +32,10 @@ returns-2 c =
     let else1 = c .before .before in
     let after-as-many = else1 .before in
     let a = start-from-as-many after-as-many .args in
-    number-told-by (number-as (number-as-many (a .store .now) (a .index .now) (a .version) (sym (after-as-many .as-many .ensures) ∙ not-false _ (else1 .if1 .left)))
-    (c .count-by .ensures))
+    record {
+      exported = exported-as (number-as-many (a .store .now) (a .index .now) (a .version) (sym (after-as-many .as-many .ensures) ∙ not-false _ (else1 .if1 .left)))
+          (c .count-by .ensures);
+    }
 
 pub count-indexed-spec : {M : Type 1} → statement M
 count-indexed-spec =

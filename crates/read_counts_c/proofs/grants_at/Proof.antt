@@ -1,6 +1,6 @@
 -- `read_counts_c::grants_at` meets its contract: a table without entries is the scan. Assumes nothing.
 use Rattle.read_position.proofs.Answers.{position-plain}
-use Rattle.read_counts_c.proofs.Exported.{grant-as, grant-told}
+use Rattle.meaning.proofs.Told.{exported-as}
 use borrow.Author.Needs.{needs}
 use Rattle.read_counts_c.proofs.grants_at.Statement.{statement}
 use Rattle.read_counts_c.proofs.grants_at.Tie as tie
@@ -14,7 +14,7 @@ at-by-requires c κs = search needs
 returns : tie.Need-returns
 returns c =
     let a = c .before .before .before .before .args in
-    grant-told (grant-as (position-plain (a .store .now) (a .version) (a .position)) (c .at-by .ensures))
+    record { exported = exported-as (position-plain (a .store .now) (a .version) (a .position)) (c .at-by .ensures) }
 
 pub grants-at-spec : {M : Type 1} → statement M
 grants-at-spec = tie.close (tie.spec slice-aggregate-at-by at-by-requires returns)

@@ -3,7 +3,7 @@ use native.Mathlib.Omega.{arith}
 use mathlib.Core.Path.{subst}
 use Rattle.layout.specs.Stores.{storeOf}
 use Rattle.ordered.specs.Ordered.{nodeKey}
-use Rattle.order_find.specs.Finds.{First}
+use Rattle.order_halves.specs.First.{First}
 use Rattle.rescue_root.proofs.Exact.{exact-located, none-own}
 use borrow.Author.Needs.{needs}
 use Rattle.rescue_root.proofs.newest_by.Statement.{statement}

@@ -5,7 +5,7 @@ use Rattle.terms.specs.Fields.{allZero}
 use Rattle.layout.specs.Slots.{slotOf, bitsIn}
 use Rattle.store.proofs.Slots.{slot-within}
 use Rattle.meaning.specs.Sight.{agreesRoot}
-use Rattle.lookup.specs.Lookup.{covers}
+use Rattle.lifetime.specs.Lifetime.{covers}
 use Rattle.sights.specs.Sights.{isSpoilt}
 use Rattle.sights.proofs.Spoilt.{apart, agreed, below-root, elsewhen, by-zeros}
 use borrow.Author.Tests.{not-true, not-false}

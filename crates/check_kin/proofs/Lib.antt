@@ -1,3 +1,0 @@
-pub mod Scanning
-pub mod Holding
-pub mod Roots

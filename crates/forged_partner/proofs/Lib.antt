@@ -1,0 +1,2 @@
+pub mod Partnering
+pub mod Scanning
