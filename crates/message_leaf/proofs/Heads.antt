@@ -86,10 +86,6 @@ last-failed false b = refl
 last-failed true false = refl
 last-failed true true = refl
 
-last-passed : (a b : Bool) → allOf (a ∷ b ∷ true ∷ []) ≡ allOf (a ∷ b ∷ [])
-unfolding allOf
-last-passed a b = refl
-
 module _ {x : Bytes} {at : ℕ} {key value op : Part} (bytes : All Byte x) (s : Stands 1 x at key) (e : key .found ≡ true)
     (t : Stands 2 x (key .to) value) (f : value .found ≡ true) (u : Stands 3 x (value .to) op) (g : op .found ≡ true) where
   abbrev shown : Shown

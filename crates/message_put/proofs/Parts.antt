@@ -128,9 +128,6 @@ module _ {n : ℕ} {p : Bytes} {at : ℕ} {s t : Bytes} {i next : ℕ} (w : Path
     is = whole ∙ sym (append-assoc (w .done) inner more);
   }
 
-  pub pathing-length : length t ≡ length s
-  pathing-length = puts-length (w .puts) (omega (arith, ap length whole, length-append (w .done) (inner ++ more)))
-
 pub pathing-done : {n : ℕ} {p : Bytes} {at : ℕ} {s t : Bytes} {i next : ℕ} (w : Pathing n p at s t i next) → n ≤ i → n ≡ stepCount p →
     Puts at (path (presenceIn p .steps)) s t next
 unfolding presenceIn

@@ -182,12 +182,6 @@ few-size p h = go (p .found)
     go false = omega arith
     go true = omega arith
 
-pub flag-there : (p : Shown) (n : ℕ) → p .found ≡ true → n ≡ flagOf p n
-flag-there p n e = rw e
-
-pub flag-none : (p : Shown) (n : ℕ) → p .found ≡ false → 0 ≡ flagOf p n
-flag-none p n e = rw e
-
 pub size-is : (a : Absent) → absentSize a ≡ 40 + sizeOf (a .left) + sizeOf (a .right)
 unfolding absentSize
 size-is a = refl

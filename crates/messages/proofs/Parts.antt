@@ -53,9 +53,6 @@ module _ (sha : Bytes → Bytes) where
   abbrev lentLeaves : Lent → List Bytes
   lentLeaves lent = lent .first .key ∷ lent .first .value ∷ lent .second .key ∷ lent .second .value ∷ []
 
-  abbrev bytesOf : List Part → List Bytes
-  bytesOf parts = map (λ p. p .bytes) parts
-
   unlent-is : (leaf : Leaf) → unlent leaf ≡ true → ([] ≡ leaf .key) × ([] ≡ leaf .value)
   unfolding unlent
   unlent-is leaf e =
