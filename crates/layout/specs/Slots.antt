@@ -1,5 +1,5 @@
--- Document 01, 'Bytes', slot, and 2026-09's counted form: what a slot's bytes say, and the bytes that say it. How many they
--- are tells the form. Retired-since, children's versions and a leaf's key are matters of soundness. Assumes nothing.
+-- Document 01, 'Bytes', slot, and 2026-09's counted form: what a slot's bytes say, and the bytes that say it. How many
+-- tells the form; retired-since, children's versions and a leaf's key are matters of soundness. Assumes nothing.
 use Prim.Native.Nat.{ℕ, _+_, _-_, _≤_}
 use mathlib.Core.Path.{_≡_}
 use mathlib.Core.Bool.{Bool, true, false, cond, _||_}
@@ -30,7 +30,7 @@ pub use Rattle.terms.specs.Heads.{bitsIn, versionIn, sinceIn}
 pub use Rattle.terms.specs.Records.{recordOf}
 use Rattle.layout.specs.Sizes.{slotSize, kindAt, grantSize, keyAt, valueAt, leftAt, rightAt}
 
--- In a slot of n bytes a leaf says length 112 and kind 2, an inner record length n and kind 3, or 5 in the counted form.
+-- In a slot of n bytes a leaf says length 112 and kind 2, an inner record length n and kind 3, in the counted form 5.
 abbrev pub lengthOf : ℕ → Body → ℕ
 lengthOf n (leafBody k x) = 112
 lengthOf n (innerBody l r) = n

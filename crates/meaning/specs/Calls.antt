@@ -62,7 +62,8 @@ module _ (leafHash innerHash : Bytes → Bytes → Bytes) where
   publish new old now st =
       cond (ltb (freeSlots (st .slots)) (length (newRecords leafHash innerHash new now)))
       (refuse 7 st)
-      (accept (appliedAs new (hash leafHash innerHash (unversioned now)) (length (newRecords leafHash innerHash new now)))
+      (accept
+      (appliedAs new (hash leafHash innerHash (unversioned now)) (length (newRecords leafHash innerHash new now)))
       (settled leafHash innerHash new old now st))
 
   -- A batch makes version `new` of the latest tree.

@@ -1,4 +1,4 @@
--- Document 02, 2026-09: the number of grants of a version and the grant at a position, by counts alone, for every store.
+-- Document 02, 2026-09: the number of grants of a version, the grant at a position, by counts alone, for every store.
 use Prim.Native.Nat.{ℕ, zero, suc, _+_, _-_}
 use mathlib.Core.Bool.{cond}
 use mathlib.Core.List.{List, [], _∷_}

@@ -26,7 +26,7 @@ refusalOf lostRecord = 17
 refusalOf (spoiltRecord i) = beside 3 i
 refusalOf strayLeaf = 3
 
--- What a read sees at a place: trouble; no child; a leaf; or an inner node, with its children's hashes and what is there.
+-- What a read sees at a place: trouble; no child; a leaf; an inner node, with its children's hashes and what is seen.
 pub data Seen : Type 0 where
   stoppedBy : Trouble → Seen
   gap : Seen

@@ -63,8 +63,8 @@ Lives v r = (r .version ≤ v) × (retiredBy v r ≡ false)
 
 module _ (leafHash innerHash : Bytes → Bytes → Bytes) where
   -- A tree stands at a place: children are found at their version and place, leaves' keys begin with their place,
-  -- stored hashes and counts (2026-09) are the children's, and no inner node's only child is a leaf. A present child that
-  -- is not found is no tree, so its version and hash are not what the record says.
+  -- stored hashes and counts (2026-09) are the children's, and no inner node's only child is a leaf. A present child
+  -- that is not found is no tree, so its version and hash are not what the record says.
   abbrev pub Stands : Store → Place → VTree → Type 0
   Stands st p vnone = Unit {0}
   Stands st p (vleaf v g) = Found st v p (leafBody (g .key) (g .value)) × (begins p (g .key) ≡ true)

@@ -99,8 +99,8 @@ sameGrants [] (h ∷ hs) = false
 sameGrants (g ∷ gs) [] = false
 sameGrants (g ∷ gs) (h ∷ hs) = sameBytes (g .key) (h .key) && sameBytes (g .value) (h .value) && sameGrants gs hs
 
--- A node keeps its version if the old tree has a node at that place with the same grants below it; otherwise it gets the
--- new version. `old` is the old tree at that place: where no node is, there are no grants.
+-- A node keeps its version if the old tree has a node at that place with the same grants below it; otherwise it gets
+-- the new version. `old` is the old tree at that place: where no node is, there are no grants.
 unfoldable pub nodeVersion : ℕ → VTree → List Grant → ℕ
 nodeVersion new old gs = cond (sameGrants (grantsIn old) gs) (topVersion old) new
 
@@ -108,7 +108,8 @@ abbrev pub versioned : ℕ → VTree → Tree → VTree
 versioned new old none = vnone
 versioned new old (leaf g) = vleaf (nodeVersion new old (g ∷ [])) g
 versioned new old (inner l r) =
-    vinner (nodeVersion new old (grants l ++ grants r)) (versioned new (kid left old) l) (versioned new (kid right old) r)
+    vinner (nodeVersion new old (grants l ++ grants r)) (versioned new (kid left old) l)
+    (versioned new (kid right old) r)
 
 -- The root node, if any, always gets the new version.
 abbrev pub newRoot : ℕ → VTree → VTree

@@ -25,7 +25,7 @@ K =
 abbrev pub marked : Bytes → Bytes
 marked m = m ++ (128 ∷ replicate ((119 - length m % 64) % 64) 0)
 
--- 5.1.1: then the message's number of bits in 64 bits, modulo 2 ^ 64: no longer message is hashed, or held by a machine.
+-- 5.1.1: then the message's number of bits in 64 bits, modulo 2 ^ 64: no longer message is hashed, nor can one be held.
 unfoldable pub padded : Bytes → Bytes
 padded m = marked m ++ big 8 (length m * 8)
 

@@ -1,4 +1,4 @@
--- Document 01, 'Bytes' and 'The tree of a set of grants': byte strings, keys, places, the order of keys. Assumes nothing.
+-- Document 01, 'Bytes', 'The tree of a set of grants': byte strings, keys, places, the order of keys. Assumes nothing.
 use Prim.Native.Nat.{ℕ, zero, suc, _+_, _*_, _<_, _/_, _%_}
 use mathlib.Core.Path.{_≡_}
 use mathlib.Core.Bool.{Bool, true, false, cond, not, _&&_, _||_, Bool·beq}
