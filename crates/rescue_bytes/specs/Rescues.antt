@@ -14,7 +14,8 @@ use Rattle.meaning.specs.Answers.{Exports}
 use Rattle.nodehash.specs.Node.{leafHash, innerHash}
 use Rattle.layout.specs.Headers.{sizeRight}
 use Rattle.layout.specs.Stores.{storeOf, storeBytes}
-use Rattle.rescue_rules.specs.Rescue.{rescued, Counts, counts, Run, Longest}
+use Rattle.rescue_rules.specs.Rescue.{rescued, Counts, Run, Longest}
+use Rattle.rescue_bytes.specs.Numbers.{numbersOf}
 
 -- The slots that bytes hold.
 abbrev pub slotsIn : Bytes → List Slot
@@ -38,7 +39,7 @@ pub record Report : Type 0 where
 -- Of the source s and a target left as t, with a run that begins at f: the numbers are those of the two buffers
 -- compared.
 abbrev pub reportOf : Bytes → ℕ → Bytes → Report
-reportOf s f t = record { first = f; numbers = counts (slotsIn s) (slotsIn t) }
+reportOf s f t = record { first = f; numbers = numbersOf s t }
 
 -- Rescuing the source s, with oldest and latest given by the caller, into a target that holds the bytes old gives this
 -- answer and leaves these bytes of the target.
