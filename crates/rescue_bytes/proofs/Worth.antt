@@ -141,6 +141,6 @@ worth {oldest} {latest} {s} h n (rescues {f = f} {m = m} {t = t} size o l e) =
             λ same. ap (λ r. r .retired) (used-eq x q (sym (b .1) ∙ slot-at counted s i (inside s i (b .0)) ∙ ap slotOf same
                 ∙ sym (slot-at counted t i (inside t i (a .0))) ∙ a .1)),
           );
-      adds-up = rw (compared, slots) (numbers .0);
-      kept-adds-up = rw (compared, slots) (numbers .1);
+      adds-up = subst (λ c. c .same + c .other + c .out + freeSlots (slotsIn s) ≡ length (slotsIn s)) (sym compared) (rw slots (numbers .0));
+      kept-adds-up = subst (λ c. c .same + c .other + freeSlots (slotsIn t) ≡ length (slotsIn s)) (sym compared) (rw slots (numbers .1));
     }
