@@ -1,5 +1,4 @@
--- Document 01, 'Bytes', batch record: what a batch asks for, by the bytes that ask it; the order of its keys is judged
--- after its form ('Numbers of refusal', 4 and 5). Assumes nothing.
+-- Document 01, 'Bytes', batch record: what a batch asks for, by the bytes that ask it. Assumes nothing.
 use Prim.Native.Nat.{ℕ, _≤_}
 use mathlib.Core.Path.{_≡_}
 use mathlib.Core.List.{List, [], _∷_, map}

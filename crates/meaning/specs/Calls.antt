@@ -1,5 +1,4 @@
--- Document 01, 'Numbers of refusal', and 2026-13: what apply and prune answer of a sound store and leave of it. 1, 2, 3
--- and 12 are refused before. Assumes nothing.
+-- Document 01, 'Numbers of refusal', and 2026-13: what apply and prune answer of a sound store. Assumes nothing.
 use Prim.Native.Nat.{ℕ, _-_}
 use mathlib.Core.Bool.{Bool, true, cond, _&&_}
 use mathlib.Core.List.{List, [], _∷_}

@@ -1,5 +1,4 @@
--- Document 01, 'Reading and proving', with 2026-03 and 2026-07: the neighbours of a key, and the proof that is written,
--- for every store. Assumes nothing.
+-- Document 01, 'Reading and proving', with 2026-03 and 2026-07: a key's neighbours, and its proof, for every store.
 use Prim.Native.Nat.{ℕ, _+_, _*_}
 use mathlib.Core.Path.{_≡_}
 use mathlib.Core.Bool.{Bool, true, false, cond, _&&_, not, Bool·beq}
