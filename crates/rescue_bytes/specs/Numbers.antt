@@ -1,4 +1,4 @@
--- Document 02, request 2026-08: the three numbers are 'those of the two buffers compared', slot by slot. Assumes nothing.
+-- Document 02, request 2026-08: the three numbers are those of 'the two buffers compared', slot by slot.
 use Prim.Native.Nat.{ℕ, zero, suc}
 use mathlib.Core.Bool.{cond}
 use lib.ListN.{length, take, drop}
