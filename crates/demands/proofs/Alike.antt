@@ -1,7 +1,6 @@
 -- Versions with the same tree, of two sound stores or of one, read alike: a read, a proof, a palette and a comparison go by the tree. Assumes
 -- nothing.
 use Prim.Native.Nat.{ℕ, _*_}
-use native.Mathlib.Omega.{arith}
 use mathlib.Core.Path.{_≡_, refl, ap, ap₂, sym, _∙_, subst, fun-ext}
 use mathlib.Core.Bool.{cond}
 use mathlib.Core.List.{List}
@@ -23,9 +22,9 @@ use Rattle.changed.specs.Changes.{Item, changed, items, itemSize, listBytes}
 use Rattle.changed.specs.Visits.{visits}
 use Rattle.changed.specs.Compare.{compare}
 use Rattle.nodehash.specs.Node.{leafHash, innerHash}
-use Rattle.layout.specs.Headers.{Headed, refusal, header}
 use Rattle.layout.specs.Stores.{storeOf}
-use Rattle.promises.specs.Calls.{SoundBytes, Does, wrong-header, not-sound, refuses, accepts}
+use Rattle.promises.specs.Calls.{SoundBytes, Does, not-checked, refuses, accepts}
+use Rattle.promises.proofs.Calls.{sound-passes}
 use Rattle.palette_rules.specs.Palette.{wholeKeys, keysIn, inTurn, fittedTogether, palette}
 use Rattle.move_rules.proofs.Theorems.{comparedBy, by-trees}
 use Rattle.proofrecords.specs.ProofBytes.{proofBytes}
@@ -37,11 +36,7 @@ use Rattle.demands.proofs.Reading.{sound-reads-for}
 
 -- a sound store is asked itself
 asked : {A : Type 0} {call : Store → Result A} {s t : Bytes} {a : Answer A} → SoundBytes s → Does call s a t → a ≡ call (storeOf s) .answer
-asked w (wrong-header e) = headed-not e (w .headed)
-  where
-    headed-not : {B : Type 0} {h : Headed} {m c o l : ℕ} → h ≡ refusal m → h ≡ header c o l → B
-    headed-not e f = let g = sym e ∙ f in let z : _≡_ {A = ℕ} 0 1 = cc in absurd (omega arith)
-asked w (not-sound e n) = absurd (n (w .sound))
+asked w (not-checked c n) = sound-passes w c n
 asked w (refuses x e) = sym e
 asked w (accepts x e) = sym e
 

@@ -24,14 +24,15 @@ use Rattle.histories.proofs.Histories.{Keeps, keeps-holds, keeps-held, keeps-fo
 use Rattle.histories.proofs.Theorems.{records-stand-in-their-lifetimes, paths-have-at-most-256-steps}
 use Rattle.nodehash.specs.Node.{leafHash, innerHash}
 use Rattle.layout.specs.Sizes.{roomOf}
-use Rattle.layout.specs.Headers.{Headed, refusal, header, sizeRight}
+use Rattle.layout.specs.Headers.{sizeRight}
 use Rattle.layout.specs.Stores.{storeIn, storeOf, storeBytes}
 use Rattle.layout.proofs.Headers.{size-right-of, size-says}
 use Rattle.layout.proofs.Headers as headers
 use Rattle.layout.proofs.Stores.{store-back}
 use Rattle.batch.specs.Asked.{Asks}
 use Rattle.contracts.specs.Format.{formatAnswer, formatBytes}
-use Rattle.promises.specs.Calls.{SoundBytes, wrong-header, not-sound, refuses, accepts, Does}
+use Rattle.promises.specs.Calls.{SoundBytes, not-checked, refuses, accepts, Does}
+use Rattle.promises.proofs.Calls.{sound-passes}
 use Rattle.rescue_rules.specs.Rescue.{sourceTree}
 use Rattle.rescue_bytes.specs.Rescues as rescue
 use Rattle.rescue_bytes.specs.Rescues.{slotsIn, Report, reportBytes}
@@ -92,18 +93,13 @@ fresh-said : (s : Bytes) → sizeRight counted (length s) ≡ true → storeByte
 unfolding formatBytes
 fresh-said s e = rw e
 
--- a header is refused or accepted
-pub not-headed : {A : Type 0} {h : Headed} {m c o l : ℕ} → h ≡ refusal m → h ≡ header c o l → A
-not-headed e f = let z : _≡_ {A = ℕ} 0 1 = cc in absurd (omega arith)
-
 -- a call that tests soundness, refused or accepted
 export-keeps : {A : Type 0} {call : Store → Result A} {told : A → Bytes} {s f t g : Bytes} {r : ℕ} {es now : List Entry} →
     Exports (λ a. Does call s a t) told f r g → Keeping s es → ((m : ℕ) → call (storeOf s) .answer ≡ refused m → m ≡ 0 → ⊥) →
     call (storeOf s) .store .form ≡ counted →
     ((a : A) → call (storeOf s) .answer ≡ accepted a → Keeps leafHash innerHash (call (storeOf s) .store) now) →
     Keeping t (cond (eqb r 0) now es)
-export-keeps (exports-refusal (wrong-header e)) k never form then = not-headed e (sound-bytes k .headed)
-export-keeps (exports-refusal (not-sound e n)) k never form then = absurd (n (k .keeps .sound))
+export-keeps (exports-refusal (not-checked c n)) k never form then = sound-passes (sound-bytes k) c n
 export-keeps (exports-refusal {n = m} (refuses w e)) k never form then = rw (ne-eqb m 0 (never m e)) k
 export-keeps {now = now} (exports-answer {a} (accepts w e)) k never form then = of-store _ now form (then a e)
 

@@ -104,7 +104,7 @@ module _ (s : Bytes) (table : List ℕ) (v : ℕ) (many : length table ≡ roomO
   fits = eq-eqb (length table) (roomOf counted (length s)) many
 
   headed : {A : Type 0} {a b : Answer A} → a ≡ b → byHeader (headerWith s table) a ≡ byHeader (headerOf counted s) b
-  unfolding headerWith
+  unfolding headerWith asMany
   headed {a = a} e =
       ap (λ c. byHeader (cond c (headerOf counted s) (refusal 1)) a) fits ∙ ap (byHeader (headerOf counted s)) e
 
@@ -188,7 +188,7 @@ module _ (s : Bytes) (table : List ℕ) where
         stopped-past (rowsBy s table (headerRows s)) early (right-lengths many ok, (w, tt)) (rest c o l e)
 
     by-header : Deserved (numberOf (byHeader (headerWith s table) a))
-    unfolding headerWith
+    unfolding headerWith asMany
     by-header = go (asMany s table) refl
       where
         go : (b : Bool) → asMany s table ≡ b → Deserved (numberOf (byHeader (cond b (headerOf counted s) (refusal 1)) a))

@@ -11,9 +11,9 @@ use Rattle.promises.specs.Headed.{byHeader, asMany, headerWith}
 
 module _ {A : Type 0} (a : Answer A) (s : Bytes) (table : List ℕ) where
   pub as-many : asMany s table ≡ true → byHeader (headerOf counted s) a ≡ byHeader (headerWith s table) a
-  unfolding headerWith
+  unfolding headerWith asMany
   as-many e = rw e refl
 
   pub not-as-many : asMany s table ≡ false → refused 1 ≡ byHeader (headerWith s table) a
-  unfolding headerWith
+  unfolding headerWith asMany
   not-as-many e = rw e refl

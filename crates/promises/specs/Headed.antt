@@ -1,4 +1,4 @@
--- A read tests the header before anything else. Assumes nothing.
+-- Documents 01 and 02: a read tests the header before anything else. Assumes nothing.
 use Prim.Native.Nat.{ℕ}
 use mathlib.Core.Bool.{Bool, cond}
 use mathlib.Core.List.{List}
@@ -16,8 +16,9 @@ byHeader (refusal n) a = refused n
 byHeader (header n oldest latest) a = a
 
 -- Document 02, 2026-05: a table lent with a store has as many entries as the capacity, else 1, with the store's own 1.
+unfoldable pub headerWith : Bytes → List ℕ → Headed
+headerWith s table = cond (eqb (length table) (roomOf counted (length s))) (headerOf counted s) (refusal 1)
+
+-- That test by itself, as the code makes it.
 unfoldable pub asMany : Bytes → List ℕ → Bool
 asMany s table = eqb (length table) (roomOf counted (length s))
-
-unfoldable pub headerWith : Bytes → List ℕ → Headed
-headerWith s table = cond (asMany s table) (headerOf counted s) (refusal 1)
