@@ -1,10 +1,15 @@
 -- The contracts of the public calls, over any bytes. Bytes that a call is lent to look at stay. Assumes nothing.
 use Prim.Native.Nat.{ℕ, _+_, _*_}
 use mathlib.Core.Path.{_≡_}
+use mathlib.Core.Bool.{cond}
+use lib.ListN.{length}
 use Rattle.terms.specs.declared.Form.the-variants.{Plain as plain, Counted as counted}
 use Rattle.terms.specs.Bits.{Bytes}
+use Rattle.meaning.specs.Store.{formatted}
 use Rattle.sha256.specs.Sha256.{sha256}
-use Rattle.contracts.specs.Format.{formatAnswer, formatBytes}
+use Rattle.layout.specs.Sizes.{roomOf}
+use Rattle.layout.specs.Headers.{sizeRight}
+use Rattle.layout.specs.Stores.{storeBytes}
 use Rattle.promises.specs.Check.{Checked}
 use Rattle.move_rules.specs.Moves as move
 -- Applying a batch and pruning, also with a table of slot numbers (2026-05), which is built and told to be right.
@@ -30,10 +35,10 @@ pub use Rattle.verify_rules.specs.Pocket.{PocketVerifies}
 pub use Rattle.shelf_rules.specs.Shelf.{ShelfVerifies}
 pub use Rattle.message_rules.specs.Contracts.{WritesMessage, ReadsMessage}
 
--- Formatting the bytes s answers r and leaves the bytes t.
+-- Formatting the bytes s answers r, 0 or 1 for a wrong size, and leaves the bytes t, those of a fresh store.
 pub record Formats (s : Bytes) (r : ℕ) (t : Bytes) : Type 0 where
-  pub answer : r ≡ formatAnswer s
-  pub bytes : t ≡ formatBytes s
+  pub answer : r ≡ cond (sizeRight counted (length s)) 0 1
+  pub bytes : t ≡ cond (sizeRight counted (length s)) (storeBytes (formatted (roomOf counted (length s)))) s
 
 -- Checking the bytes s answers r.
 abbrev pub Checks : Bytes → ℕ → Type 0

@@ -22,7 +22,6 @@ use Rattle.meaning.proofs.Told.{seen}
 use Rattle.nodehash.specs.Node.{leafHash, innerHash}
 use Rattle.layout.specs.Headers.{Headed, refusal, header, sizeRight, headerOf}
 use Rattle.layout.specs.Stores.{storeOf}
-use Rattle.contracts.specs.Format.{formatAnswer}
 use Rattle.promises.specs.Check as check
 use Rattle.promises.specs.Calls.{Does, not-checked, refuses, accepts}
 use Rattle.promises.specs.Headed.{byHeader}
@@ -58,7 +57,6 @@ use Rattle.contracts.specs.Contracts.{Formats, Checks, Applies, Prunes, ReadsRo
 
 -- Format: 1.
 pub format-exactly : {s t : Bytes} {r : ℕ} → Formats s r t → Exactly (formatRows s) r
-unfolding formatAnswer
 format-exactly {s} {r = r} w = exactly (formatRows s) r refl (go (sizeRight counted (length s)) refl (w .answer))
   where
     go : (b : Bool) → sizeRight counted (length s) ≡ b → r ≡ cond b 0 1 → First (formatRows s) r

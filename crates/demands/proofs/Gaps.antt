@@ -61,7 +61,6 @@ slots-many s = length-slots counted (roomOf counted (length s)) _
 
 -- formatting leaves the bytes of a formatted store
 fresh-is : (s : Bytes) → sizeRight counted (length s) ≡ true → storeOf (formatBytes s) ≡ formatted (roomOf counted (length s))
-unfolding formatBytes
 fresh-is s e =
     let z = size-says counted (length s) e in
     rw e (stored-is (formatted (roomOf counted (length s))) (formatted-form _) (laws.formatted-is-sound leafHash innerHash (roomOf counted (length s)) (z .1) (z .2)))

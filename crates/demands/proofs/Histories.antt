@@ -30,7 +30,7 @@ use Rattle.layout.proofs.Headers.{size-right-of, size-says}
 use Rattle.layout.proofs.Headers as headers
 use Rattle.layout.proofs.Stores.{store-back}
 use Rattle.batch.specs.Asked.{Asks}
-use Rattle.contracts.specs.Format.{formatAnswer, formatBytes}
+use Rattle.contracts.specs.Format.{formatBytes}
 use Rattle.promises.specs.Calls.{SoundBytes, not-checked, refuses, accepts, Does}
 use Rattle.promises.proofs.Calls.{sound-passes}
 use Rattle.rescue_rules.specs.Rescue.{sourceTree}
@@ -83,14 +83,12 @@ module _ {s : Bytes} {es : List Entry} (k : Keeping s es) where
       size-right-of counted (length s) (w .capacity) (a .size) (a .some) (a .fits)
 
 pub fresh-keeps : (s : Bytes) → sizeRight counted (length s) ≡ true → Keeping (formatBytes s) (entry 0 [] ∷ [])
-unfolding formatBytes
 fresh-keeps s e =
     let z = size-says counted (length s) e in
     rw e (of-store (formatted (roomOf counted (length s))) (entry 0 [] ∷ []) (formatted-form _) (keeps-formatted leafHash innerHash (roomOf counted (length s)) (z .1, z .2)))
 
 -- what formatting leaves of bytes of the right size
 fresh-said : (s : Bytes) → sizeRight counted (length s) ≡ true → storeBytes (formatted (roomOf counted (length s))) ≡ formatBytes s
-unfolding formatBytes
 fresh-said s e = rw e
 
 -- a call that tests soundness, refused or accepted
@@ -151,7 +149,6 @@ moved-over {source} {s} {t} {r} es h x k = go (eqb r 0) refl
 -- each public call
 pub called-keeps : {s t : Bytes} {e : Call × Bool} (es : List Entry) → Called s e t → Keeping s es →
     Keeping t (cond (e .1) (noted (e .0) es) es)
-unfolding formatAnswer
 called-keeps {s} {t} es (formats {r} w) k =
     let z : r ≡ 0 = w .answer ∙ ap (λ b. cond b 0 1) (size-right k) in
     let fresh : Keeping t (noted formatting es) = subst (λ x. Keeping x (entry 0 [] ∷ [])) (sym (w .bytes)) (fresh-keeps s (size-right k)) in
@@ -209,7 +206,6 @@ module _ {t : Bytes} (w : SoundBytes t) {es : List Entry} (h : Holds leafHash in
 
 -- a store before the first call
 pub formatted-keeps : {before t : Bytes} → Formats before 0 t → (sizeRight counted (length before) ≡ true) × Keeping t (entry 0 [] ∷ [])
-unfolding formatAnswer
 formatted-keeps {before} w =
     let size = right _ (w .answer) in
     (size, subst (λ x. Keeping x (entry 0 [] ∷ [])) (sym (w .bytes)) (fresh-keeps before size))

@@ -27,7 +27,6 @@ use Rattle.layout.specs.Stores.{storeOf}
 use Rattle.layout.proofs.Headers.{header-refused}
 use Rattle.proofrecords.specs.ProofBytes.{proofBytes}
 use Rattle.changed.specs.Changes.{listBytes}
-use Rattle.contracts.specs.Format.{formatAnswer, formatBytes}
 use Rattle.promises.specs.Check as check
 use Rattle.promises.specs.Calls.{Does, not-checked, refuses}
 use Rattle.promises.proofs.Calls.{refused-writes-nothing}
@@ -81,7 +80,6 @@ module _ {A : Type 0} where
 -- Format.
 module _ {s t : Bytes} {r : ℕ} (w : Formats s r t) where
   pub refused-format-writes-nothing : (r ≡ 0 → ⊥) → t ≡ s
-  unfolding formatAnswer formatBytes
   refused-format-writes-nothing f = go (sizeRight counted (length s)) _ (w .answer) (w .bytes)
     where
       go : (b : Bool) (fresh : Bytes) → r ≡ cond b 0 1 → t ≡ cond b fresh s → t ≡ s

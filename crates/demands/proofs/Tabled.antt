@@ -21,7 +21,6 @@ use Rattle.layout.specs.Headers.{Headed, refusal, header, headerOf, sizeRight}
 use Rattle.layout.specs.Stores.{storeOf}
 use Rattle.layout.proofs.Headers.{room-of, size-right-of}
 use Rattle.batch.proofs.Batches.{asks-one}
-use Rattle.contracts.specs.Format.{formatAnswer, formatBytes}
 use Rattle.contracts.specs.Apply.{told}
 use Rattle.promises.specs.Check as check
 use Rattle.promises.specs.Calls.{SoundBytes, not-checked, refuses, accepts, Does}
@@ -92,7 +91,6 @@ right-table-is-told-exactly w t = outcomes.told-exactly w t
 
 -- Format, apply and prune leave the right table of the store that they leave, and that store is byte for byte what the plain call leaves.
 pub format-as-plain : {s t : Bytes} {table u : List ℕ} {r : ℕ} → FormatsBoth s table r t u → r ≡ 0 → Formats s 0 t
-unfolding formatAnswer formatBytes
 format-as-plain (wrong-size n) z = absurd (omega arith)
 format-as-plain (both-fresh h f e r) z = record { answer = rw h; bytes = e ∙ rw h }
 
