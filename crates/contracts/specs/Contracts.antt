@@ -35,7 +35,7 @@ pub use Rattle.verify_rules.specs.Pocket.{PocketVerifies}
 pub use Rattle.shelf_rules.specs.Shelf.{ShelfVerifies}
 pub use Rattle.message_rules.specs.Contracts.{WritesMessage, ReadsMessage}
 
--- Formatting the bytes s answers r, 0 or 1 for a wrong size, and leaves the bytes t, those of a fresh store.
+-- Formatting the bytes s answers r, 1 for a wrong size, and leaves the bytes t: a fresh store, or s where refused.
 pub record Formats (s : Bytes) (r : ℕ) (t : Bytes) : Type 0 where
   pub answer : r ≡ cond (sizeRight counted (length s)) 0 1
   pub bytes : t ≡ cond (sizeRight counted (length s)) (storeBytes (formatted (roomOf counted (length s)))) s
