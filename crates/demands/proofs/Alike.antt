@@ -2,7 +2,7 @@
 -- nothing.
 use Prim.Native.Nat.{ℕ, _*_}
 use mathlib.Core.Path.{_≡_, refl, ap, ap₂, sym, _∙_, subst, fun-ext}
-use mathlib.Core.Bool.{cond}
+use mathlib.Core.Bool.{cond, _&&_}
 use mathlib.Core.List.{List}
 use mathlib.Core.Option.{none}
 use lib.ListN.{length}
@@ -78,7 +78,9 @@ comparison limit room x y =
 compared-kept : (st : Store) (v w limit room : ℕ) → Kept st v → Kept st w →
     compare v w limit room st .answer ≡ comparison limit room (treeAtVersion st v) (treeAtVersion st w)
 unfolding isKept
-compared-kept st v w limit room k l = by-trees v w limit room st ∙ rw (kept-test st v k, kept-test st w l)
+compared-kept st v w limit room k l =
+    by-trees v w limit room st
+    ∙ ap₂ (λ x y. cond (x && y) (comparison limit room (treeAtVersion st v) (treeAtVersion st w)) (refused 8)) (kept-test st v k) (kept-test st w l)
 
 -- Versions with the same trees compare alike.
 pub same-trees-compare-as : {t s : Bytes} → SoundBytes t → SoundBytes s → {v v′ w w′ : ℕ} →
