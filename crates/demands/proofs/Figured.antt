@@ -18,7 +18,7 @@ use Rattle.meaning.specs.Answers.{numberOf, roomAfter, toldOf}
 use Rattle.meaning.proofs.Told.{exported-kept, one-exported}
 use Rattle.nodehash.specs.Node.{leafHash, innerHash}
 use Rattle.layout.specs.Stores.{storeOf}
-use Rattle.promises.specs.Calls.{SoundBytes, Does, wrong-header, not-sound, refuses, accepts}
+use Rattle.promises.specs.Calls.{SoundBytes, Does, not-checked, refuses, accepts}
 use Rattle.promises.proofs.Calls.{one-outcome}
 use Rattle.quarter.specs.Figures.{Figures, figuresOf, figuresBytes, figuresSize, rangeRight, versionsFrom, versions, Quarter, quarterOf, figures}
 use Rattle.quarter.specs.Living.{figuresOver}
@@ -34,7 +34,7 @@ use Rattle.refusals.proofs.Figures.{range-said, figures-first}
 use Rattle.contracts.specs.Contracts as contracts
 use Rattle.demands.specs.Claims.{treeOfVersion, grantsOfVersion, NextVersion, latestOf}
 use Rattle.demands.specs.Quarter.{FiguresAre, partOf, GivesFigures}
-use Rattle.demands.proofs.Refusals.{no-refusal, never-0, header-numbers, refused-of}
+use Rattle.demands.proofs.Refusals.{no-refusal, refused-of}
 use Rattle.demands.proofs.Exact.{does-first}
 
 pub one-figures : {first last : ℕ} {s room f t u g h : Bytes} {a b : ℕ} → contracts.Figures first last s room f a t g →
@@ -158,8 +158,7 @@ accepted-figures-are-counts first last {s} {room} {f} {t} {g} w = go (w .answer)
   where
     go : (x : Answer Quarter) {y : Bytes} → Does (figures first last (length room)) s x y → 0 ≡ numberOf x → t ≡ roomAfter (λ q. flat (map figuresBytes (q .each))) x room → g ≡ toldOf totalsBytes x f →
         GivesFigures first last s room t g
-    go (refused m) (wrong-header e) z p q = absurd (never-0 (1 ∷ 2 ∷ []) refl (header-numbers s e) (sym z))
-    go (refused m) (not-sound e n) z p q = absurd (omega arith)
+    go (refused m) (not-checked c n) z p q = absurd (n (sym z))
     go (refused m) (refuses h e) z p q = absurd (not-0 (storeOf s) first last (length room) (e ∙ ap refused (sym z)))
     go (accepted c) (accepts h e) z p q =
         let d = given (storeOf s) first last (length room) c e in

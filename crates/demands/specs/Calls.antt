@@ -14,7 +14,7 @@ use Rattle.histories.specs.Claims.{NoGap}
 use Rattle.layout.specs.Stores.{storeIn, storeOf}
 use Rattle.rescue_rules.specs.Rescue.{sourceTree}
 use Rattle.rescue_bytes.specs.Rescues.{slotsIn}
-use Rattle.move_rules.specs.Claims.{SoundIn}
+use Rattle.promises.specs.Calls.{SoundIn}
 use Rattle.contracts.specs.Contracts.{Formats, Applies, Prunes, Rescues, MovesOver, MovesBack}
 use Rattle.contracts.specs.Contracts.{FormatsIndexed, AppliesIndexed, PrunesIndexed}
 

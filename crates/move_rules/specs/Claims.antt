@@ -6,23 +6,14 @@ use Rattle.terms.specs.declared.Form.{Form}
 use Rattle.terms.specs.Bits.{Bytes}
 use Rattle.terms.specs.Records.{Tally, Record, Store}
 use Rattle.meaning.specs.Store.{treeAtVersion}
-use Rattle.meaning.specs.Sound.{Sound}
 use Rattle.meaning.specs.Reading.{readKey, readRoot}
 use Rattle.meaning.specs.Proving.{proof}
 use Rattle.changed.specs.Compare.{compare}
 use Rattle.moved.specs.Moving.{recounted}
 use Rattle.nodehash.specs.Node.{leafHash, innerHash}
-use Rattle.layout.specs.Headers.{header, headerOf}
 use Rattle.layout.specs.Stores.{storeIn, storeBytes}
+use Rattle.promises.specs.Calls.{SoundIn}
 use Rattle.move_rules.specs.Moves.{other, Moves}
-
--- Bytes of a form that hold a sound store: size and header are right, and the store is sound.
-pub record SoundIn (f : Form) (s : Bytes) : Type 0 where
-  pub capacity : ℕ
-  pub oldest : ℕ
-  pub latest : ℕ
-  pub headed : headerOf f s ≡ header capacity oldest latest
-  pub sound : Sound leafHash innerHash (storeIn f s)
 
 -- Two stores of the same kept versions that answer alike.
 pub record Alike (st st′ : Store) : Type 0 where

@@ -21,15 +21,14 @@ use Rattle.meaning.specs.Sound.{Kept, Sound}
 use Rattle.meaning.specs.Calls.{accepted, ascending}
 use Rattle.meaning.specs.Reading.{Trouble, lostRecord, spoiltRecord, strayLeaf, Verdict}
 use Rattle.meaning.specs.Proving.{proof, proofLength}
-use Rattle.palette_rules.specs.Palette.{keySize, mostKeys, keysIn, lengthTogether}
+use Rattle.palette_rules.specs.Palette.{keysIn, lengthTogether}
 use Rattle.palette_rules.specs.Claims.{FirstAsked}
-use Rattle.changed.specs.Changes.{items, itemSize}
+use Rattle.changed.specs.Changes.{items}
 use Rattle.changed.specs.Compare.{changesOf, visitsOf}
 use Rattle.checker.specs.Holding.{Holds}
 use Rattle.ways.specs.Ways.{RootStopped, KeyStopped, ProofStopped, EmptyVersion}
 use Rattle.ways.specs.Positions.{Number, PositionStopped}
 use Rattle.rescue_bytes.specs.Rescues.{NoRun}
-use Rattle.quarter.specs.Figures.{figuresSize, mostVersions}
 use Rattle.pocket.specs.Pocket.{Outside}
 use Rattle.nodehash.specs.Node.{leafHash, innerHash}
 use Rattle.messages.specs.Message.{messageBytes}
@@ -157,7 +156,7 @@ changesRows s first second limit room =
     -- the count of visits is above the limit
     (13, limit < visitsOf (storeOf s) first second) ∷
     -- the list is longer than the buffer
-    (9, length room < itemSize * length (items (changesOf (storeOf s) first second))) ∷ []
+    (9, length room < 72 * length (items (changesOf (storeOf s) first second))) ∷ []
 
 -- Document 02, 2026-02: 'Writing tests 10, 15, 9, reading 10, 9.'
 abbrev pub writeMessageRows : Bytes → Bytes → List Bytes → Bytes → Table
@@ -178,7 +177,7 @@ readMessageRows m room =
 
 -- 12 of a palette (document 02, 2026-04): the list isn't 0 to 256 whole keys.
 abbrev pub NotKeys : Bytes → Type 0
-NotKeys list = (keys : List Bytes) → All (λ k. length k ≡ keySize) keys → length keys ≤ mostKeys → list ≡ flat keys → ⊥
+NotKeys list = (keys : List Bytes) → All (λ k. length k ≡ 32) keys → length keys ≤ 256 → list ≡ flat keys → ⊥
 
 -- What stops a palette: what stops the proof for a key, where each key before it, in the order asked, has its proof.
 abbrev pub StopsPalette : Bytes → ℕ → List Bytes → Trouble → Type 0
@@ -229,12 +228,12 @@ findingRows s v k x =
 -- A range of 1 to 1,024 kept versions (document 02, 2026-14).
 abbrev pub KeptRange : Bytes → ℕ → ℕ → Type 0
 KeptRange s first last =
-    Kept (storeOf s) first × Kept (storeOf s) last × (first ≤ last) × (last < first + mostVersions)
+    Kept (storeOf s) first × Kept (storeOf s) last × (first ≤ last) × (last < first + 1024)
 
 -- The figures: 1, 2, 3 by full soundness; then 8, any other range; 9, 16 bytes for each version don't fit.
 abbrev pub figuresRows : Bytes → ℕ → ℕ → Bytes → Table
 figuresRows s first last room =
-    soundRows s ++ (8, KeptRange s first last → ⊥) ∷ (9, length room < figuresSize * (last - first + 1)) ∷ []
+    soundRows s ++ (8, KeptRange s first last → ⊥) ∷ (9, length room < 16 * (last - first + 1)) ∷ []
 
 -- 19 (document 02, 2026-14), of the pocket check: the bytes are a proof in form, and a leaf that it shows has more than
 -- 32 steps;

@@ -13,7 +13,8 @@ use Rattle.layout.specs.Headers.{sizeRight}
 use Rattle.layout.specs.Stores.{storeBytes}
 use Rattle.rescue_rules.specs.Rescue.{rescued}
 use Rattle.rescue_laws.proofs.Decides.{one-longest}
-use Rattle.rescue_bytes.specs.Rescues.{slotsIn, SameSize, Report, reportOf, Rescues, wrong-size, out-of-order, no-version, rescues, reportBytes, RescueExports}
+use Rattle.rescue_bytes.specs.Numbers.{numbersOf}
+use Rattle.rescue_bytes.specs.Rescues.{slotsIn, SameSize, Report, Rescues, wrong-size, out-of-order, no-version, rescues, reportBytes, RescueExports}
 
 -- an answer is a refusal or a report
 not-both : {A : Type 0} {n : ℕ} {r : Report} → refused n ≡ accepted r → A
@@ -24,6 +25,10 @@ same-number e = cc
 
 same-report : {q r : Report} → accepted q ≡ accepted r → q ≡ r
 same-report e = cc
+
+-- what is reported of a run that begins at f, of a target left as t
+abbrev reportOf : Bytes → ℕ → Bytes → Report
+reportOf s f t = record { first = f; numbers = numbersOf s t }
 
 module _ {oldest latest : ℕ} {s old : Bytes} where
   -- a refused rescue writes nothing

@@ -26,7 +26,6 @@ use Rattle.layout.specs.Sizes.{roomOf}
 use Rattle.layout.specs.Headers.{sizeRight}
 use Rattle.layout.specs.Stores.{storeOf, storeBytes}
 use Rattle.layout.proofs.Headers.{size-says}
-use Rattle.contracts.specs.Format.{formatAnswer, formatBytes}
 use Rattle.batch.proofs.Batches.{asked-one}
 use Rattle.meaning.specs.Answers.{exports-refusal, exports-answer}
 use Rattle.promises.specs.Calls.{SoundBytes, accepts}
@@ -318,7 +317,7 @@ record Fresh (t : Bytes) : Type 0 where
   pub empty : (v : ℕ) → grantsOfVersion t v ≡ []
 
 fresh-store : {s t : Bytes} → Formats s 0 t → Fresh t
-unfolding formatAnswer formatBytes formatted
+unfolding formatted
 fresh-store {s} {t} w = go (sizeRight counted (length s)) refl (w .answer) (w .bytes)
   where
     go : (c : Bool) → sizeRight counted (length s) ≡ c → _≡_ {A = ℕ} 0 (cond c 0 1) → t ≡ cond c (storeBytes (formatted (roomOf counted (length s)))) s → Fresh t
