@@ -1,5 +1,4 @@
--- Document 02, 2026-07, over the bytes of a store: 'no slot in form matches, but a used slot's version, bit count and
--- bits fields agree' and 'name the lowest such slot'. Assumes nothing.
+-- Document 02, 2026-07, over the bytes of a store: the lowest used slot whose version, bit count and bits fields agree.
 use Prim.Native.Nat.{ℕ, _<_}
 use mathlib.Core.Path.{_≡_}
 use lib.ListN.{length}
