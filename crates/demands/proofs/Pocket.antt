@@ -180,7 +180,7 @@ module _ (s : Bytes) (v : ℕ) (k : Bytes) where
 
   prover-inside : (ProvedOutside s v k → ⊥) → SameOutcome (PocketProves s v k) (Proves s v k)
   prover-inside h = record {
-    alike = λ w y.
+    same = λ w y.
         let z = as-proves h w in
         let (e, d) = one-exported refl (z .exported) (y .exported) in (e, z .proof ∙ sym (y .proof), d);
   }
@@ -210,7 +210,7 @@ module _ (s : Bytes) (v : ℕ) (k : Bytes) where
   pub pocket-prover-beside-full : BesideTheFullProver s v k
   pocket-prover-beside-full = record {
     inside = prover-inside;
-    given = λ w y. let e = prover-inside (given-inside w) .alike w y in (sym (e .0), e .1, e .2);
+    given = λ w y. let e = prover-inside (given-inside w) .same w y in (sym (e .0), e .1, e .2);
     short = λ w. prover-short w;
   }
 

@@ -36,10 +36,9 @@ pub data Called (s : Bytes) : Call × Bool → Bytes → Type 0 where
       (w : AppliesIndexed number batch s table f r t u g) → Called s (applying number (w .asked), eqb r 0) t
   prunes-both : {table u : List ℕ} {n r : ℕ} {f t g : Bytes} → PrunesIndexed n s table f r t u g →
       Called s (pruning n, eqb r 0) t
-  -- the target of a rescue begins anew, with what the source's trees of the run hold (2026-08)
+  -- the target of a rescue (2026-08) or of a move over (2026-10) begins anew, with what the source's trees hold
   rescues-into : {oldest latest r : ℕ} {source f t g : Bytes} → latest ≤ top32 → All Byte source →
       Rescues oldest latest source s f r t g → Called s (taking (takenOver source latest g), eqb r 0) t
-  -- so does the target of a move over, with what the source's kept versions hold (2026-10)
   moves-over : {r : ℕ} {source t : Bytes} → All Byte source → MovesOver source s r t →
       Called s (taking (held (storeIn plain source)), eqb r 0) t
   -- every other call is lent the store to look at, if at all: whatever it is asked and answers, the store stays

@@ -37,7 +37,7 @@ use Rattle.meaning.specs.Answers.{foundBytes, numberOf, toldOf, roomAfter}
 use Rattle.contracts.specs.Numbers.{grantBytes}
 use Rattle.contracts.specs.Contracts.{ReadsRoot, ReadsKey, Proves, Palettes, Changes, Verifies, Counts, ReadsAt}
 
--- Of the store that bytes hold: the tree of a version, its grants, and the latest version.
+-- Of the store that bytes hold: the tree of a version, its grants, the latest version, and its grants with a batch.
 abbrev pub treeOfVersion : Bytes → ℕ → VTree
 treeOfVersion s v = treeAtVersion (storeOf s) v
 
@@ -47,14 +47,12 @@ grantsOfVersion s v = grantsIn (treeOfVersion s v)
 abbrev pub latestOf : Bytes → ℕ
 latestOf s = storeOf s .latest
 
--- The latest grants with a batch applied.
 abbrev pub grantsWith : List Ask → Bytes → List Grant
 grantsWith asks s = withBatch asks (grantsOfVersion s (latestOf s))
 
 -- Two calls with these contracts, lent the same room and array, answer alike and leave the same bytes.
 pub record SameOutcome (A B : Bytes → Bytes → ℕ → Bytes → Bytes → Type 0) : Type 0 where
-  pub alike : {room f u u₁ g g₁ : Bytes} {r r₁ : ℕ} → A room f r u g → B room f r₁ u₁ g₁ →
-      (r ≡ r₁) × (u ≡ u₁) × (g ≡ g₁)
+  pub same : {room f u u₁ g g₁ : Bytes} {r r₁ : ℕ} → A room f r u g → B room f r₁ u₁ g₁ → (r ≡ r₁) × (u ≡ u₁) × (g ≡ g₁)
 
 -- Demand 2: what is shown of a key in a kept version that holds a grant (2026-03), whose grants say this of the key.
 pub record Shown (s : Bytes) (v : ℕ) (k : Bytes) (answer : Verdict) : Type 0 where
@@ -91,7 +89,6 @@ pub record AfterHistory (start : List Entry) (history : List (Call × Bool)) (t 
   pub sound : SoundBytes t
   pub bytes : t ≡ storeBytes (storeOf t)
   pub holds : Holds leafHash innerHash (storeOf t) (ledger history start)
-  -- each record stands in exactly the kept versions of its lifetime
   pub lifetimes : (v : ℕ) → Kept (storeOf t) v → (i : ℕ) (r : Record) → At (storeOf t) i r →
       InTree r (treeOfVersion t v) ↔ Lives v r
   pub reads : {v : ℕ} {gs : List Grant} → Kept (storeOf t) v → grantsOf v (ledger history start) ≡ some gs →
@@ -110,8 +107,7 @@ pub record ReadsAs (t : Bytes) (v : ℕ) (s : Bytes) (w : ℕ) : Type 0 where
 pub record ComparesAs (t : Bytes) (v v′ : ℕ) (s : Bytes) (w w′ : ℕ) : Type 0 where
   pub same : (limit : ℕ) → SameOutcome (Changes v v′ limit t) (Changes w w′ limit s)
 
--- Demand 2: a batch was applied to the bytes s as a number (2026-13) and accepted; t are the bytes left, and g what was
--- told: version 4, root 32, count 4.
+-- Demand 2: a batch was applied to the bytes s as a number (2026-13) and accepted; t are the bytes left, and g is told.
 pub record NextVersion (number : ℕ) (batch s t g : Bytes) : Type 0 where
   pub asks : List Ask
   pub asked : AskedBy batch asks

@@ -35,8 +35,7 @@ pub data KeyReads (s : Bytes) (v : ℕ) : List Bytes → List Bytes → Type 0 w
 abbrev pub answersFor : Bytes → ℕ → List Bytes → List Bytes
 answersFor s v keys = map (λ k. 0 ∷ foundBytes (answerOf k (grantsOfVersion s v))) keys
 
--- What a palette of whole keys gave, in a kept version of a sound store, checked at once against the version's root:
--- with room for the answers it is accepted, with what the key reads find; the rest of the buffer stays.
+-- What a palette of whole keys gave, in a kept version of a sound store, checked at once against the version's root.
 pub record RowShown (s : Bytes) (v : ℕ) (list : Bytes) : Type 0 where
   pub answered : {room f t g f₁ root old new : Bytes} {r₁ r : ℕ} → Palettes s v list room f 0 t g →
       ReadsRoot s v f₁ r₁ root → VerifiesMany root list (take (num g) t) old r new →

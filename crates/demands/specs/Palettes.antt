@@ -31,9 +31,7 @@ pub record BesideSingleCalls (s : Bytes) (v : ℕ) (list : Bytes) : Type 0 where
   pub joined : {room f t g : Bytes} {proofs : List Bytes} → Palettes s v list room f 0 t g →
       SingleCalls s v (keysIn list) proofs →
       (t ≡ flat proofs ++ drop (length (flat proofs)) room) × (num g ≡ length (flat proofs))
-  -- its refusal is that of the first single call refused for a reason other than room
   pub first : {room f t g : Bytes} {r n : ℕ} → Palettes s v list room f r t g → FirstRefusal s v (keysIn list) n → r ≡ n
-  -- where there is none, it is accepted exactly if all together fit, and 9 exactly if they don't
   pub fits : {room f t g : Bytes} {r : ℕ} {k : Bytes} {keys proofs : List Bytes} → Palettes s v list room f r t g →
       keysIn list ≡ k ∷ keys → SingleCalls s v (keysIn list) proofs →
       ((r ≡ 0) ↔ (length (flat proofs) ≤ length room)) × ((r ≡ 9) ↔ (length room < length (flat proofs)))

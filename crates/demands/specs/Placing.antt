@@ -23,7 +23,6 @@ pub record Places (number : ℕ) (s t : Bytes) : Type 0 where
   pub retires : (i : ℕ) (r : Record) → At (storeOf s) i r → InTree r (treeOfVersion s (latestOf s)) →
       (InTree r (treeOfVersion t number) → ⊥) →
       slotIn counted i t ≡ written retiredAt (le 4 number) (slotIn counted i s)
-  -- the slot of any other record has the bytes it had
   pub keeps : (i : ℕ) (r : Record) → At (storeOf s) i r →
       (InTree r (treeOfVersion s (latestOf s)) → InTree r (treeOfVersion t number)) →
       slotIn counted i t ≡ slotIn counted i s

@@ -17,7 +17,6 @@ pub record BesideTheFullCheck (root k x : Bytes) : Type 0 where
       Verifies root k x f r₁ g₁ → (r ≡ r₁) × (g ≡ g₁)
   pub nineteen : {f g : Bytes} {r : ℕ} → PocketVerifies root k x f r g →
       (r ≡ 19) ↔ ((length root ≡ 32) × (length k ≡ 32) × OutsidePocket x)
-  -- what the pocket check accepts, the full one accepts alike; it has at most 2,296 bytes
   pub accepted : {f g g₁ : Bytes} {r₁ : ℕ} → PocketVerifies root k x f 0 g → Verifies root k x f r₁ g₁ →
       (r₁ ≡ 0) × (g ≡ g₁)
   pub short : {f g : Bytes} → PocketVerifies root k x f 0 g → length x ≤ 2296

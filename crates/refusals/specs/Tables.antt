@@ -40,11 +40,10 @@ use Rattle.batch.specs.Asked.{AskedBy, Asks}
 use Rattle.verify_rows.specs.Rows.{Pieces}
 use Rattle.refusals.specs.Exactly.{Table}
 
--- The bytes have the length of a store of n slots: 24 + 128n, in the plain form 24 + 120n.
+-- 1: for no n in 1 to 16,384 the lengths are those of a store of n slots, 24 + 128n, in the plain form 24 + 120n.
 abbrev pub HasSlots : Form → Bytes → ℕ → Type 0
 HasSlots f s n = length s ≡ headerSize + slotSize f * n
 
--- 1: for no n in 1 to 16,384 the lengths are right.
 abbrev pub WrongSize : (ℕ → Type 0) → Type 0
 WrongSize right = (n : ℕ) → 1 ≤ n → n ≤ mostSlots → right n → ⊥
 
@@ -97,15 +96,14 @@ abbrev pub testsOf : Table → Table
 testsOf [] = []
 testsOf (row ∷ rows) = cond (eqb (row .0) 17 || eqb (row .0) 3) [] (row ∷ testsOf rows)
 
--- A root read, and the number of grants (2026-09): 1, 2, 8, 3.
-abbrev pub rootRows : Bytes → ℕ → Table
-rootRows s v = readRows s v ++ (3, Unsound (RootStopped (storeOf s) v)) ∷ []
-
 -- 12: a key or root handed in isn't 32 bytes.
 abbrev pub Not32 : List Bytes → Type 0
 Not32 handed = All (λ x. length x ≡ 32) handed → ⊥
 
--- A key read: 12; then 1, 2; then 8, 17 or 3.
+-- A root read, and the number of grants (2026-09): 1, 2, 8, 3. A key read: 12; then 1, 2; then 8, 17 or 3.
+abbrev pub rootRows : Bytes → ℕ → Table
+rootRows s v = readRows s v ++ (3, Unsound (RootStopped (storeOf s) v)) ∷ []
+
 abbrev pub getRows : Bytes → ℕ → Bytes → Table
 getRows s v k = (12, Not32 (k ∷ [])) ∷ readRows s v ++ stopRows (KeyStopped (storeOf s) v k)
 

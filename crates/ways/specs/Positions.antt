@@ -16,8 +16,7 @@ pub data Turn (r : Record) (i : ℕ) : Side → ℕ → Type 0 where
   to-left : i < r .counts .leftward → Turn r i left i
   to-right : r .counts .leftward ≤ i → Turn r i right (i - r .counts .leftward)
 
--- The descent from what is met at the place p, with position i, ends so: with 3 also at a missing child, or at a leaf
--- with a position left over.
+-- The descent from what is met at p with position i ends so: 3 also at a missing child, or with a position left over.
 pub data Lands (st : Store) : Place → Met → ℕ → Answer Grant → Type 0 where
   no-child : {p : Place} {i : ℕ} → Lands st p (stop missing) i (refused 3)
   stopped : {p : Place} {i : ℕ} {t : Trouble} → Lands st p (stop (stoppedBy t)) i (refused (refusalOf t))
@@ -40,13 +39,12 @@ pub data Number (st : Store) (v : ℕ) : Answer ℕ → Type 0 where
   root-lost : {t : Trouble} → AtRoot st v (stop (stoppedBy t)) → Number st v (refused (refusalOf t))
   of-root : {r : Record} {n : ℕ} → AtRoot st v (found r) → Says r n → Number st v (accepted n)
 
--- The grant at position i of a kept version.
+-- The grant at position i of a kept version, and what stops its read.
 pub data Position (st : Store) (v i : ℕ) : Answer Grant → Type 0 where
   root-lost : {t : Trouble} → AtRoot st v (stop (stoppedBy t)) → Position st v i (refused (refusalOf t))
   not-below : (n : ℕ) → Number st v (accepted n) → n ≤ i → Position st v i (refused 20)
   from-root : {r : Record} {n : ℕ} {a : Answer Grant} → AtRoot st v (found r) → Says r n → i < n →
       Lands st [] (found r) i a → Position st v i a
 
--- The read of a position is stopped by t.
 abbrev pub PositionStopped : Store → ℕ → ℕ → Trouble → Type 0
 PositionStopped st v i t = Position st v i (refused (refusalOf t))

@@ -48,9 +48,15 @@ pub data Meets (st : Store) (match : Option Record) (agree : Bytes → Type 0) (
   second : match ≡ none → ((i : ℕ) → SpoiltIn st agree i → ⊥) → Meets st match agree end (stop end)
   third : {i : ℕ} → match ≡ none → SpoiltIn st agree i → Meets st match agree end (stop (stoppedBy (spoiltRecord i)))
 
--- What is met at the root of version v. No root found means an empty version, unless one is spoilt.
+-- What is met at the root of version v: none found means an empty version, unless one is spoilt, which stops the read.
 abbrev pub AtRoot : Store → ℕ → Met → Type 0
 AtRoot st v m = Meets st (rootOf st v) (AgreesRoot v) missing m
+
+abbrev pub EmptyVersion : Store → ℕ → Type 0
+EmptyVersion st v = AtRoot st v (stop missing)
+
+abbrev pub RootStopped : Store → ℕ → Trouble → Type 0
+RootStopped st v t = AtRoot st v (stop (stoppedBy t))
 
 -- What is met at the place p for the child c: a missing child, or a present one of the three kinds.
 pub data AtChild (st : Store) (p : Place) (c : Child) : Met → Type 0 where
@@ -82,16 +88,18 @@ pub data Way (st : Store) (rule : Place → Child → Child → Side) :
       Way st rule (record { place = p; left = l; right = m } ∷ before) (longer (rule p l m) p) met passed end →
       Way st rule before p (found r) passed end
 
--- The walk from the root of version v follows the key's bits.
+-- The walk from the root of version v follows the key's bits; where it is stopped by t, so is a key read.
 abbrev pub Walk : Store → ℕ → Bytes → List Inner → Stop → Type 0
 Walk st v k passed end = (met : Met) × AtRoot st v met × Way st (λ p l r. bit (length p) k) [] [] met passed end
+
+abbrev pub KeyStopped : Store → ℕ → Bytes → Trouble → Type 0
+KeyStopped st v k t = (passed : List Inner) × Walk st v k passed (stoppedBy t)
 
 -- Where the walk turned away from side b (or wanted to), and a child is present there.
 abbrev pub TurnedAway : Side → Bytes → Inner → Type 0
 TurnedAway b k i = (bit (length (i .place)) k ≡ not b) × (childOn b (i .left) (i .right) .version ≡ 0 → ⊥)
 
--- The descent to the neighbour on side b is stopped: from the deepest such record into that child, then to the other
--- side where there is a child.
+-- The descent to the neighbour on side b is stopped: from the deepest such record into that child, then away from b.
 pub record DescentLost (st : Store) (k : Bytes) (passed : List Inner) (b : Side) (t : Trouble) : Type 0 where
   pub deeper : List Inner
   pub at : Inner
@@ -113,13 +121,6 @@ pub record SideStopped (st : Store) (k : Bytes) (passed : List Inner) (end : Sto
   pub other : (l x : Bytes) → end ≡ leaf l x → beyond b l k ≡ false
   pub descent : DescentLost st k passed b t
 
--- A root read is stopped by t where the root's lookup is, and a key read where the walk is.
-abbrev pub RootStopped : Store → ℕ → Trouble → Type 0
-RootStopped st v t = AtRoot st v (stop (stoppedBy t))
-
-abbrev pub KeyStopped : Store → ℕ → Bytes → Trouble → Type 0
-KeyStopped st v k t = (passed : List Inner) × Walk st v k passed (stoppedBy t)
-
 -- Proving is stopped by t: the walk's; else, if it doesn't end at the key, the left descent's; else the right one's.
 pub data ProofStopped (st : Store) (v : ℕ) (k : Bytes) (t : Trouble) : Type 0 where
   walk-stopped : KeyStopped st v k t → ProofStopped st v k t
@@ -128,10 +129,6 @@ pub data ProofStopped (st : Store) (v : ℕ) (k : Bytes) (t : Trouble) : Type 0 
   right-stopped : {passed : List Inner} {end : Stop} → Walk st v k passed end →
       ((u : Trouble) → SideStopped st k passed end left u → ⊥) → SideStopped st k passed end right t →
       ProofStopped st v k t
-
--- An empty version: no slot matches a root for it, and none that is spoilt agrees.
-abbrev pub EmptyVersion : Store → ℕ → Type 0
-EmptyVersion st v = AtRoot st v (stop missing)
 
 -- The rule of the walk: it follows the key's bits.
 abbrev pub byKey : Bytes → Place → Child → Child → Side
