@@ -122,7 +122,7 @@ pub record NextVersion (number : ℕ) (batch s t g : Bytes) : Type 0 where
   pub reads : ReadsFor t number (grantsWith asks s)
   pub root : slice 4 32 g ≡ hash leafHash innerHash (treeOf (grantsWith asks s))
   pub count : field 36 4 g ≡ length (newRecords leafHash innerHash (latestOf t) (treeOfVersion t (latestOf t)))
-  pub older : (v : ℕ) → Kept (storeOf s) v → ReadsAs t v s v  -- and each version between as the latest before
+  pub older : (v : ℕ) → Kept (storeOf s) v → ReadsAs t v s v  -- as they were; those between as the latest before
   pub between : (v : ℕ) → latestOf s ≤ v → v < number → ReadsAs t v s (latestOf s)
   pub compares : (v w : ℕ) → Kept (storeOf s) v → Kept (storeOf s) w → ComparesAs t v w s v w
 

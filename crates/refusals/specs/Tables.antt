@@ -196,7 +196,8 @@ rootOfVersion s v = hash leafHash innerHash (unversioned (treeAtVersion (storeOf
 -- What is found of a proof (2026-12): 12; 1, 2, 3, 8; 14, the version holds no grant; 10, 11 against its root.
 abbrev pub findingRows : Bytes → ℕ → Bytes → Bytes → Table
 findingRows s v k x =
-    (12, Not32 (k ∷ [])) ∷ pruneRows v s ++ (14, grantsIn (treeAtVersion (storeOf s) v) ≡ []) ∷
+    (12, Not32 (k ∷ [])) ∷ soundRows s ++ (8, Kept (storeOf s) v → ⊥) ∷
+    (14, grantsIn (treeAtVersion (storeOf s) v) ≡ []) ∷
     (10, ProofOffForm x) ∷ (11, DoesNotHold (rootOfVersion s v) k x) ∷ []
 
 -- The figures of 1 to 1,024 kept versions (2026-14): 1, 2, 3; 8, any other range; 9, 16 bytes for each don't fit.
