@@ -28,8 +28,7 @@ pub record BesideTheFullProver (s : Bytes) (v : ℕ) (k : Bytes) : Type 0 where
       (r₁ ≡ 0) × (t ≡ t₁) × (g ≡ g₁)
   pub short : {room f t g : Bytes} → PocketProves s v k room f 0 t g → num g ≤ 2296
 
--- The key k proved in a kept version v of a sound store that holds a grant: 19 exactly if the proof there is shows a
--- leaf with more than 32 steps; else 2,296 bytes of room are enough, and the pocket check accepts what is given.
+-- The key k proved in a kept version v of a sound store that holds a grant.
 pub record PocketShown (s : Bytes) (v : ℕ) (k : Bytes) : Type 0 where
   pub nineteen : {room f t g : Bytes} {r : ℕ} → PocketProves s v k room f r t g → (r ≡ 19) ↔ ProvedOutside s v k
   pub room : {room f t g : Bytes} {r : ℕ} → (ProvedOutside s v k → ⊥) → 2296 ≤ length room →

@@ -56,7 +56,7 @@ pub record RightHeader (f : Form) (s : Bytes) : Type 0 where
   pub ordered : field oldestAt 4 s ≤ field latestAt 4 s
   pub four-zero : slice 20 4 s ≡ zeroBytes 4
 
--- Format tests 1; every other call on a store begins with 1, 2, and many go on with 3 by full soundness, as check does.
+-- Format tests 1, every other call on a store 1, 2; check, apply, prune and others go on with 3 by full soundness.
 abbrev pub formatRows : Bytes → Table
 formatRows s = (1, WrongSize (HasSlots counted s)) ∷ []
 
@@ -163,7 +163,7 @@ NotKeys list = (keys : List Bytes) → All (λ k. length k ≡ keySize) keys →
 abbrev pub StopsPalette : Bytes → ℕ → List Bytes → Trouble → Type 0
 StopsPalette s v keys t = FirstAsked (proof (storeOf s) v) (λ k. ProofStopped (storeOf s) v k t) keys
 
--- A palette: 12; 1, 2, 8; 14, a key asked for in an empty version; 17 or 3 of the first key refused; 9, all don't fit.
+-- A palette: 12; 1, 2, 8; 14, a key, in an empty version; 17 or 3 of the first key refused; 9, all together don't fit.
 abbrev pub paletteRows : Bytes → ℕ → Bytes → Bytes → Table
 paletteRows s v list room =
     let keys = keysIn list in
@@ -177,7 +177,7 @@ verifyManyRows root list row room =
     (12, Not32 (root ∷ []) ⊎ NotKeys list) ∷ (10, (xs : List Bytes) → Pieces (length (keysIn list)) row xs → ⊥) ∷
     (9, length room < 34 * length (keysIn list)) ∷ []
 
--- A rescue (2026-08): 1, a size that is wrong or not equal; 2, oldest above latest; 3, no run ends at latest.
+-- A rescue (2026-08): 1, a size that is wrong or not equal; 2, oldest above latest; 3, no version: no run ends there.
 abbrev pub rescueRows : Bytes → Bytes → ℕ → ℕ → Table
 rescueRows s old oldest latest =
     (1, WrongSize (λ n. HasSlots counted s n × HasSlots counted old n)) ∷ (2, latest < oldest) ∷

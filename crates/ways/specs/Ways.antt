@@ -42,7 +42,7 @@ pub data Met : Type 0 where
   stop : Stop → Met
   found : Record → Met
 
--- The three kinds of 2026-07: a slot in form matches; none does and none off form agrees; none does, but one off form.
+-- The three kinds of 2026-07: a slot in form matches; none does and none off form agrees; slot i off form agrees.
 pub data Meets (st : Store) (match : Option Record) (agree : Bytes → Type 0) (end : Stop) : Met → Type 0 where
   first : {r : Record} → match ≡ some r → Meets st match agree end (found r)
   second : match ≡ none → ((i : ℕ) → SpoiltIn st agree i → ⊥) → Meets st match agree end (stop end)
