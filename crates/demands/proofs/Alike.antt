@@ -59,14 +59,18 @@ module _ {t s : Bytes} (a : SoundBytes t) (b : SoundBytes s) {v w : ℕ} (kept :
   same-tree-reads-as = record {
     grants = grantsOfVersion s w;
     reads = (subst (ReadsFor t v) (ap grantsIn e) (sound-reads-for a v kept), sound-reads-for b w kept′);
-    proof = λ {k} {room} x y.
-        let is = same-proved k (length room) in
-        let (m, d) = one-exported is (x .exported) (y .exported) in
-        (m, x .proof ∙ ap (λ p. roomAfter proofBytes p room) is ∙ sym (y .proof), d);
-    palette = λ {list} {room} x y.
-        let is = same-palette list (length room) in
-        let (m, d) = one-exported is (x .exported) (y .exported) in
-        (m, x .proofs ∙ ap (λ p. roomAfter proofsBytes p room) is ∙ sym (y .proofs), d);
+    proof = λ k. record {
+      same = λ {room} x y.
+          let is = same-proved k (length room) in
+          let (m, d) = one-exported is (x .exported) (y .exported) in
+          (m, x .proof ∙ ap (λ p. roomAfter proofBytes p room) is ∙ sym (y .proof), d);
+    };
+    palette = λ list. record {
+      same = λ {room} x y.
+          let is = same-palette list (length room) in
+          let (m, d) = one-exported is (x .exported) (y .exported) in
+          (m, x .proofs ∙ ap (λ p. roomAfter proofsBytes p room) is ∙ sym (y .proofs), d);
+    };
   }
 
 -- a comparison of kept versions goes by their trees
@@ -87,11 +91,13 @@ pub same-trees-compare-as : {t s : Bytes} → SoundBytes t → SoundBytes s → 
     Kept (storeOf t) v → Kept (storeOf t) v′ → Kept (storeOf s) w → Kept (storeOf s) w′ →
     treeOfVersion t v ≡ treeOfVersion s w → treeOfVersion t v′ ≡ treeOfVersion s w′ → ComparesAs t v v′ s w w′
 same-trees-compare-as {t} {s} a b {v} {v′} {w} {w′} kv kv′ kw kw′ e e′ = record {
-  same = λ {limit} {room} x y.
-      let is : x .answer ≡ y .answer =
-      asked a (x .does) ∙ compared-kept (storeOf t) v v′ limit (length room) kv kv′ ∙ ap₂ (comparison limit (length room)) e e′
-      ∙ sym (asked b (y .does) ∙ compared-kept (storeOf s) w w′ limit (length room) kw kw′)
-      in
-      let (m, d) = one-exported is (x .exported) (y .exported) in
-      (m, x .list ∙ ap (λ p. roomAfter listBytes p room) is ∙ sym (y .list), d);
+  same = λ limit. record {
+    same = λ {room} x y.
+        let is : x .answer ≡ y .answer =
+        asked a (x .does) ∙ compared-kept (storeOf t) v v′ limit (length room) kv kv′ ∙ ap₂ (comparison limit (length room)) e e′
+        ∙ sym (asked b (y .does) ∙ compared-kept (storeOf s) w w′ limit (length room) kw kw′)
+        in
+        let (m, d) = one-exported is (x .exported) (y .exported) in
+        (m, x .list ∙ ap (λ p. roomAfter listBytes p room) is ∙ sym (y .list), d);
+  };
 }
