@@ -50,11 +50,11 @@ pub write-message-exactly : {x asked : Bytes} {leaves : List Bytes} {room f t g 
     Exactly (writeMessageRows x asked leaves room) r
 write-message-exactly {x} {asked} {leaves} {room} {r = r} w =
     exactly (writeMessageRows x asked leaves room) r refl
-    (subst (First (writeMessageRows x asked leaves room)) (sym (w .answer)) (write-first x asked leaves room (w .said) (w .raw) (w .exactly) (w .lent)))
+    (subst (First (writeMessageRows x asked leaves room)) (sym (w .exported .number)) (write-first x asked leaves room (w .said) (w .raw) (w .exactly) (w .lent)))
 
 pub read-message-exactly : {m room f t g : Bytes} {r : ℕ} → ReadsMessage m room f r t g → Exactly (readMessageRows m room) r
 read-message-exactly {m} {room} {r = r} w =
-    exactly (readMessageRows m room) r refl (subst (First (readMessageRows m room)) (sym (w .answer)) (read-first m room (w .said) (w .exactly)))
+    exactly (readMessageRows m room) r refl (subst (First (readMessageRows m room)) (sym (w .exported .number)) (read-first m room (w .said) (w .exactly)))
 
 most : (q : Proof) → mostBytes q ≤ 29999
 most (presence p) = omega arith

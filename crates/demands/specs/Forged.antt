@@ -20,12 +20,10 @@ use Rattle.forgery.specs.Messages.{treeMessages, checkedMessages}
 use Rattle.forgery.specs.Finding.{True, Among}
 use Rattle.demands.specs.Claims.{treeOfVersion, grantsOfVersion, Accepts}
 
--- 131 bytes name a finding among some messages: two different ones with equal SHA-256, or one whose SHA-256 is 32 zero
--- bytes.
+-- 131 bytes name a finding among messages: two different ones with equal SHA-256, or one whose SHA-256 is zeros.
 pub data NamesFinding (messages : List Bytes) (g : Bytes) : Type 0 where
   two-equal : getD g 0 0 ≡ 1 → Among (slice 1 65 g) messages → Among (slice 66 65 g) messages →
-      (slice 1 65 g ≡ slice 66 65 g → ⊥) →
-      sha256 (slice 1 65 g) ≡ sha256 (slice 66 65 g) → NamesFinding messages g
+      (slice 1 65 g ≡ slice 66 65 g → ⊥) → sha256 (slice 1 65 g) ≡ sha256 (slice 66 65 g) → NamesFinding messages g
   one-zero : getD g 0 0 ≡ 2 → Among (slice 1 65 g) messages → sha256 (slice 1 65 g) ≡ zeros → NamesFinding messages g
 
 -- The messages of the version's nodes, and those hashed while checking a proof.

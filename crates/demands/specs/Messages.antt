@@ -1,5 +1,4 @@
--- Document 02, request 2026-02: what writing and reading a message promise, in the words of their contracts. Assumes
--- nothing.
+-- Document 02, 2026-02: what writing and reading a message promise, in the words of their contracts. Assumes nothing.
 use Prim.Native.Nat.{ℕ, _≤_}
 use mathlib.Core.Path.{_≡_}
 use mathlib.Core.Logic.{_↔_}
@@ -26,8 +25,7 @@ pub record PartnerAgrees (x : Bytes) (q : Proof) : Type 0 where
   pub found : {root f g : Bytes} → Verifies root (sha256 (askedIn q .bytes)) x f 0 g →
       g ≡ foundBytes (verdictOf sha256 q)
 
--- The record x was written as a message, lent some raw keys and values: the room was left as t, and g says how long the
--- message is.
+-- The record x was written as a message, lent raw keys and values: it stands in the room t, and g says how long it is.
 pub record MessageGiven (x asked : Bytes) (leaves : List Bytes) (t g : Bytes) : Type 0 where
   -- it is the message of a proof whose record is x and whose raw keys and values are those lent
   pub proof : Proof

@@ -6,14 +6,13 @@ use mathlib.Core.List.{List, [], _∷_}
 use mathlib.Core.Option.{Option, none, some}
 use Rattle.terms.specs.Bits.{Bytes}
 use Rattle.terms.specs.Records.{Grant, Proof, Store}
-use Rattle.meaning.specs.Tree.{grantsIn}
+use Rattle.meaning.specs.Tree.{hash, unversioned, grantsIn}
 use Rattle.meaning.specs.Store.{treeAtVersion}
 use Rattle.meaning.specs.Calls.{Answer, refused, accepted, isKept}
 use Rattle.meaning.specs.Reading.{Verdict}
 use Rattle.meaning.specs.Checking.{checked}
 use Rattle.forgery.specs.Messages.{leafHash, innerHash}
 use Rattle.forgery.specs.Finding.{Finding, finding}
-use Rattle.finding_rules.specs.Call.{versionRoot}
 
 -- There is no grant.
 abbrev pub noGrant : List Grant → Bool
@@ -21,6 +20,10 @@ noGrant [] = true
 noGrant (g ∷ gs) = false
 
 module _ (H : Bytes → Bytes) where
+  -- The root of a version: the hash of its tree.
+  abbrev pub versionRoot : Store → ℕ → Bytes
+  versionRoot st v = hash (leafHash H) (innerHash H) (unversioned (treeAtVersion st v))
+
   -- What is found of a proof that the checker accepts; else its refusal.
   abbrev pub foundOf : Store → ℕ → Proof → Answer Verdict → Answer Finding
   foundOf st v p (refused n) = refused n

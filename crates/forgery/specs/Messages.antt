@@ -23,11 +23,10 @@ use Rattle.terms.specs.Records.{
 use Rattle.meaning.specs.Tree.{Tree, none, leaf, inner, hash}
 use Rattle.meaning.specs.Store.{retiredBy}
 
--- Of a leaf: byte 1, key, value.
+-- The message of a leaf: byte 1, key, value; of an inner node: byte 0, left hash, right hash.
 abbrev pub leafMessage : Bytes → Bytes → Bytes
 leafMessage k x = 1 ∷ (k ++ x)
 
--- Of an inner node: byte 0, left hash, right hash.
 abbrev pub innerMessage : Bytes → Bytes → Bytes
 innerMessage l r = 0 ∷ (l ++ r)
 

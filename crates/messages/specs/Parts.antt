@@ -1,5 +1,4 @@
--- Document 02, request 2026-02: the raw keys and values that a message holds, and where in it they stand. Assumes
--- nothing.
+-- Document 02, 2026-02: the raw keys and values that a message holds, and where in it they stand. Assumes nothing.
 use Prim.Native.Nat.{ℕ, _+_, _≤_}
 use mathlib.Core.Path.{_≡_}
 use mathlib.Core.List.{List, [], _∷_, _++_}

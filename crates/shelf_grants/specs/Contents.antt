@@ -1,5 +1,4 @@
--- Shelves: what a shelf holds, by the grants of its parts, and what its list then holds. A shelf of b bits has a part
--- for each string of b bits: the grants whose keys begin with it. Assumes nothing.
+-- What a shelf of b bits holds, by the grants of its parts, one for each string of b bits, and what its list holds.
 use Prim.Native.Nat.{ℕ, zero, suc}
 use mathlib.Core.Path.{_≡_}
 use mathlib.Core.Logic.{_⊎_}

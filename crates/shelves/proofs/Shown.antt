@@ -32,7 +32,8 @@ use Rattle.proofrecords.specs.ProofBytes.{presenceKind, absenceKind, proofBytes
 use Rattle.layout.specs.Stores.{storeOf}
 use Rattle.promises.specs.Calls.{SoundBytes}
 use Rattle.promises.proofs.Calls.{sound-form}
-use Rattle.shelf_rules.specs.Shelf.{partKey, ShelfProof, noPart, inPart, shelfBytes, ShelfForm, ShelfHolds, no-part as by-list-alone, in-part, ShelfTold, holding}
+use Rattle.shelf_rules.specs.Reading.{shelfBytes, ShelfForm}
+use Rattle.shelf_rules.specs.Shelf.{partKey, ShelfProof, noPart, inPart, ShelfHolds, no-part as by-list-alone, in-part, ShelfTold, holding}
 use Rattle.shelf_rules.proofs.Records.{shelf-proofs-have-25600-bytes}
 use Rattle.shelf_rules.proofs.Told.{one-shelf-told}
 use Rattle.shelf_grants.specs.Contents.{Parts, allGrants, InPlace, rootOf, listGrants}
