@@ -32,7 +32,7 @@ module _ (H : Bytes → Bytes) where
   -- 10 if there is no proof in form; 11 if it doesn't hold against the version's root.
   abbrev pub foundAgainst : Store → ℕ → Bytes → Option Proof → Answer Finding
   foundAgainst st v k none = refused 10
-  foundAgainst st v k (some p) = foundOf st v p (checked (leafHash H) (innerHash H) (versionRoot H st v) k p)
+  foundAgainst st v k (some p) = foundOf st v p (checked (leafHash H) (innerHash H) (versionRoot st v) k p)
 
   -- 8 if the version isn't kept; 14 if it holds no grant; then 10, 11, or what is found.
   unfoldable pub finds : ℕ → Bytes → Option Proof → Store → Answer Finding

@@ -31,7 +31,6 @@ pub data Finding : Type 0 where
   twoEqual : Bytes → Bytes → Finding
   oneZero : Bytes → Finding
 
--- A message is among those of a list.
 abbrev pub Among : Bytes → List Bytes → Type 0
 Among m [] = ⊥
 Among m (n ∷ ms) = (n ≡ m) ⊎ Among m ms

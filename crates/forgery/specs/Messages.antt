@@ -30,7 +30,6 @@ leafMessage k x = 1 ∷ (k ++ x)
 abbrev pub innerMessage : Bytes → Bytes → Bytes
 innerMessage l r = 0 ∷ (l ++ r)
 
--- Of a record, from what it holds.
 abbrev pub messageOf : Body → Bytes
 messageOf (leafBody k x) = leafMessage k x
 messageOf (innerBody l r) = innerMessage (l .hash) (r .hash)
@@ -58,7 +57,6 @@ module _ (H : Bytes → Bytes) where
   abbrev pub innerHash : Bytes → Bytes → Bytes
   innerHash l r = H (innerMessage l r)
 
-  -- The messages of a tree's nodes.
   abbrev pub treeMessages : Tree → List Bytes
   treeMessages none = []
   treeMessages (leaf g) = leafMessage (g .key) (g .value) ∷ []

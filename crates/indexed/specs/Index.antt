@@ -27,21 +27,12 @@ pub data Look : Type 0 where
   tooGreat : Look
   meets : Record → Look
 
--- The record of the slot that an entry names, if there is such a slot and it is in form.
-abbrev pub inForm : Slot → Option Record
-inForm free = none
-inForm (used r) = some r
-inForm (spoiled x) = none
+-- By the slot that an entry names: none, or one not in form, counts as too great.
+abbrev pub lookAt : (Record → Look) → Slot → Look
+lookAt look free = tooGreat
+lookAt look (used r) = look r
+lookAt look (spoiled x) = tooGreat
 
-unfoldable pub named : List Slot → ℕ → Option Record
-named s i = inForm (getD s i free)
-
--- An entry that names no slot in form counts as too great.
-abbrev pub lookAt : (Record → Look) → Option Record → Look
-lookAt look none = tooGreat
-lookAt look (some r) = look r
-
--- Looking for a node by its version and place.
 unfoldable pub nodeLook : ℕ → Place → Record → Look
 nodeLook v p r = cond (nodeBefore (r .version) (r .place) v p) tooSmall
     (cond (nodeBefore v p (r .version) (r .place)) tooGreat (meets r))
@@ -61,7 +52,7 @@ abbrev pub searchFrom : ℕ → (Record → Look) → List ℕ → List Slot →
 searchFrom zero look table s lo hi = none
 searchFrom (suc n) look table s lo hi =
     let mid = (lo + hi) / 2 in
-    cond (ltb lo hi) (onwards (lookAt look (named s (getD table mid (length s))))
+    cond (ltb lo hi) (onwards (lookAt look (getD s (getD table mid (length s)) free))
     (searchFrom n look table s (suc mid) hi) (searchFrom n look table s lo mid)) none
 
 -- lo is 0 and hi the capacity at first; each look takes at least one entry away.
@@ -79,6 +70,5 @@ rootBy table st v = orScan (search (rootLook v) table (st .slots)) (rootSight st
 unfoldable pub nodeBy : List ℕ → Store → ℕ → Place → Sight
 nodeBy table st v p = orScan (search (nodeLook v p) table (st .slots)) (nodeSight st v p)
 
--- How a read finds by a table.
 abbrev pub byTable : List ℕ → Store → Looking
 byTable table st = record { root = rootBy table st; node = nodeBy table st }

@@ -48,9 +48,7 @@ ourLeaf = record { hash = 1; prehashKey = 1; prehashValue = 1; lengthOp = 0; pre
 
 -- Inner prefix byte 0, and the sibling on its side of the node's hash.
 abbrev pub opOf : Step → InnerOp
-opOf s =
-    cond (s .side) (record { hash = 1; prefix = 0 ∷ s .sibling; suffix = [] })
-    (record { hash = 1; prefix = 0 ∷ []; suffix = s .sibling })
+opOf s = record { hash = 1; prefix = 0 ∷ cond (s .side) (s .sibling) []; suffix = cond (s .side) [] (s .sibling) }
 
 -- A leaf shown, with its path from the leaf upwards.
 abbrev pub existenceOf : Presence → Existence
@@ -84,6 +82,5 @@ module _ (sha : Bytes → Bytes) where
 
   abbrev pub ownProof : Proof → Proof
   ownProof (presence p) = presence (ownPresence p)
-  ownProof (absence a) =
-      let own = Option·map ownPresence in
+  ownProof (absence a) = let own = Option·map ownPresence in
       absence (record { key = sha (a .key); leftward = own (a .leftward); rightward = own (a .rightward) })

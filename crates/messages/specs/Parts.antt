@@ -16,7 +16,6 @@ pub record Part : Type 0 where
   pub most : ℕ
   pub bytes : Bytes
 
--- 1 to `most` bytes.
 pub record Raw (most : ℕ) (x : Bytes) : Type 0 where
   pub some-byte : 1 ≤ length x
   pub short : length x ≤ most
@@ -57,6 +56,5 @@ leavesIn (absence a) =
 abbrev pub twoLeaves : Proof → List Part
 twoLeaves q = take 4 (leavesIn q ++ replicate 4 (record { at = 0; most = 0; bytes = [] }))
 
--- It stands there in the message m.
 abbrev pub StandsIn : Bytes → Part → Type 0
 StandsIn m p = slice (p .at) (length (p .bytes)) m ≡ p .bytes

@@ -11,14 +11,10 @@ unfoldable pub varintIn : ℕ → ℕ → Bytes
 varintIn zero x = x ∷ []
 varintIn (suc n) x = cond (ltb x 128) (x ∷ []) ((128 + x % 128) ∷ varintIn n (x / 128))
 
--- A varint has at most ten bytes.
 unfoldable pub varint : ℕ → Bytes
 varint x = varintIn 9 x
 
--- A field's tag: its number, and 0 before a number or 2 before bytes and messages, which begin with their length.
-unfoldable pub numberTag : ℕ → Bytes
-numberTag n = varint (8 * n)
-
+-- Before a field stands its tag: its number, and 0 for a number or 2 for bytes and messages, which begin with a length.
 unfoldable pub bytesTag : ℕ → Bytes
 bytesTag n = varint (8 * n + 2)
 
@@ -32,4 +28,4 @@ bytesField n x = cond (eqb (length x) 0) [] (messageField n x)
 
 -- Field n that holds a number or an operation code; 0, the default, is left out.
 unfoldable pub numberField : ℕ → ℕ → Bytes
-numberField n x = cond (eqb x 0) [] (numberTag n ++ varint x)
+numberField n x = cond (eqb x 0) [] (varint (8 * n) ++ varint x)

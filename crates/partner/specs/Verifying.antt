@@ -24,7 +24,6 @@ pub record ProofSpec : Type 0 where
   pub minDepth : ℕ
   pub prehashKeyBeforeComparison : Bool
 
--- Bytes that begin with others.
 unfoldable pub startsWith : Bytes → Bytes → Bool
 startsWith p x = sameBytes (take (length p) x) p
 
@@ -33,7 +32,6 @@ abbrev pub passes : {A : Type 0} → (A → Bool) → Option A → Bool
 passes test none = false
 passes test (some x) = test x
 
--- Ops with equal prefixes and suffixes.
 unfoldable pub sameOp : InnerOp → InnerOp → Bool
 sameOp x y = sameBytes (x .prefix) (y .prefix) && sameBytes (x .suffix) (y .suffix)
 

@@ -29,7 +29,6 @@ pub record Shelf : Type 0 where
   pub list : Bytes
   pub part : Place → Bytes
 
--- The earlier of two versions.
 unfoldable pub earlier : ℕ → ℕ → ℕ
 earlier v w = cond (leb v w) v w
 
@@ -40,11 +39,9 @@ readAt s v = earlier v (latestOf s)
 abbrev pub partsAt : Shelf → ℕ → Parts
 partsAt x v p = grantsOfVersion (x .part p) (readAt (x .part p) v)
 
--- The grants of all parts at v.
 abbrev pub shelfGrants : ℕ → Shelf → ℕ → List Grant
 shelfGrants b x v = allGrants b (partsAt x v)
 
--- The part of a key.
 abbrev pub partOf : ℕ → Bytes → Place
 partOf b k = take b (bits k)
 
