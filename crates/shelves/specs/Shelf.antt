@@ -111,7 +111,7 @@ pub record Run (n : ℕ) (p : Place) (s t : Bytes) : Type 0 where
   pub placed : All (λ a. begins p (askKey a) ≡ true) asks
   pub applied : (f : Bytes) × (g : Bytes) × Applies n batch s f 0 t g
 
--- A publishing as n: the touched parts apply their runs, the others stay; then the list applies the new roots of those.
+-- A publishing as n: touched parts apply their runs, others stay; then the list applies the touched parts' new roots.
 pub record Publishes (b n : ℕ) (x y : Shelf) : Type 0 where
   pub number : n ≤ top32
   pub touched : List Place
