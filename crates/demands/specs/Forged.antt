@@ -1,7 +1,7 @@
 -- Document 02, 2026-12: 'what acceptance means, whoever wrote the proof', over the contracts. Assumes nothing.
 use Prim.Native.Nat.{ℕ}
 use mathlib.Core.Path.{_≡_}
-use mathlib.Core.Logic.{_⊎_}
+use mathlib.Core.Logic.{_⊎_, _↔_}
 use mathlib.Core.List.{List, _++_}
 use lib.ListN.{length, getD}
 use Rattle.terms.specs.Bits.{Bytes}
@@ -47,8 +47,7 @@ pub record Cost (s : Bytes) (v : ℕ) (k x g : Bytes) : Type 0 where
   pub named : NamesFinding (messagesOf s v (accepts .proof)) g ⊎ (g ≡ zeroBytes 131)
   pub of-65-bytes : (m : Bytes) → Among m (messagesOf s v (accepts .proof)) → length m ≡ 65
   -- none is exactly if the proof is true
-  pub true-is-none : True (grantsOfVersion s v) (accepts .proof) → g ≡ zeroBytes 131
-  pub none-is-true : g ≡ zeroBytes 131 → True (grantsOfVersion s v) (accepts .proof)
+  pub none-if-true : True (grantsOfVersion s v) (accepts .proof) ↔ (g ≡ zeroBytes 131)
 
 -- Whom the bytes x deceived holds a finding.
 pub record Deceived (s : Bytes) (v : ℕ) (x g : Bytes) : Type 0 where

@@ -36,8 +36,7 @@ module _ (H : Bytes → Bytes) where
         FoundIn st v k x (refused 11)
     -- else what is found of it: nothing if it is true of the version's grants, what the search names if it isn't
     holding : {p : Proof} {a : Verdict} {f : Finding} → Kept st v → HoldsGrant st v → ProofIs x p → HoldsAt st v k p a →
-        (True (grantsIn (treeAtVersion st v)) p → f ≡ nothing) →
-        ((True (grantsIn (treeAtVersion st v)) p → ⊥) →
+        (True (grantsIn (treeAtVersion st v)) p → f ≡ nothing) → ((True (grantsIn (treeAtVersion st v)) p → ⊥) →
         f ≡ searched H (nodeMessages v (st .slots)) (checkedMessages H p)) → FoundIn st v k x (accepted f)
 
 -- What is found, in 131 bytes: 0, or 1 and two messages, or 2 and one message; zero where there is none.

@@ -50,7 +50,6 @@ nodeMessages v [] = []
 nodeMessages v (x ∷ s) = slotMessages v x ++ nodeMessages v s
 
 module _ (H : Bytes → Bytes) where
-  -- The hash of a leaf, and of an inner node.
   abbrev pub leafHash : Bytes → Bytes → Bytes
   leafHash k x = H (leafMessage k x)
 
@@ -63,7 +62,6 @@ module _ (H : Bytes → Bytes) where
   treeMessages (inner l r) =
       innerMessage (hash leafHash innerHash l) (hash leafHash innerHash r) ∷ (treeMessages l ++ treeMessages r)
 
-  -- The message of the parent of a node with hash h.
   abbrev pub parentMessage : Bytes → Step → Bytes
   parentMessage h s = cond (s .side) (innerMessage (s .sibling) h) (innerMessage h (s .sibling))
 

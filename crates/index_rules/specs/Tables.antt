@@ -16,11 +16,9 @@ use Rattle.layout.specs.Stores.{storeOf, storeBytes}
 use Rattle.promises.specs.Check.{Checked}
 use Rattle.promises.specs.Calls.{Does}
 
--- The table has as many entries as the bytes have room for slots.
 abbrev pub Fits : Bytes → List ℕ → Type 0
 Fits s table = length table ≡ roomOf counted (length s)
 
--- The table is the right one of the store in the bytes.
 abbrev pub RightFor : Bytes → List ℕ → Type 0
 RightFor s table = Right (storeOf s) table
 
@@ -46,8 +44,7 @@ pub data FormatsBoth (s : Bytes) (table : List ℕ) : ℕ → Bytes → List ℕ
   both-fresh : {t : Bytes} {u : List ℕ} → sizeRight counted (length s) ≡ true → Fits s table →
       t ≡ storeBytes (formatted (roomOf counted (length s))) → RightFor t u → FormatsBoth s table 0 t u
 
--- A call that tests soundness, with the table: 1, 2, 3 or 16 as telling answers, else as the call without it; refused,
--- nothing is written, and accepted, the right table of the store is left.
+-- A call that tests soundness, with the table: refused as telling is or as the call alone, else it keeps it right.
 pub data DoesBoth {A : Type 0} (call : Store → Result A) (s : Bytes) (table : List ℕ) : Answer A → Bytes → List ℕ →
     Type 0 where
   not-told : {r : ℕ} → (r ≡ 0 → ⊥) → Tells s table r → DoesBoth call s table (refused r) s table

@@ -70,7 +70,6 @@ abbrev pub messageBytes : Proof → Bytes
 messageBytes (presence p) = messageField 1 (existence p)
 messageBytes (absence a) = messageField 2 (nonexistence a)
 
--- A message of a presence has at most 14,868 bytes, of an absence at most 29,999.
 abbrev pub mostBytes : Proof → ℕ
 mostBytes (presence p) = 14868
 mostBytes (absence a) = 29999

@@ -28,8 +28,7 @@ module _ (sha : Bytes → Bytes) where
   -- Whether a partner accepts a message: the key with its value, or the key's absence; and what our check answers then.
   abbrev pub partnerAccepts : Bytes → Proof → Bool
   partnerAccepts root (presence p) = existenceHolds ourSpec sha root (existenceOf p) (p .key) (p .value)
-  partnerAccepts root (absence a) =
-      let shown = Option·map existenceOf in
+  partnerAccepts root (absence a) = let shown = Option·map existenceOf in
       nonExistenceHolds ourSpec sha root (shown (a .leftward)) (shown (a .rightward)) (a .key)
 
   abbrev pub verdictOf : Proof → Verdict

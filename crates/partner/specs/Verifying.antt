@@ -27,7 +27,6 @@ pub record ProofSpec : Type 0 where
 unfoldable pub startsWith : Bytes → Bytes → Bool
 startsWith p x = sameBytes (take (length p) x) p
 
--- Something is given and passes a test.
 abbrev pub passes : {A : Type 0} → (A → Bool) → Option A → Bool
 passes test none = false
 passes test (some x) = test x
@@ -50,17 +49,14 @@ module _ (spec : ProofSpec) where
 
   -- CheckAgainstSpec: of the leaf, of each inner op, and of a proof; a depth of 0 in the ProofSpec sets no bound.
   unfoldable pub leafRight : LeafOp → Bool
-  leafRight op =
-      let own = spec .leafSpec in
-      allOf (eqb (op .hash) (own .hash) ∷ eqb (op .prehashKey) (own .prehashKey)
-      ∷ eqb (op .prehashValue) (own .prehashValue) ∷ eqb (op .lengthOp) (own .lengthOp)
-      ∷ startsWith (own .prefix) (op .prefix) ∷ [])
+  leafRight op = let s = spec .leafSpec in
+      allOf (eqb (op .hash) (s .hash) ∷ eqb (op .prehashKey) (s .prehashKey) ∷ eqb (op .prehashValue) (s .prehashValue)
+      ∷ eqb (op .lengthOp) (s .lengthOp) ∷ startsWith (s .prefix) (op .prefix) ∷ [])
 
   unfoldable pub innerRight : InnerOp → Bool
-  innerRight op =
+  innerRight op = let long = length (op .prefix) in
       allOf (eqb (op .hash) (spec .innerHash) ∷ not (startsWith (spec .leafSpec .prefix) (op .prefix))
-      ∷ leb (spec .minPrefixLength) (length (op .prefix))
-      ∷ leb (length (op .prefix)) (spec .maxPrefixLength + last * size)
+      ∷ leb (spec .minPrefixLength) long ∷ leb long (spec .maxPrefixLength + last * size)
       ∷ leb 1 size ∷ eqb (length (op .suffix) % size) 0 ∷ [])
 
   unfoldable pub fits : Existence → Bool
@@ -70,8 +66,7 @@ module _ (spec : ProofSpec) where
 
   -- getPadding, hasPadding: how long prefix and suffix are for a branch.
   unfoldable pub hasPadding : InnerOp → ℕ → Bool
-  hasPadding op branch =
-      let i = position (spec .childOrder) branch in
+  hasPadding op branch = let i = position (spec .childOrder) branch in
       allOf (leb (i * size + spec .minPrefixLength) (length (op .prefix))
       ∷ leb (length (op .prefix)) (i * size + spec .maxPrefixLength)
       ∷ eqb (length (op .suffix)) ((last - i) * size) ∷ [])
@@ -87,9 +82,8 @@ module _ (spec : ProofSpec) where
   -- The first n branches are empty, each found in x after the bytes before it.
   abbrev pub emptyBelow : ℕ → Bytes → ℕ → Bool
   emptyBelow start x zero = true
-  emptyBelow start x (suc n) =
-      let child = take size (drop (start + position (spec .childOrder) n * size) x) in
-      emptyBelow start x n && sameBytes child (spec .emptyChild)
+  emptyBelow start x (suc n) = emptyBelow start x n &&
+      sameBytes (take size (drop (start + position (spec .childOrder) n * size) x)) (spec .emptyChild)
 
   -- leftBranchesAreEmpty, rightBranchesAreEmpty: x ends with n branches, at least one, and they are empty.
   unfoldable pub endsEmpty : Bytes → ℕ → Bool

@@ -3,7 +3,7 @@ use Prim.Native.Nat.{ℕ, _+_, _≤_}
 use mathlib.Core.Path.{_≡_}
 use mathlib.Core.Logic.{_↔_, _⊎_}
 use mathlib.Core.Bool.{true, cond}
-use mathlib.Core.List.{List, [], _++_}
+use mathlib.Core.List.{List, [], _++_, map}
 use lib.ListN.{length, take}
 use lib.Dec.{leb}
 use Rattle.terms.specs.Bits.{Bytes, Place, All, bits, begins}
@@ -19,7 +19,7 @@ use Rattle.layout.specs.Stores.{storeOf}
 use Rattle.batch.specs.Asked.{AskedBy}
 use Rattle.promises.specs.Calls.{SoundBytes}
 use Rattle.shelf_rules.specs.Shelf.{mostBits, partKey}
-use Rattle.shelf_grants.specs.Contents.{Parts, allGrants, Among, InPlace, listGrants, newRoots}
+use Rattle.shelf_grants.specs.Contents.{Parts, allGrants, Among, listGrants, askFor}
 use Rattle.contracts.specs.Contracts.{Formats, Applies, Prunes, ReadsRoot, Proves, Verifies, Finds, ShelfVerifies}
 use Rattle.demands.specs.Claims.{grantsOfVersion, latestOf}
 use Rattle.demands.specs.Forged.{Deceived}
@@ -52,7 +52,7 @@ pub record StandsAt (b : ℕ) (x : Shelf) (v : ℕ) : Type 0 where
   pub list-kept : Kept (storeOf (x .list)) v
   pub sound : (p : Place) → length p ≡ b → SoundBytes (x .part p)
   pub kept : (p : Place) → length p ≡ b → storeOf (x .part p) .oldest ≤ v
-  pub placed : InPlace b (partsAt x v)
+  pub placed : (p : Place) → length p ≡ b → All (λ g. begins p (g .key) ≡ true) (partsAt x v p)
   pub roots : grantsOfVersion (x .list) v ≡ listGrants leafHash innerHash b (partsAt x v)
 
 -- What proving gives for a key at v: the list's proof for its part, and where that shows a presence, then the part's.
@@ -76,8 +76,7 @@ pub record ShelfShown (b : ℕ) (x : Shelf) (v : ℕ) (k : Bytes) : Type 0 where
       Proves (x .part (partOf b k)) (readAt (x .part (partOf b k)) v) k room₁ f₁ r t₁ g₁ → 17080 ≤ length room₁ → r ≡ 0
   -- what is given the check accepts against the list's root, with what the grants of all parts say
   pub checked : {y f₁ root f found : Bytes} {r₁ r : ℕ} → Proved b x v k y → ReadsRoot (x .list) v f₁ r₁ root →
-      ShelfVerifies root b k y f r found →
-      (r₁ ≡ 0) × (r ≡ 0) × (found ≡ foundBytes (answerOf k (shelfGrants b x v)))
+      ShelfVerifies root b k y f r found → (r₁ ≡ 0) × (r ≡ 0) × (found ≡ foundBytes (answerOf k (shelfGrants b x v)))
   pub short : {y : Bytes} → Proved b x v k y → length y ≤ 17080 + 17080
 
 -- Of a shelf that stands at v, whose list has none: no part has a grant, there is no proof, and the root is zeros.
@@ -119,7 +118,7 @@ pub record Publishes (b n : ℕ) (x y : Shelf) : Type 0 where
   pub parts : (p : Place) → length p ≡ b →
       (Among p touched × Run n p (x .part p) (y .part p)) ⊎ ((Among p touched → ⊥) × (y .part p ≡ x .part p))
   pub batch : Bytes
-  pub asked : AskedBy batch (newRoots leafHash innerHash (partsAt y n) touched)
+  pub asked : AskedBy batch (map (λ p. askFor leafHash innerHash p (partsAt y n p)) touched)
   pub applied : (f : Bytes) × (g : Bytes) × Applies n batch (x .list) f 0 (y .list) g
 
 -- A pruning to n: the list to n, each part to n or its latest, whichever is less.
