@@ -32,7 +32,6 @@ messagesOf s v p = treeMessages sha256 (unversioned (treeOfVersion s v)) ++ chec
 
 -- The call was accepted of the bytes x, as a proof for the key k in version v of the bytes s; g is what it told.
 pub record Cost (s : Bytes) (v : ℕ) (k x g : Bytes) : Type 0 where
-  -- a sound store, a kept version that holds a grant, and a proof that the check accepts against its root
   pub sound : SoundBytes s
   pub kept : Kept (storeOf s) v
   pub granted : HoldsGrant (storeOf s) v

@@ -21,8 +21,7 @@ tellRows s table = rowsBy s table (soundRows s) ++ (16, RightFor s table → ⊥
 abbrev pub keepRows : Bytes → List ℕ → Table → Table
 keepRows s table rows = tellRows s table ++ drop 3 rows
 
--- A store and a table that only public calls wrote, each lent both: formatted together, or the table built for a store
--- with a life of its own; then come calls that keep both, build the table anew, or only look at the store.
+-- A store and a table that only public calls wrote: formatted together, or built for a store with a life of its own.
 pub data Together : Bytes → List ℕ → Type 0 where
   formatted-both : {s t : Bytes} {table u : List ℕ} → FormatsIndexed s table 0 t u → Together t u
   built-for : {start : List Entry} {history : List (Call × Bool)} {s : Bytes} {table u : List ℕ} →

@@ -40,7 +40,6 @@ pub record Alike (st st′ : Store) : Type 0 where
 
 -- The source s of a form was moved, and the bytes t of the target were left.
 pub record Moved (from : Form) (s t : Bytes) : Type 0 where
-  -- the source holds a sound store, and the target holds one too, whose bytes its bytes are
   pub was : SoundIn from s
   pub sound : SoundIn (other from) t
   pub bytes : t ≡ storeBytes (storeIn (other from) t)

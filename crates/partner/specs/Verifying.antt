@@ -99,8 +99,7 @@ module _ (spec : ProofSpec) where
   abbrev pub isRightMost : List InnerOp → Bool
   isRightMost path = allOf (map (λ op. hasPadding op last || passes (rightEmpty op) (branchOf op)) path)
 
-  -- IsLeftNeighbor, from the tops, which are the last ops: equal ones are taken off; of the two that remain on top the
-  -- right one's branch is the next, and below them the left path is rightmost and the right path leftmost.
+  -- IsLeftNeighbor, from the tops, the last ops: equal ops, then branches side by side, then rightmost and leftmost.
   abbrev pub neighboursFromTop : List InnerOp → List InnerOp → Bool
   neighboursFromTop [] ys = false
   neighboursFromTop (x ∷ xs) [] = false
@@ -138,8 +137,7 @@ module _ (spec : ProofSpec) where
 
     -- ExistenceProof.Verify of a key with a value.
     unfoldable pub existenceHolds : Bytes → Existence → Bytes → Bytes → Bool
-    existenceHolds root e k v =
-        let led = passes (λ r. sameBytes r root) (calculated e) in
+    existenceHolds root e k v = let led = passes (λ r. sameBytes r root) (calculated e) in
         allOf (fits e ∷ sameBytes k (e .key) ∷ sameBytes v (e .value) ∷ led ∷ [])
 
     -- Keys are compared after hashing where the ProofSpec says so.

@@ -65,12 +65,11 @@ pub data Proved (b : ℕ) (x : Shelf) (v : ℕ) (k : Bytes) : Bytes → Type 0 w
 
 -- A key of a shelf that stands at v, whose list has a grant.
 pub record ShelfShown (b : ℕ) (x : Shelf) (v : ℕ) (k : Bytes) : Type 0 where
-  -- the list's proof is given, where there is room; it shows an absence exactly if the key's part has no grant
+  -- where there is room, the list's proof is given; it shows an absence exactly if the part has no grant; else the part's
   pub list-given : {room f t g : Bytes} {r : ℕ} → Proves (x .list) v (partKey b k) room f r t g →
       17080 ≤ length room → r ≡ 0
   pub no-part : {room f t g : Bytes} → Proves (x .list) v (partKey b k) room f 0 t g →
       (field 4 2 t ≡ absenceKind) ↔ (partsAt x v (partOf b k) ≡ [])
-  -- else the part's proof is given, where there is room
   pub part-given : {room f t g room₁ f₁ t₁ g₁ : Bytes} {r : ℕ} →
       Proves (x .list) v (partKey b k) room f 0 t g → field 4 2 t ≡ presenceKind →
       Proves (x .part (partOf b k)) (readAt (x .part (partOf b k)) v) k room₁ f₁ r t₁ g₁ → 17080 ≤ length room₁ → r ≡ 0
