@@ -52,7 +52,7 @@ encodes {m} {q} b e = let s = message-said m q b e in raw-encodes (s .0) (s .1)
 pub short : {m : Bytes} {q : Proof} → Encodes (recordOf sha256 q) m q → length m ≤ 29999
 short {m} {q} e = omega (arith, message-at-most q (encodes-raw e), most-bytes q, ap length (e .is))
 
-says-none : {m : Bytes} → All Byte m → messageIn m ≡ none → Which (λ q. Encodes (recordOf sha256 q) m q) none
+says-none : {m : Bytes} → All Byte m → messageIn m ≡ none → (q : Proof) → Encodes (recordOf sha256 q) m q → ⊥
 says-none {m} b e q k = Option·none-ne-some q (sym e ∙ message-exactly m q b .1 (encodes-raw k, k .is))
 
 pub reads-nothing : {m room f : Bytes} → All Byte m → messageIn m ≡ none → ReadsMessage m room f 10 room f

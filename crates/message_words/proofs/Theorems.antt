@@ -14,7 +14,7 @@ use Rattle.terms.specs.Records.{Proof, presence, absence}
 use Rattle.meaning.specs.Calls.{Answer, refused, accepted}
 use Rattle.meaning.specs.Answers.{numberOf, toldOf, roomAfter}
 use Rattle.sha256.specs.Sha256.{sha256}
-use Rattle.proofrecords.specs.ProofBytes.{ProofSaid, ProofIs}
+use Rattle.proofrecords.specs.ProofBytes.{ProofIs, Which}
 use Rattle.proofrecords.proofs.Proofs.{one-proof-said}
 use Rattle.messages.specs.Message.{messageBytes, ownProof}
 use Rattle.messages.specs.Parts.{askedIn, leavesIn, twoLeaves, StandsIn}

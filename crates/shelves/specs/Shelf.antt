@@ -65,7 +65,7 @@ pub data Proved (b : ℕ) (x : Shelf) (v : ℕ) (k : Bytes) : Bytes → Type 0 w
 
 -- A key of a shelf that stands at v, whose list has a grant.
 pub record ShelfShown (b : ℕ) (x : Shelf) (v : ℕ) (k : Bytes) : Type 0 where
-  -- where there is room, the list's proof is given; it shows an absence exactly if the part has no grant; else the part's
+  -- where there is room the list's proof is given, an absence exactly if the part has no grant; else the part's too
   pub list-given : {room f t g : Bytes} {r : ℕ} → Proves (x .list) v (partKey b k) room f r t g →
       17080 ≤ length room → r ≡ 0
   pub no-part : {room f t g : Bytes} → Proves (x .list) v (partKey b k) room f 0 t g →
