@@ -44,7 +44,7 @@ pub data FormatsBoth (s : Bytes) (table : List ℕ) : ℕ → Bytes → List ℕ
   both-fresh : {t : Bytes} {u : List ℕ} → sizeRight counted (length s) ≡ true → Fits s table →
       t ≡ storeBytes (formatted (roomOf counted (length s))) → RightFor t u → FormatsBoth s table 0 t u
 
--- A call that tests soundness, with the table: refused as telling is or as the call alone, else it keeps it right.
+-- A call that tests soundness, with the table: refused as telling is or as the call alone, else the right one is left.
 pub data DoesBoth {A : Type 0} (call : Store → Result A) (s : Bytes) (table : List ℕ) : Answer A → Bytes → List ℕ →
     Type 0 where
   not-told : {r : ℕ} → (r ≡ 0 → ⊥) → Tells s table r → DoesBoth call s table (refused r) s table

@@ -27,7 +27,7 @@ pub data Look : Type 0 where
   tooGreat : Look
   meets : Record → Look
 
--- By the slot that an entry names: none, or one not in form, counts as too great.
+-- By the slot that an entry names; an entry that names no slot in form counts as too great.
 abbrev pub lookAt : (Record → Look) → Slot → Look
 lookAt look free = tooGreat
 lookAt look (used r) = look r

@@ -30,7 +30,7 @@ pub record SameRoom (from to : Form) (s old : Bytes) : Type 0 where
   pub target : sizeRight to (length old) ≡ true
   pub equal : roomOf from (length s) ≡ roomOf to (length old)
 
--- Moving the source s of a form into a target with the bytes old gives this number, and leaves these bytes of it.
+-- Moving the source s of a form into a target with the bytes old gives this number, 0 if accepted, and leaves these.
 pub data Moves (from : Form) (s old : Bytes) : ℕ → Bytes → Type 0 where
   -- 1: a source or target of wrong size; nothing is written
   wrong-size : (SameRoom from (other from) s old → ⊥) → Moves from s old 1 old
