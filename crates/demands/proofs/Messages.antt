@@ -134,11 +134,11 @@ message-is-given {x} {asked} {leaves} {room} {f} {t} {g} w =
       encodes = there;
       lends = k .lends;
       at-most = omega (arith, long, short);
-      given-back = λ {room = room₁} {f = f₁} {t₁} {g₁} {r} fits v. read-back there fits v;
+      given-back = λ {room = room₁} {f = f₁} {u} {h} {r} fits v. read-back there fits v;
       stands = stands-there there;
-      accepted = λ {room = room₁} {f = f₁} {t₁} {g₁} {root} {k = key} {f₂} {g₂} {r} {r₂} fits v.
-          let is : take (length x) t₁ ≡ x = ap (take (length x)) (read-back there fits v .1) ∙ take-at x (drop (length x) room₁) (length x) refl in
-          (subst (λ y. Verifies root key y f₂ r₂ g₂) is, subst (λ y. Verifies root key y f₂ r₂ g₂) (sym is));
+      accepted = λ {room = room₁} {f = f₁} {u} {h} {root} {k = key} {a} {b} {r} {n} fits v.
+          let is : take (length x) u ≡ x = ap (take (length x)) (read-back there fits v .1) ∙ take-at x (drop (length x) room₁) (length x) refl in
+          (subst (λ y. Verifies root key y a n b) is, subst (λ y. Verifies root key y a n b) (sym is));
       partner = partner-agrees x q (encodes-raw there) (there .own);
     }
 

@@ -29,7 +29,7 @@ pub shelf-in-form : {x : Bytes} {p : ShelfProof} → ShelfIs x p → (x ≡ shel
 shelf-in-form (alone h) = (h .bytes, h .form)
 shelf-in-form (both h i) = (ap₂ _++_ (h .bytes) (i .bytes), (h .form, i .form))
 
-in-form-shelf : {x : Bytes} (p : ShelfProof) → x ≡ shelfBytes p → ShelfForm p → ShelfIs x p
+pub in-form-shelf : {x : Bytes} (p : ShelfProof) → x ≡ shelfBytes p → ShelfForm p → ShelfIs x p
 in-form-shelf (noPart a) e h = alone (record { bytes = e; form = h })
 in-form-shelf (inPart p q) e (h, i) =
     subst (λ z. ShelfIs z (inPart p q)) (sym e) (both (record { bytes = refl; form = h }) (record { bytes = refl; form = i }))
