@@ -67,10 +67,10 @@ pub record ProofIs (x : Bytes) (p : Proof) : Type 0 where
   pub bytes : x ≡ proofBytes p
   pub form : ProofForm p
 
--- Which proof the bytes are; none, where they are none (10).
-abbrev pub ProofSaid : Bytes → Option Proof → Type 0
-ProofSaid x none = (p : Proof) → ProofIs x p → ⊥
-ProofSaid x (some p) = ProofIs x p
+-- Which proof something holds of; none, where it holds of none.
+abbrev pub Which : (Proof → Type 0) → Option Proof → Type 0
+Which P none = (p : Proof) → P p → ⊥
+Which P (some p) = P p
 
 -- What bytes are read as, as the code reads them; no public promise reaches it. Kinds and sizes.
 abbrev pub presenceKind : ℕ

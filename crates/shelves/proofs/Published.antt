@@ -122,11 +122,11 @@ module _ {b n : ℕ} {x y : Shelf} (w : Standing b x) (act : Publishes b n x y) 
   abbrev top : ℕ
   top = latestOf (x .list)
 
-  list-next : NextVersion n (act .batch) (x .list) (y .list) (act .g)
-  list-next = accepted-batch-makes-next-version n (act .batch) (act .number) (act .applied)
+  list-next : NextVersion n (act .batch) (x .list) (y .list) (act .applied .1)
+  list-next = accepted-batch-makes-next-version n (act .batch) (act .number) (act .applied .2)
 
-  run-next : (p : Place) (r : Run n p (x .part p) (y .part p)) → NextVersion n (r .batch) (x .part p) (y .part p) (r .g)
-  run-next p r = accepted-batch-makes-next-version n (r .batch) (act .number) (r .applied)
+  run-next : (p : Place) (r : Run n p (x .part p) (y .part p)) → NextVersion n (r .batch) (x .part p) (y .part p) (r .applied .1)
+  run-next p r = accepted-batch-makes-next-version n (r .batch) (act .number) (r .applied .2)
 
   -- at the top of the list a part is at its own latest
   at-top : (p : Place) → length p ≡ b → earlier top (latestOf (x .part p)) ≡ latestOf (x .part p)
