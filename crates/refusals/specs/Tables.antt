@@ -1,4 +1,5 @@
--- Document 01, 'Numbers of refusal', and document 02: the table of each public call. A hash is never refused.
+-- Document 01, 'Numbers of refusal', and document 02: the table of each public call, each row a proposition. 'Order:
+-- 12; then 1, 2; apply 3, 4, 5, 6, 7; prune 3, 8; reads 8, 3, 9; the proof check 10, 11.' A hash is never refused.
 use Prim.Native.Nat.{ℕ, _+_, _*_, _-_, _≤_, _<_}
 use mathlib.Core.Path.{_≡_}
 use mathlib.Core.Logic.{_⊎_}

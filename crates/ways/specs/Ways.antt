@@ -1,4 +1,5 @@
--- Document 01, 'Reading and proving', and 02's 2026-07, over the slots of any store: what stops a read, the first met.
+-- Document 01, 'Reading and proving', and 2026-07, over the slots of any store: what stops a read. 'A present child of
+-- the second kind now gives 17 and the third stays 3. The first met is given: walk, left descent, right descent.'
 use Prim.Native.Nat.{ℕ, _<_, _≤_}
 use mathlib.Core.Path.{_≡_}
 use mathlib.Core.Logic.{_⊎_}
