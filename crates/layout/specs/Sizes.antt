@@ -48,12 +48,9 @@ gapAt = 6
 abbrev pub headerTailAt : ℕ
 headerTailAt = 20
 
--- Length and kind of a leaf; kind of an inner record in a slot of n bytes.
+-- The kind of a leaf, and of an inner record in a slot of n bytes.
 abbrev pub plainSize : ℕ
 plainSize = 120
-
-abbrev pub leafLength : ℕ
-leafLength = 112
 
 abbrev pub leafKind : ℕ
 leafKind = 2
@@ -71,9 +68,6 @@ keyAt = 48
 abbrev pub valueAt : ℕ
 valueAt = 80
 
-abbrev pub tailAt : ℕ
-tailAt = 112
-
 -- An inner record's left version 4, left hash 32, right version 4, right hash 32.
 abbrev pub childSize : ℕ
 childSize = 36
@@ -83,13 +77,6 @@ leftAt = 48
 
 abbrev pub rightAt : ℕ
 rightAt = 84
-
--- In the counted form an inner record's left count 4, right count 4.
-abbrev pub leftCountAt : ℕ
-leftCountAt = 120
-
-abbrev pub rightCountAt : ℕ
-rightCountAt = 124
 
 -- One more than the largest number of eight bytes: an address is below it.
 abbrev pub most64 : ℕ
