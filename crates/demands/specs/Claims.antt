@@ -88,7 +88,8 @@ pub record ReadsFor (s : Bytes) (v : ℕ) (gs : List Grant) : Type 0 where
 pub record AfterHistory (start : List Entry) (history : List (Call × Bool)) (t : Bytes) : Type 0 where
   pub sound : SoundBytes t
   pub bytes : t ≡ storeBytes (storeOf t)
-  pub holds : Holds leafHash innerHash (storeOf t) (ledger history start)
+  pub holds : Holds leafHash innerHash (storeOf t) (ledger history start)  -- exactly the grants of its history
+  -- each record stands in exactly the kept versions of its lifetime
   pub lifetimes : (v : ℕ) → Kept (storeOf t) v → (i : ℕ) (r : Record) → At (storeOf t) i r →
       InTree r (treeOfVersion t v) ↔ Lives v r
   pub reads : {v : ℕ} {gs : List Grant} → Kept (storeOf t) v → grantsOf v (ledger history start) ≡ some gs →
