@@ -11,9 +11,8 @@ use Rattle.terms.specs.Bits.{Bytes, filter, sameBytes}
 use Rattle.terms.specs.Records.{Ask, insert, delete, askKey}
 use Rattle.hash.specs.declared.Hash.{Hash}
 use Rattle.hash.specs.Hash.{hashBytes}
-use Rattle.batch.specs.Asked.{askValue}
 use Rattle.batch.specs.Batch.{count, asks}
-use Rattle.batch.specs.Records.{askAt, inserts}
+use Rattle.batch.specs.Records.{askAt, askValue, inserts}
 use Rattle.batch.proofs.Records.{asks-from, length-asks, length-key}
 use Rattle.steps.specs.Step as step
 use Rattle.apply_alone.specs.declared.Own.the-variants.{Insert, Delete}

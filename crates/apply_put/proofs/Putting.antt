@@ -39,5 +39,5 @@ module _ (a : declared.Applied) (f : Bytes) where
   sent-refusal {m} e = subst (λ q. Sent (appliedSays q) f m f) (sym e) (refl, refl)
 
   pub sent-made : {v n : ℕ} {h : Hash} {g : Bytes} → a ≡ Made v h n → g ≡ answerBytes v (hashBytes h) n → Sent (appliedSays a) f 0 g
-  unfolding appliedSays
+  unfolding appliedSays answerBytes
   sent-made {g = g} e k = subst (λ q. Sent (appliedSays q) f 0 g) (sym e) (refl, k)

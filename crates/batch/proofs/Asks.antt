@@ -15,11 +15,19 @@ use Rattle.terms.specs.Form.{AskForm}
 use Rattle.terms.proofs.Tests.{and-left, and-right, and-true}
 use Rattle.terms.proofs.Fields.{num-le, length-le, le-field, length-slice, all-slice, zero-bytes, cuts, flat-cuts, all-of-tests, tests-all, test-passed, test-failed, Sized, cuts-flat, length-flat}
 use Rattle.batch.specs.Sizes.{recordSize, insertLength, insertKind, deleteLength, deleteKind, kindAt, zeroAt, keyAt, valueAt}
-use Rattle.batch.specs.Asked.{askLength, askKind, askValue, askBytes}
+use Rattle.batch.specs.Asked.{askBytes}
 use Rattle.batch.specs.Batch.{headIs, isInsert, isDelete, askForm, ask}
-use Rattle.batch.specs.Records.{inserts}
+use Rattle.batch.specs.Records.{inserts, askValue}
 
--- a record's fields, and their sizes
+-- a record's length and kind, its fields, and their sizes
+abbrev askLength : Ask → ℕ
+askLength (insert k x) = insertLength
+askLength (delete k) = deleteLength
+
+abbrev askKind : Ask → ℕ
+askKind (insert k x) = insertKind
+askKind (delete k) = deleteKind
+
 abbrev fields : Ask → List Bytes
 fields a = le 4 (askLength a) ∷ le 2 (askKind a) ∷ le 2 0 ∷ askKey a ∷ askValue a ∷ []
 
@@ -38,14 +46,17 @@ value-length (delete k) h = refl
 sized : (a : Ask) → AskForm a → Sized sizes (fields a)
 sized a h = (length-le 4 (askLength a), (length-le 2 (askKind a), (length-le 2 0, (key-whole a h .0, (value-length a h, tt)))))
 
-pub length-ask : (a : Ask) → AskForm a → length (askBytes a) ≡ recordSize
+of-fields : (a : Ask) → askBytes a ≡ flat (fields a)
 unfolding askBytes
-length-ask a h = length-flat sizes (fields a) (sized a h)
+of-fields (insert k x) = refl
+of-fields (delete k) = refl
+
+pub length-ask : (a : Ask) → AskForm a → length (askBytes a) ≡ recordSize
+length-ask a h = ap length (of-fields a) ∙ length-flat sizes (fields a) (sized a h)
 
 -- field number n of the bytes of an ask
 cut : (a : Ask) → AskForm a → (n : ℕ) → getD (cuts sizes 0 (askBytes a)) n [] ≡ getD (fields a) n []
-unfolding askBytes
-cut a h n = ap (λ l. getD l n []) (cuts-flat sizes (fields a) (sized a h))
+cut a h n = ap (λ x. getD (cuts sizes 0 x) n []) (of-fields a) ∙ ap (λ l. getD l n []) (cuts-flat sizes (fields a) (sized a h))
 
 length-small : (a : Ask) → askLength a < 4294967296
 length-small (insert k x) = omega arith

@@ -16,9 +16,8 @@ use Rattle.terms.specs.Form.{AskForm}
 use Rattle.terms.proofs.Lists.{all-take, all-drop, all-of, all-map}
 use Rattle.terms.proofs.Fields.{length-slice, all-slice}
 use Rattle.batch.specs.Sizes.{recordSize, keyAt, valueAt}
-use Rattle.batch.specs.Asked.{askValue}
 use Rattle.batch.specs.Batch.{ask, records, count, recordsOf, asks}
-use Rattle.batch.specs.Records.{inserts, recordAt, askAt}
+use Rattle.batch.specs.Records.{inserts, askValue, recordAt, askAt}
 use Rattle.batch.specs.Runs.{half}
 use Rattle.batch.proofs.Asks.{ask-whole, key-is, insert-is, value-is}
 

@@ -3,7 +3,7 @@ use Prim.Native.Nat.{ℕ, _*_}
 use mathlib.Core.Bool.{Bool, true, false}
 use Rattle.terms.specs.Bits.{Bytes}
 use Rattle.terms.specs.Fields.{slice}
-use Rattle.terms.specs.Records.{Ask, insert, delete}
+use Rattle.terms.specs.Records.{Ask, insert, delete, zeros}
 use Rattle.batch.specs.Sizes.{recordSize}
 use Rattle.batch.specs.Batch.{ask}
 
@@ -11,6 +11,11 @@ use Rattle.batch.specs.Batch.{ask}
 abbrev pub inserts : Ask → Bool
 inserts (insert k x) = true
 inserts (delete k) = false
+
+-- Its value, zero for delete.
+abbrev pub askValue : Ask → Bytes
+askValue (insert k x) = x
+askValue (delete k) = zeros
 
 -- Record i of a batch, and what it asks for.
 unfoldable pub recordAt : ℕ → Bytes → Bytes

@@ -6,9 +6,8 @@ ghost use Prim.Native.Nat.{_<_};
 ghost use lib.ListN.{length};
 ghost use Rattle.terms.specs.Records.{askKey};
 ghost use Rattle.batch.specs.Sizes.{recordSize};
-ghost use Rattle.batch.specs.Asked.{askValue};
 ghost use Rattle.batch.specs.Batch.{count};
-ghost use Rattle.batch.specs.Records.{recordAt, askAt, inserts};
+ghost use Rattle.batch.specs.Records.{recordAt, askAt, askValue, inserts};
 
 // Batch record, 72 bytes: length 72 and kind 1 (insert) or length 40 and kind 2 (delete), 2 zero, key 32, value 32 (zero for delete).
 pub const RECORD_SIZE: usize = 72;

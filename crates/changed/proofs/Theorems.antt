@@ -25,7 +25,7 @@ use Rattle.changed.proofs.Visits.{beyond, visits-comm, visits-same, vis
 use Rattle.changed.proofs.Walk.{stands-sits, listed-changed}
 use Rattle.changed.proofs.Few.{listed-counted}
 
-key-order : (cs : List Change) → InOrder changeKey cs → KeyOrder cs
+key-order : (cs : List Change) → InOrder changeKey cs → KeyOrder changeKey cs
 key-order [] s = tt
 key-order (c ∷ cs) s = (s .0, key-order cs (s .1))
 

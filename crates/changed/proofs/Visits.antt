@@ -34,7 +34,6 @@ visited-count (suc n) p t u =
     go false x y e f = ap suc (length-append x y ∙ ap₂ _+_ e f)
 
 pub visits-count : (t u : VTree) → visits t u ≡ visitsAt 256 t u
-unfolding visits
 visits-count t u = visited-count 256 [] t u
 
 -- symmetric

@@ -1,5 +1,4 @@
--- Document 02, request 2026-01: every key added, removed or given another value, in key order, each once; and the list
--- of them as batch records, where a delete carries the old value. Assumes nothing.
+-- Document 02, request 2026-01: what changed, in key order, each key once, and the list of it as batch records.
 use Prim.Native.Nat.{ℕ}
 use mathlib.Core.Bool.{true, false, cond}
 use mathlib.Core.List.{List, [], _∷_, _++_, map}
@@ -11,8 +10,7 @@ use Rattle.meaning.specs.Reading.{Verdict, present, absent, answerOf}
 
 -- A key is added, removed, or given another value: the old one, then the new one.
 pub data Change : Type 0 where
-  added : Grant → Change
-  removed : Grant → Change
+  added removed : Grant → Change
   another : Bytes → Bytes → Bytes → Change
 
 abbrev pub changeKey : Change → Bytes
@@ -27,8 +25,7 @@ between k absent (present y) = added (grant k y) ∷ []
 between k (present x) absent = removed (grant k x) ∷ []
 between k (present x) (present y) = cond (sameBytes x y) [] (another k x y ∷ [])
 
--- What changed from the first grants to the second, in key order: up to the first of the first grants all keys are
--- added, then comes what became of its key, then what changed beyond it.
+-- In key order: up to the first of the old grants all keys are added, then what became of its key, then what is beyond.
 abbrev pub changed : List Grant → List Grant → List Change
 changed [] new = map added new
 changed (g ∷ gs) new =
@@ -43,16 +40,14 @@ undone (another k x y) = another k y x
 
 -- A record of the list: an insert with the new value, or a delete with the old one.
 pub data Item : Type 0 where
-  inserts : Grant → Item
-  deletes : Grant → Item
+  inserts deletes : Grant → Item
 
--- Changes are a delete and then an insert.
+-- The records of a change, where another value is a delete and then an insert; and those of all.
 abbrev pub itemsOf : Change → List Item
 itemsOf (added g) = inserts g ∷ []
 itemsOf (removed g) = deletes g ∷ []
 itemsOf (another k x y) = deletes (grant k x) ∷ inserts (grant k y) ∷ []
 
--- The list.
 abbrev pub items : List Change → List Item
 items [] = []
 items (c ∷ cs) = itemsOf c ++ items cs
@@ -62,18 +57,17 @@ abbrev pub askOf : Item → Ask
 askOf (inserts g) = insert (g .key) (g .value)
 askOf (deletes g) = delete (g .key)
 
--- For this list only, a delete has length 72.
-abbrev pub itemSize : ℕ
-itemSize = 72
-
--- Length 72, kind (1 insert, 2 delete), 2 zero, key 32, value 32.
+-- Length 72, for this list also of a delete; kind (1 insert, 2 delete), 2 zero, key 32, value 32.
 unfoldable pub itemAs : ℕ → Grant → Bytes
-itemAs kind g = flat (le 4 itemSize ∷ le 2 kind ∷ zeroBytes 2 ∷ g .key ∷ g .value ∷ [])
+itemAs kind g = flat (le 4 72 ∷ le 2 kind ∷ zeroBytes 2 ∷ g .key ∷ g .value ∷ [])
 
 abbrev pub itemBytes : Item → Bytes
 itemBytes (inserts g) = itemAs 1 g
 itemBytes (deletes g) = itemAs 2 g
 
--- The bytes of the list: its records one after the other.
 abbrev pub listBytes : List Item → Bytes
 listBytes xs = flat (map itemBytes xs)
+
+-- The length by name, as the laws cite it.
+abbrev pub itemSize : ℕ
+itemSize = 72

@@ -9,17 +9,12 @@ use Rattle.meaning.specs.Reading.{answerOf}
 use Rattle.changed.specs.Changes.{Change, changeKey, between, items, askOf}
 
 -- In key order: each key before all that follow, so each once.
-abbrev pub KeyOrder : List Change → Type 0
-KeyOrder [] = Unit {0}
-KeyOrder (c ∷ cs) = All (λ d. before (changeKey c) (changeKey d) ≡ true) cs × KeyOrder cs
+abbrev pub KeyOrder : {A : Type 0} → (A → Bytes) → List A → Type 0
+KeyOrder key [] = Unit {0}
+KeyOrder key (x ∷ xs) = All (λ y. before (key x) (key y) ≡ true) xs × KeyOrder key xs
 
--- What the list says of a key.
-abbrev pub saidOf : Bytes → List Change → List Change
-saidOf k cs = filter (λ c. sameBytes k (changeKey c)) cs
-
+-- The list says of every key exactly what became of it; applied in the mind to the first grants it gives the second.
 pub record WhatChanged (a b : List Grant) (cs : List Change) : Type 0 where
-  -- of every key it says exactly what became of it: added, removed, given another value, or nothing
-  pub exact : (k : Bytes) → saidOf k cs ≡ between k (answerOf k a) (answerOf k b)
-  pub ordered : KeyOrder cs
-  -- applied in the mind to the first grants it gives the second
+  pub exact : (k : Bytes) → filter (λ c. sameBytes k (changeKey c)) cs ≡ between k (answerOf k a) (answerOf k b)
+  pub ordered : KeyOrder changeKey cs
   pub applied : withBatch (map askOf (items cs)) a ≡ b

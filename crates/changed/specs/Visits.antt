@@ -13,8 +13,7 @@ isInner vnone = false
 isInner (vleaf v g) = false
 isInner (vinner v l r) = true
 
--- Two trees at one place have the same record there: nodes of one kind and version, for no two records share version
--- and place.
+-- Two trees at one place have the same record there, a node of one kind and version: no two share version and place.
 abbrev pub sameRecord : VTree → VTree → Bool
 sameRecord vnone u = false
 sameRecord (vleaf v g) vnone = false
@@ -28,15 +27,12 @@ sameRecord (vinner v l r) (vinner w m s) = eqb v w
 unfoldable pub noDeeper : VTree → VTree → Bool
 noDeeper t u = sameRecord t u || (not (isInner t) && not (isInner u))
 
--- The places visited from a place that is n bits short of a key: the place itself, and where it goes deeper both longer
--- places; no inner node stands at a place of a whole key.
+-- From a place n bits short of a key: the place itself, and both longer ones where it goes deeper, at no whole key.
 abbrev pub visited : ℕ → Place → VTree → VTree → List Place
 visited zero p t u = p ∷ []
-visited (suc n) p t u =
-    p
-    ∷ cond (noDeeper t u) []
+visited (suc n) p t u = p ∷ cond (noDeeper t u) []
     (visited n (longer left p) (kid left t) (kid left u) ++ visited n (longer right p) (kid right t) (kid right u))
 
--- Visit the empty place. A visit counts one.
-unfoldable pub visits : VTree → VTree → ℕ
+-- How many they are for two trees, as the laws cite it.
+abbrev pub visits : VTree → VTree → ℕ
 visits t u = length (visited 256 [] t u)

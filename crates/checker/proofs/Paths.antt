@@ -10,7 +10,7 @@ use Rattle.terms.proofs.Lists.{all-append}
 use Rattle.terms.proofs.Tests.{and-left, and-right, or-cases, same-bit, bit-same, same-bytes, bytes-same}
 use Rattle.meaning.specs.Proving.{step}
 use Rattle.meaning.specs.Checking.{keepsTo, outermost, sameStep, partFromTop, pathsPart}
-use Rattle.checker.specs.Holding.{Outermost, Rightmost, Leftmost, Parted}
+use Rattle.checker.specs.Holding.{Outermost, Rightmost, Leftmost, Parted, parted}
 
 pub both-true : (a b : Bool) → a ≡ true → b ≡ true → a && b ≡ true
 both-true a b e f = rw (e, f)
@@ -139,22 +139,11 @@ parted-exactly lefts rights = (there, back)
     there : partFromTop (reverse lefts) (reverse rights) ≡ true → Parted lefts rights
     there h =
         let w = parts-said (reverse lefts) (reverse rights) h in
-        record {
-          xs = reverse (w .xs);
-          x = w .x;
-          ys = reverse (w .ys);
-          y = w .y;
-          common = reverse (w .common);
-          left-is = sym (reverse-reverse lefts) ∙ ap reverse (w .left-is) ∙ turned-about (w .common) (w .x) (w .xs);
-          right-is = sym (reverse-reverse rights) ∙ ap reverse (w .right-is) ∙ turned-about (w .common) (w .y) (w .ys);
-          left-side = w .left-side;
-          right-side = w .right-side;
-          rightmost = turned right (w .xs) (w .rightmost);
-          leftmost = turned left (w .ys) (w .leftmost);
-        }
+        parted (reverse (w .xs)) (reverse (w .ys)) (reverse (w .common)) (w .x) (w .y) (sym (reverse-reverse lefts) ∙ ap reverse (w .left-is) ∙ turned-about (w .common) (w .x) (w .xs))
+        (sym (reverse-reverse rights) ∙ ap reverse (w .right-is) ∙ turned-about (w .common) (w .y) (w .ys)) (w .left-side)
+        (w .right-side) (turned right (w .xs) (w .rightmost)) (turned left (w .ys) (w .leftmost))
 
     back : Parted lefts rights → partFromTop (reverse lefts) (reverse rights) ≡ true
-    back w =
-        rw (w .left-is, w .right-is, turned-about (w .xs) (w .x) (w .common), turned-about (w .ys) (w .y) (w .common))
-        (said-parts (reverse (w .common)) (w .x) (reverse (w .xs)) (w .y) (reverse (w .ys)) (w .left-side) (w .right-side)
-        (turned right (w .xs) (w .rightmost)) (turned left (w .ys) (w .leftmost)))
+    back (parted xs ys common x y l r e f h g) =
+        rw (l, r, turned-about xs x common, turned-about ys y common)
+        (said-parts (reverse common) x (reverse xs) y (reverse ys) e f (turned right xs h) (turned left ys g))

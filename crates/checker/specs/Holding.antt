@@ -1,5 +1,4 @@
--- Document 01, 'Checking', in its words: when a proof holds, whoever wrote it; and 2026-03: without a neighbour none
--- does. No test of a program stands here. Assumes nothing.
+-- Document 01, 'Checking', in its words, with 2026-03: when a proof holds, whoever wrote it. Assumes nothing.
 use mathlib.Core.Path.{_≡_}
 use mathlib.Core.Logic.{_⊎_}
 use mathlib.Core.Bool.{true}
@@ -11,31 +10,15 @@ use Rattle.meaning.specs.Reading.{Verdict, present, absent}
 use Rattle.meaning.specs.Proving.{absenceOf}
 use Rattle.meaning.specs.Checking.{climb}
 
--- Every step has this side or a zero sibling.
+-- A path is rightmost (leftmost) if every step has side 1 (0) or a zero sibling.
 abbrev pub Outermost : Side → List Step → Type 0
 Outermost b steps = All (λ s. (s .side ≡ b) ⊎ (s .sibling ≡ zeros)) steps
 
--- A path is rightmost if every step has side 1 or a zero sibling, leftmost if side 0 or a zero sibling.
-abbrev pub Rightmost : List Step → Type 0
-Rightmost steps = Outermost right steps
-
-abbrev pub Leftmost : List Step → Type 0
-Leftmost steps = Outermost left steps
-
 -- With equal steps taken off the tops of two paths, a step remains in each, the left's with side 0 and the right's with
 -- side 1, and below these the left path is rightmost and the right path leftmost.
-pub record Parted (lefts rights : List Step) : Type 0 where
-  pub xs : List Step
-  pub x : Step
-  pub ys : List Step
-  pub y : Step
-  pub common : List Step
-  pub left-is : lefts ≡ xs ++ x ∷ common
-  pub right-is : rights ≡ ys ++ y ∷ common
-  pub left-side : x .side ≡ left
-  pub right-side : y .side ≡ right
-  pub rightmost : Rightmost xs
-  pub leftmost : Leftmost ys
+pub data Parted (lefts rights : List Step) : Type 0 where
+  parted : (xs ys common : List Step) (x y : Step) → lefts ≡ xs ++ x ∷ common → rights ≡ ys ++ y ∷ common →
+      x .side ≡ left → y .side ≡ right → Outermost right xs → Outermost left ys → Parted lefts rights
 
 module _ (leafHash innerHash : Bytes → Bytes → Bytes) (root k : Bytes) where
   -- The steps lead from the leaf hash to the root.
@@ -53,9 +36,16 @@ module _ (leafHash innerHash : Bytes → Bytes → Bytes) (root k : Bytes) where
   -- neighbours.
   pub data Holds : Proof → Verdict → Type 0 where
     shown : {p : Presence} → p .key ≡ k → Leads p → Holds (presence p) (present (p .value))
-    only-left : {j : Bytes} {l : Presence} → j ≡ k → LeftOf l → Rightmost (l .steps) →
+    only-left : {j : Bytes} {l : Presence} → j ≡ k → LeftOf l → Outermost right (l .steps) →
         Holds (absenceOf j (some l) none) absent
-    only-right : {j : Bytes} {r : Presence} → j ≡ k → RightOf r → Leftmost (r .steps) →
+    only-right : {j : Bytes} {r : Presence} → j ≡ k → RightOf r → Outermost left (r .steps) →
         Holds (absenceOf j none (some r)) absent
     both : {j : Bytes} {l r : Presence} → j ≡ k → LeftOf l → RightOf r → Parted (l .steps) (r .steps) →
         Holds (absenceOf j (some l) (some r)) absent
+
+-- The two by name.
+abbrev pub Rightmost : List Step → Type 0
+Rightmost steps = Outermost right steps
+
+abbrev pub Leftmost : List Step → Type 0
+Leftmost steps = Outermost left steps

@@ -12,15 +12,15 @@ use Rattle.batch.specs.Asked.{Asks}
 use Rattle.promises.specs.Calls.{Does}
 
 -- Version 4, root 32, count 4.
-unfoldable pub answerBytes : ℕ → Bytes → ℕ → Bytes
-answerBytes version root count = le 4 version ++ (root ++ le 4 count)
-
 abbrev pub told : Applied → Bytes
-told a = answerBytes (a .version) (a .root) (a .count)
+told a = le 4 (a .version) ++ (a .root ++ le 4 (a .count))
 
--- Applying a batch to the bytes s as a number, with the array f for the answer: what is answered, and what is left of s
--- and of f.
+-- Applying a batch to the bytes s as a number answers r and leaves s as t, and the array f for the answer as g.
 pub record ApplyExports (number : ℕ) (batch s f : Bytes) (r : ℕ) (t g : Bytes) : Type 0 where
   pub asked : Option (List Ask)
   pub asks : Asks batch asked
   pub applied : Exports (λ a. Does (apply leafHash innerHash number asked) s a t) told f r g
+
+-- The same bytes of the three fields, as the code writes them.
+unfoldable pub answerBytes : ℕ → Bytes → ℕ → Bytes
+answerBytes version root count = le 4 version ++ (root ++ le 4 count)

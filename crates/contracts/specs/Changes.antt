@@ -11,9 +11,7 @@ use Rattle.changed.specs.Changes.{Item, listBytes}
 use Rattle.changed.specs.Compare.{compare}
 use Rattle.promises.specs.Calls.{Does}
 
--- Comparing version first of the bytes s with version second, within a limit of visits, answers r; the room is left as
--- t, the array f for the number of records, 4 bytes little-endian, as g. The answer is the one that the definition
--- gives for any bytes; the store is as it was.
+-- Comparing two versions of the bytes s answers r; the room is left as t, the array f for the number of records as g.
 pub record Changes (first second limit : ℕ) (s room f : Bytes) (r : ℕ) (t g : Bytes) : Type 0 where
   pub answer : Answer (List Item)
   pub does : Does (compare first second limit (length room)) s answer s

@@ -10,14 +10,13 @@ use Rattle.meaning.specs.Answers.{roomAfter, Exported}
 use Rattle.quarter.specs.Figures.{figuresBytes, Quarter, figures}
 use Rattle.promises.specs.Calls.{Does}
 
--- The totals of a range: distinct records, then the sum of records over versions, 4 bytes little-endian each.
-abbrev pub totalsBytes : Quarter → Bytes
-totalsBytes q = le 4 (q .distinct) ++ le 4 (q .records)
-
--- The figures of the bytes s from version first to last answer r; the room is left as t, the array f for the totals as
--- g. The answer is the one that the definition gives for any bytes; the store is as it was.
+-- The figures from version first to last answer r; the room is left as t, the array f for the totals of the range as g.
 pub record Figures (first last : ℕ) (s room f : Bytes) (r : ℕ) (t g : Bytes) : Type 0 where
   pub answer : Answer Quarter
   pub does : Does (figures first last (length room)) s answer s
-  pub exported : Exported answer totalsBytes f r g
+  pub exported : Exported answer (λ q. le 4 (q .distinct) ++ le 4 (q .records)) f r g
   pub numbers : t ≡ roomAfter (λ q. flat (map figuresBytes (q .each))) answer room
+
+-- The totals by name, as the laws cite them.
+abbrev pub totalsBytes : Quarter → Bytes
+totalsBytes q = le 4 (q .distinct) ++ le 4 (q .records)

@@ -23,7 +23,6 @@ pub data Answers (s : Bytes) (v : ℕ) (k x : Bytes) : Answer Finding → Type 0
   sound-store : {a : Answer Finding} → length k ≡ 32 → SoundBytes s → FoundIn sha256 (storeOf s) v k x a →
       Answers s v k x a
 
--- What is found of the bytes x as a proof for the key k in version v of the bytes s: the call answers r, and the array
--- f for what is found is left as g. A refused call writes nothing.
+-- The call answers r, and the array f for what is found is left as g.
 abbrev pub Finds : Bytes → ℕ → Bytes → Bytes → Bytes → ℕ → Bytes → Type 0
 Finds s v k x f r g = Exports (Answers s v k x) findingBytes f r g

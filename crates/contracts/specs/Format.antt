@@ -1,4 +1,4 @@
--- Document 01: format gives only 1; when it accepts, oldest and latest are 0 and all slots free. Assumes nothing.
+-- What format answers and leaves, as the code says it. Assumes nothing.
 use Prim.Native.Nat.{ℕ}
 use mathlib.Core.Bool.{cond}
 use lib.ListN.{length}
@@ -9,9 +9,9 @@ use Rattle.layout.specs.Sizes.{roomOf}
 use Rattle.layout.specs.Headers.{sizeRight}
 use Rattle.layout.specs.Stores.{storeBytes}
 
-unfoldable pub formatAnswer : Bytes → ℕ
+abbrev pub formatAnswer : Bytes → ℕ
 formatAnswer s = cond (sizeRight counted (length s)) 0 1
 
 -- The store's bytes afterwards; refused, as they were.
-unfoldable pub formatBytes : Bytes → Bytes
+abbrev pub formatBytes : Bytes → Bytes
 formatBytes s = cond (sizeRight counted (length s)) (storeBytes (formatted (roomOf counted (length s)))) s

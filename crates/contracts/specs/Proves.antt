@@ -17,14 +17,12 @@ use Rattle.proofrecords.specs.ProofBytes.{proofBytes}
 use Rattle.promises.specs.Headed.{byHeader}
 use Rattle.contracts.specs.Looking.{headerFor, lookingIn}
 
--- The proof for key k in version v of the store s, into this much room: 12 where the key isn't 32 bytes, then 1, 2, 8,
--- 14, 3 or 17, 9.
+-- The proof for the key k, into this much room: 12 where the key isn't 32 bytes, then 1, 2, 8, 14, 3 or 17, 9.
 unfoldable pub proveAnswer : Bytes → Option (List ℕ) → ℕ → Bytes → ℕ → Answer Proof
 proveAnswer s by v k room =
     cond (eqb (length k) 32) (byHeader (headerFor s by) (proveBy (lookingIn s by) (storeOf s) v k room)) (refused 12)
 
--- Proving the key k in version v of the bytes s answers r; the room is left as t, the array f for the proof's length,
--- 4 bytes little-endian, as g.
+-- Proving the key k in version v of the bytes s answers r; the room is left as t, the array f for the length as g.
 pub record ProvesBy (s : Bytes) (by : Option (List ℕ)) (v : ℕ) (k room f : Bytes) (r : ℕ) (t g : Bytes) : Type 0 where
   pub exported : Exported (proveAnswer s by v k (length room)) (λ p. le 4 (proofLength p)) f r g
   pub proof : t ≡ roomAfter proofBytes (proveAnswer s by v k (length room)) room

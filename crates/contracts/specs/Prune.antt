@@ -6,7 +6,6 @@ use Rattle.meaning.specs.Calls.{prune}
 use Rattle.meaning.specs.Answers.{Exports}
 use Rattle.promises.specs.Calls.{Does}
 
--- Pruning the bytes s to n, with the array f for the count, in four bytes: what is answered, and what is left of s and
--- of f.
+-- Pruning the bytes s to n answers r and leaves s as t, and the array f for the count, in four bytes, as g.
 abbrev pub PruneExports : ℕ → Bytes → Bytes → ℕ → Bytes → Bytes → Type 0
 PruneExports n s f r t g = Exports (λ a. Does (prune n) s a t) (le 4) f r g

@@ -1,9 +1,8 @@
 -- Versions with the same tree, of two sound stores or of one, read alike: a read, a proof, a palette and a comparison go by the tree. Assumes
 -- nothing.
 use Prim.Native.Nat.{ℕ, _*_}
-use native.Mathlib.Omega.{arith}
 use mathlib.Core.Path.{_≡_, refl, ap, ap₂, sym, _∙_, subst, fun-ext}
-use mathlib.Core.Bool.{cond}
+use mathlib.Core.Bool.{cond, _&&_}
 use mathlib.Core.List.{List}
 use mathlib.Core.Option.{none}
 use lib.ListN.{length}
@@ -23,9 +22,9 @@ use Rattle.changed.specs.Changes.{Item, changed, items, itemSize, listBytes}
 use Rattle.changed.specs.Visits.{visits}
 use Rattle.changed.specs.Compare.{compare}
 use Rattle.nodehash.specs.Node.{leafHash, innerHash}
-use Rattle.layout.specs.Headers.{Headed, refusal, header}
 use Rattle.layout.specs.Stores.{storeOf}
-use Rattle.promises.specs.Calls.{SoundBytes, Does, wrong-header, not-sound, refuses, accepts}
+use Rattle.promises.specs.Calls.{SoundBytes, Does, not-checked, refuses, accepts}
+use Rattle.promises.proofs.Calls.{sound-passes}
 use Rattle.palette_rules.specs.Palette.{wholeKeys, keysIn, inTurn, fittedTogether, palette}
 use Rattle.move_rules.proofs.Theorems.{comparedBy, by-trees}
 use Rattle.proofrecords.specs.ProofBytes.{proofBytes}
@@ -37,11 +36,7 @@ use Rattle.demands.proofs.Reading.{sound-reads-for}
 
 -- a sound store is asked itself
 asked : {A : Type 0} {call : Store → Result A} {s t : Bytes} {a : Answer A} → SoundBytes s → Does call s a t → a ≡ call (storeOf s) .answer
-asked w (wrong-header e) = headed-not e (w .headed)
-  where
-    headed-not : {B : Type 0} {h : Headed} {m c o l : ℕ} → h ≡ refusal m → h ≡ header c o l → B
-    headed-not e f = let g = sym e ∙ f in let z : _≡_ {A = ℕ} 0 1 = cc in absurd (omega arith)
-asked w (not-sound e n) = absurd (n (w .sound))
+asked w (not-checked c n) = sound-passes w c n
 asked w (refuses x e) = sym e
 asked w (accepts x e) = sym e
 
@@ -64,14 +59,18 @@ module _ {t s : Bytes} (a : SoundBytes t) (b : SoundBytes s) {v w : ℕ} (kept :
   same-tree-reads-as = record {
     grants = grantsOfVersion s w;
     reads = (subst (ReadsFor t v) (ap grantsIn e) (sound-reads-for a v kept), sound-reads-for b w kept′);
-    proof = λ {k} {room} x y.
-        let is = same-proved k (length room) in
-        let (m, d) = one-exported is (x .exported) (y .exported) in
-        (m, x .proof ∙ ap (λ p. roomAfter proofBytes p room) is ∙ sym (y .proof), d);
-    palette = λ {list} {room} x y.
-        let is = same-palette list (length room) in
-        let (m, d) = one-exported is (x .exported) (y .exported) in
-        (m, x .proofs ∙ ap (λ p. roomAfter proofsBytes p room) is ∙ sym (y .proofs), d);
+    proof = λ k. record {
+      same = λ {room} x y.
+          let is = same-proved k (length room) in
+          let (m, d) = one-exported is (x .exported) (y .exported) in
+          (m, x .proof ∙ ap (λ p. roomAfter proofBytes p room) is ∙ sym (y .proof), d);
+    };
+    palette = λ list. record {
+      same = λ {room} x y.
+          let is = same-palette list (length room) in
+          let (m, d) = one-exported is (x .exported) (y .exported) in
+          (m, x .proofs ∙ ap (λ p. roomAfter proofsBytes p room) is ∙ sym (y .proofs), d);
+    };
   }
 
 -- a comparison of kept versions goes by their trees
@@ -83,18 +82,22 @@ comparison limit room x y =
 compared-kept : (st : Store) (v w limit room : ℕ) → Kept st v → Kept st w →
     compare v w limit room st .answer ≡ comparison limit room (treeAtVersion st v) (treeAtVersion st w)
 unfolding isKept
-compared-kept st v w limit room k l = by-trees v w limit room st ∙ rw (kept-test st v k, kept-test st w l)
+compared-kept st v w limit room k l =
+    by-trees v w limit room st
+    ∙ ap₂ (λ x y. cond (x && y) (comparison limit room (treeAtVersion st v) (treeAtVersion st w)) (refused 8)) (kept-test st v k) (kept-test st w l)
 
 -- Versions with the same trees compare alike.
 pub same-trees-compare-as : {t s : Bytes} → SoundBytes t → SoundBytes s → {v v′ w w′ : ℕ} →
     Kept (storeOf t) v → Kept (storeOf t) v′ → Kept (storeOf s) w → Kept (storeOf s) w′ →
     treeOfVersion t v ≡ treeOfVersion s w → treeOfVersion t v′ ≡ treeOfVersion s w′ → ComparesAs t v v′ s w w′
 same-trees-compare-as {t} {s} a b {v} {v′} {w} {w′} kv kv′ kw kw′ e e′ = record {
-  same = λ {limit} {room} x y.
-      let is : x .answer ≡ y .answer =
-      asked a (x .does) ∙ compared-kept (storeOf t) v v′ limit (length room) kv kv′ ∙ ap₂ (comparison limit (length room)) e e′
-      ∙ sym (asked b (y .does) ∙ compared-kept (storeOf s) w w′ limit (length room) kw kw′)
-      in
-      let (m, d) = one-exported is (x .exported) (y .exported) in
-      (m, x .list ∙ ap (λ p. roomAfter listBytes p room) is ∙ sym (y .list), d);
+  same = λ limit. record {
+    same = λ {room} x y.
+        let is : x .answer ≡ y .answer =
+        asked a (x .does) ∙ compared-kept (storeOf t) v v′ limit (length room) kv kv′ ∙ ap₂ (comparison limit (length room)) e e′
+        ∙ sym (asked b (y .does) ∙ compared-kept (storeOf s) w w′ limit (length room) kw kw′)
+        in
+        let (m, d) = one-exported is (x .exported) (y .exported) in
+        (m, x .list ∙ ap (λ p. roomAfter listBytes p room) is ∙ sym (y .list), d);
+  };
 }

@@ -17,13 +17,13 @@ use Rattle.meaning.specs.Calls.{Answer, refused, accepted, refuse, isKept}
 use Rattle.meaning.specs.Answers.{numberOf, roomAfter, toldOf}
 use Rattle.nodehash.specs.Node.{leafHash, innerHash}
 use Rattle.layout.specs.Stores.{storeOf}
-use Rattle.promises.specs.Calls.{SoundBytes, Does, wrong-header, not-sound, refuses, accepts}
+use Rattle.promises.specs.Calls.{SoundBytes, Does, not-checked, refuses, accepts}
 use Rattle.changed.specs.Changes.{Item, items, itemSize, listBytes}
 use Rattle.changed.specs.Compare.{changesOf, visitsOf, compare}
 use Rattle.changed.proofs.Theorems.{list-is-what-changed, swapped-undoes, equal-versions-give-none, visits-symmetric, visits-at-most-32769, list-at-most-16384}
 use Rattle.contracts.specs.Contracts.{Changes}
 use Rattle.demands.specs.Claims.{ListsChanges}
-use Rattle.demands.proofs.Refusals.{no-refusal, never-0, header-numbers}
+use Rattle.demands.proofs.Refusals.{no-refusal}
 
 kept-of : (st : Store) (v : ℕ) → isKept st v ≡ true → Kept st v
 unfolding isKept
@@ -104,7 +104,6 @@ accepted-comparison-lists-changes first second limit {s} {room} {f} {t} {g} w = 
 
     go : (x : Answer (List Item)) {y : Bytes} → Does (compare first second limit (length room)) s x y → 0 ≡ numberOf x → t ≡ roomAfter listBytes x room →
         g ≡ toldOf (λ ys. le 4 (length ys)) x f → ListsChanges first second limit s room t g
-    go (refused m) (wrong-header e) z p q = absurd (never-0 (1 ∷ 2 ∷ []) refl (header-numbers s e) (sym z))
-    go (refused m) (not-sound e n) z p q = absurd (omega arith)
+    go (refused m) (not-checked c n) z p q = absurd (n (sym z))
     go (refused m) (refuses h e) z p q = absurd (not-0 (storeOf s) first second limit (length room) (e ∙ ap refused (sym z)))
     go (accepted xs) (accepts h e) z p q = lists xs h (given (storeOf s) first second limit (length room) xs e) p q

@@ -22,9 +22,8 @@ use Rattle.meaning.proofs.Told.{seen}
 use Rattle.nodehash.specs.Node.{leafHash, innerHash}
 use Rattle.layout.specs.Headers.{Headed, refusal, header, sizeRight, headerOf}
 use Rattle.layout.specs.Stores.{storeOf}
-use Rattle.contracts.specs.Format.{formatAnswer}
 use Rattle.promises.specs.Check as check
-use Rattle.promises.specs.Calls.{Does, wrong-header, not-sound, refuses, accepts}
+use Rattle.promises.specs.Calls.{Does, not-checked, refuses, accepts}
 use Rattle.promises.specs.Headed.{byHeader}
 use Rattle.contracts.specs.Reads.{rootAnswer, keyAnswer}
 use Rattle.contracts.specs.Numbers.{numberAnswer, positionAnswer}
@@ -58,7 +57,6 @@ use Rattle.contracts.specs.Contracts.{Formats, Checks, Applies, Prunes, ReadsRo
 
 -- Format: 1.
 pub format-exactly : {s t : Bytes} {r : ℕ} → Formats s r t → Exactly (formatRows s) r
-unfolding formatAnswer
 format-exactly {s} {r = r} w = exactly (formatRows s) r refl (go (sizeRight counted (length s)) refl (w .answer))
   where
     go : (b : Bool) → sizeRight counted (length s) ≡ b → r ≡ cond b 0 1 → First (formatRows s) r
@@ -77,8 +75,9 @@ check-exactly {s} {r} w = exactly (soundRows s) r refl (go w)
 -- A call that tests soundness: 1, 2, 3; then its own.
 pub does-first : {A : Type 0} (call : Store → Result A) (s : Bytes) (more : Table) (a : Answer A) {t : Bytes} →
     First more (numberOf (call (storeOf s) .answer)) → Does call s a t → First (headerRows s ++ (3, Sound leafHash innerHash (storeOf s) → ⊥) ∷ more) (numberOf a)
-does-first call s more a f (wrong-header {m} e) = let h = header-row s e in within (headerRows s) ((3, Sound leafHash innerHash (storeOf s) → ⊥) ∷ more) m (h .0) (h .1)
-does-first call s more a f (not-sound e n) = past (headerRows s) ((3, Sound leafHash innerHash (storeOf s) → ⊥) ∷ more) 3 (after-header s e) (inl (n, refl))
+does-first call s more a f (not-checked (check.refused m e) n) = let h = header-row s e in within (headerRows s) ((3, Sound leafHash innerHash (storeOf s) → ⊥) ∷ more) m (h .0) (h .1)
+does-first call s more a f (not-checked (check.unsound c o l e g) n) = past (headerRows s) ((3, Sound leafHash innerHash (storeOf s) → ⊥) ∷ more) 3 (after-header s e) (inl (g, refl))
+does-first call s more a f (not-checked (check.sound c o l e g) n) = absurd (n refl)
 does-first call s more a f (refuses w e) =
     past (headerRows s) ((3, Sound leafHash innerHash (storeOf s) → ⊥) ∷ more) (numberOf a) (after-header s (w .headed))
     (inr (λ n. n (w .sound), subst (λ x. First more (numberOf x)) e f))

@@ -18,7 +18,7 @@ use Rattle.meaning.specs.Answers.{numberOf, roomAfter, toldOf}
 use Rattle.meaning.proofs.Told.{exported-kept, one-exported}
 use Rattle.nodehash.specs.Node.{leafHash, innerHash}
 use Rattle.layout.specs.Stores.{storeOf}
-use Rattle.promises.specs.Calls.{SoundBytes, Does, wrong-header, not-sound, refuses, accepts}
+use Rattle.promises.specs.Calls.{SoundBytes, Does, not-checked, refuses, accepts}
 use Rattle.promises.proofs.Calls.{one-outcome}
 use Rattle.quarter.specs.Figures.{Figures, figuresOf, figuresBytes, figuresSize, rangeRight, versionsFrom, versions, Quarter, quarterOf, figures}
 use Rattle.quarter.specs.Living.{figuresOver}
@@ -33,8 +33,8 @@ use Rattle.refusals.proofs.Exactly.{First, exactly}
 use Rattle.refusals.proofs.Figures.{range-said, figures-first}
 use Rattle.contracts.specs.Contracts as contracts
 use Rattle.demands.specs.Claims.{treeOfVersion, grantsOfVersion, NextVersion, latestOf}
-use Rattle.demands.specs.Quarter.{FiguresAre, partOf, GivesFigures}
-use Rattle.demands.proofs.Refusals.{no-refusal, never-0, header-numbers, refused-of}
+use Rattle.demands.specs.Quarter.{FiguresAre, GivesFigures}
+use Rattle.demands.proofs.Refusals.{no-refusal, refused-of}
 use Rattle.demands.proofs.Exact.{does-first}
 
 pub one-figures : {first last : ℕ} {s room f t u g h : Bytes} {a b : ℕ} → contracts.Figures first last s room f a t g →
@@ -101,13 +101,13 @@ module _ (first last : ℕ) (s room f t g : Bytes) (h : SoundBytes s) (right : r
   unfolding quarterOf versions
   room-is = left
 
-  part-is : (v : ℕ) → first ≤ v → v ≤ last → partOf first v t ≡ figuresBytes (figuresOf (treeAtVersion st v))
+  part-is : (v : ℕ) → first ≤ v → v ≤ last → slice (16 * (v - first)) 16 t ≡ figuresBytes (figuresOf (treeAtVersion st v))
   part-is v a b =
       let there : first + (v - first) ≡ v = omega arith in
       ap (slice (16 * (v - first)) 16) room-is ∙ version-told st first (suc last - first) (v - first) (drop (length bytes) room) (omega arith)
       ∙ ap (λ w. figuresBytes (figuresOf (treeAtVersion st w))) there
 
-  figures-are : (v : ℕ) → first ≤ v → v ≤ last → FiguresAre (partOf first v t) (treeOfVersion s v)
+  figures-are : (v : ℕ) → first ≤ v → v ≤ last → FiguresAre (slice (16 * (v - first)) 16 t) (treeOfVersion s v)
   figures-are v a b =
       let x = figuresOf (treeAtVersion st v) in
       let e = part-is v a b in
@@ -117,6 +117,13 @@ module _ (first last : ℕ) (s room f t g : Bytes) (h : SoundBytes s) (right : r
         inners = ap (field 4 4) e ∙ inners-told x (omega (arith, z .records));
         longest = ap (field 8 4) e ∙ longest-told x (omega (arith, z .longest));
         pathSum = ap (field 12 4) e ∙ sum-told x (omega (arith, z .pathSum));
+        grants = ap (field 0 4) e ∙ leaves-told x (omega (arith, z .records)) ∙ leaves-are-grants (treeAtVersion st v);
+        empty = λ n.
+            let kept : Kept st v = (omega (arith, range .0 .0), omega (arith, range .1 .1)) in
+            e ∙ ap (λ y. figuresBytes (figuresOf y)) (no-grant-no-node leafHash innerHash st (h .sound) v kept n) ∙ nothing-told;
+        few = z .records;
+        short = z .longest;
+        small-sum = z .pathSum;
       }
 
   distinct-is : field 0 4 g ≡ quarterOf st first last .distinct
@@ -135,20 +142,13 @@ module _ (first last : ℕ) (s room f t g : Bytes) (h : SoundBytes s) (right : r
     sound = h;
     range = range;
     each = figures-are;
-    grants = λ v a b. figures-are v a b .leaves ∙ leaves-are-grants (treeAtVersion st v);
     alike = λ v w a b c d e. part-is v a b ∙ ap (λ x. figuresBytes (figuresOf x)) e ∙ sym (part-is w c d);
-    empty = λ v a b e.
-        let kept : Kept st v = (omega (arith, range .0 .0), omega (arith, range .1 .1)) in
-        part-is v a b ∙ ap (λ x. figuresBytes (figuresOf x)) (no-grant-no-node leafHash innerHash st (h .sound) v kept e) ∙ nothing-told;
     rest =
         let long : length bytes ≡ 16 * (last - first + 1) = versions-long st first (suc last - first) ∙ omega (arith, range .2) in
         ap (drop (16 * (last - first + 1))) room-is ∙ drop-at bytes (drop (length bytes) room) (16 * (last - first + 1)) long
         ∙ ap (λ n. drop n room) long;
     distinct = distinct-is;
     records = records-is;
-    few = λ v a b. figures-are-small leafHash innerHash st (h .sound) first last right v a b .records;
-    short = λ v a b. figures-are-small leafHash innerHash st (h .sound) first last right v a b .longest;
-    small-sum = λ v a b. figures-are-small leafHash innerHash st (h .sound) first last right v a b .pathSum;
     few-distinct = omega (arith, distinct-is, distinct-is-small leafHash innerHash st (h .sound) first last right);
     few-records = omega (arith, records-is, records-are-small leafHash innerHash st (h .sound) first last right);
   }
@@ -158,8 +158,7 @@ accepted-figures-are-counts first last {s} {room} {f} {t} {g} w = go (w .answer)
   where
     go : (x : Answer Quarter) {y : Bytes} → Does (figures first last (length room)) s x y → 0 ≡ numberOf x → t ≡ roomAfter (λ q. flat (map figuresBytes (q .each))) x room → g ≡ toldOf totalsBytes x f →
         GivesFigures first last s room t g
-    go (refused m) (wrong-header e) z p q = absurd (never-0 (1 ∷ 2 ∷ []) refl (header-numbers s e) (sym z))
-    go (refused m) (not-sound e n) z p q = absurd (omega arith)
+    go (refused m) (not-checked c n) z p q = absurd (n (sym z))
     go (refused m) (refuses h e) z p q = absurd (not-0 (storeOf s) first last (length room) (e ∙ ap refused (sym z)))
     go (accepted c) (accepts h e) z p q =
         let d = given (storeOf s) first last (length room) c e in

@@ -118,8 +118,7 @@ module _ {s : Bytes} {v : ℕ} {k x g : Bytes} where
         false-answer-is-found = λ lie. named (o .false-answer-is-found lie);
         named = either o (is-nothing a) t;
         of-65-bytes = o .of-65-bytes;
-        true-is-none = λ h. told-none a g (o .true-is-nothing h) t;
-        none-is-true = λ n. o .nothing-is-true (none-told a g n t);
+        none-if-true = (λ h. told-none a g (o .true-is-nothing h) t, λ n. o .nothing-is-true (none-told a g n t));
       }
     where
       either : {a : Finding} → FoundOut sha256 (storeOf s) v k p answer a → (a ≡ nothing) ⊎ (a ≡ nothing → ⊥) → g ≡ findingBytes a →

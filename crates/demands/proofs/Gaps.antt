@@ -31,14 +31,15 @@ use Rattle.batch.specs.Asked.{Asks}
 use Rattle.contracts.specs.Format.{formatBytes}
 use Rattle.contracts.specs.Apply.{told}
 use Rattle.meaning.specs.Answers.{Exports, exports-refusal, exports-answer}
-use Rattle.promises.specs.Calls.{wrong-header, not-sound, refuses, accepts, Does}
+use Rattle.promises.specs.Calls.{not-checked, refuses, accepts, Does}
+use Rattle.promises.proofs.Calls.{sound-passes}
 use Rattle.demands.specs.Calls.{takenOver, Called, formats, applies, prunes, Calls, none-yet, then-called, WithoutGaps, Life, rescues-into, moves-over, looks, formats-both, applies-both, prunes-both}
 use Rattle.contracts.specs.Contracts.{Formats, Prunes, PrunesIndexed}
 use Rattle.demands.proofs.Hashes.{leaf-hash-whole, inner-hash-whole}
 use Rattle.demands.proofs.Stored.{stored-is, formatted-form, prune-form, apply-form}
 use Rattle.demands.proofs.Refusals.{refused-format-writes-nothing, refused-apply-writes-nothing, refused-prune-writes-nothing, refused-rescue-writes-nothing, refused-over-writes-nothing}
 use Rattle.demands.proofs.Tabled.{refused-format-indexed-writes-nothing, refused-apply-indexed-writes-nothing, refused-prune-indexed-writes-nothing, format-as-plain, apply-as-plain, accepted-prune-keeps-the-table}
-use Rattle.demands.proofs.Histories.{Keeping, sound-bytes, size-right, not-headed, asks-form, called-keeps, formatted-keeps}
+use Rattle.demands.proofs.Histories.{Keeping, sound-bytes, size-right, asks-form, called-keeps, formatted-keeps}
 
 -- what a call did to the store: a refused one only looked
 abbrev doneBy : Call → Bool → Call
@@ -60,7 +61,6 @@ slots-many s = length-slots counted (roomOf counted (length s)) _
 
 -- formatting leaves the bytes of a formatted store
 fresh-is : (s : Bytes) → sizeRight counted (length s) ≡ true → storeOf (formatBytes s) ≡ formatted (roomOf counted (length s))
-unfolding formatBytes
 fresh-is s e =
     let z = size-says counted (length s) e in
     rw e (stored-is (formatted (roomOf counted (length s))) (formatted-form _) (laws.formatted-is-sound leafHash innerHash (roomOf counted (length s)) (z .1) (z .2)))
@@ -69,8 +69,7 @@ fresh-is s e =
 export-after : {A : Type 0} {call : Store → Result A} {told : A → Bytes} {s f t g : Bytes} {r : ℕ} {es : List Entry} →
     Exports (λ a. Does call s a t) told f r g → Keeping s es → ((m : ℕ) → call (storeOf s) .answer ≡ refused m → call (storeOf s) .store ≡ storeOf s) →
     call (storeOf s) .store .form ≡ counted → Sound leafHash innerHash (call (storeOf s) .store) → storeOf t ≡ call (storeOf s) .store
-export-after (exports-refusal (wrong-header e)) k same form sound = not-headed e (sound-bytes k .headed)
-export-after (exports-refusal (not-sound e n)) k same form sound = absurd (n (k .keeps .sound))
+export-after (exports-refusal (not-checked c n)) k same form sound = sound-passes (sound-bytes k) c n
 export-after (exports-refusal {n = m} (refuses w e)) k same form sound = sym (same m e)
 export-after (exports-answer (accepts w e)) k same form sound = stored-is _ form sound
 

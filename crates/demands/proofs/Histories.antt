@@ -24,14 +24,15 @@ use Rattle.histories.proofs.Histories.{Keeps, keeps-holds, keeps-held, keeps-fo
 use Rattle.histories.proofs.Theorems.{records-stand-in-their-lifetimes, paths-have-at-most-256-steps}
 use Rattle.nodehash.specs.Node.{leafHash, innerHash}
 use Rattle.layout.specs.Sizes.{roomOf}
-use Rattle.layout.specs.Headers.{Headed, refusal, header, sizeRight}
+use Rattle.layout.specs.Headers.{sizeRight}
 use Rattle.layout.specs.Stores.{storeIn, storeOf, storeBytes}
 use Rattle.layout.proofs.Headers.{size-right-of, size-says}
 use Rattle.layout.proofs.Headers as headers
 use Rattle.layout.proofs.Stores.{store-back}
 use Rattle.batch.specs.Asked.{Asks}
-use Rattle.contracts.specs.Format.{formatAnswer, formatBytes}
-use Rattle.promises.specs.Calls.{SoundBytes, wrong-header, not-sound, refuses, accepts, Does}
+use Rattle.contracts.specs.Format.{formatBytes}
+use Rattle.promises.specs.Calls.{SoundBytes, not-checked, refuses, accepts, Does}
+use Rattle.promises.proofs.Calls.{sound-passes}
 use Rattle.rescue_rules.specs.Rescue.{sourceTree}
 use Rattle.rescue_bytes.specs.Rescues as rescue
 use Rattle.rescue_bytes.specs.Rescues.{slotsIn, Report, reportBytes}
@@ -82,19 +83,13 @@ module _ {s : Bytes} {es : List Entry} (k : Keeping s es) where
       size-right-of counted (length s) (w .capacity) (a .size) (a .some) (a .fits)
 
 pub fresh-keeps : (s : Bytes) → sizeRight counted (length s) ≡ true → Keeping (formatBytes s) (entry 0 [] ∷ [])
-unfolding formatBytes
 fresh-keeps s e =
     let z = size-says counted (length s) e in
     rw e (of-store (formatted (roomOf counted (length s))) (entry 0 [] ∷ []) (formatted-form _) (keeps-formatted leafHash innerHash (roomOf counted (length s)) (z .1, z .2)))
 
 -- what formatting leaves of bytes of the right size
 fresh-said : (s : Bytes) → sizeRight counted (length s) ≡ true → storeBytes (formatted (roomOf counted (length s))) ≡ formatBytes s
-unfolding formatBytes
 fresh-said s e = rw e
-
--- a header is refused or accepted
-pub not-headed : {A : Type 0} {h : Headed} {m c o l : ℕ} → h ≡ refusal m → h ≡ header c o l → A
-not-headed e f = let z : _≡_ {A = ℕ} 0 1 = cc in absurd (omega arith)
 
 -- a call that tests soundness, refused or accepted
 export-keeps : {A : Type 0} {call : Store → Result A} {told : A → Bytes} {s f t g : Bytes} {r : ℕ} {es now : List Entry} →
@@ -102,8 +97,7 @@ export-keeps : {A : Type 0} {call : Store → Result A} {told : A → Bytes} {s 
     call (storeOf s) .store .form ≡ counted →
     ((a : A) → call (storeOf s) .answer ≡ accepted a → Keeps leafHash innerHash (call (storeOf s) .store) now) →
     Keeping t (cond (eqb r 0) now es)
-export-keeps (exports-refusal (wrong-header e)) k never form then = not-headed e (sound-bytes k .headed)
-export-keeps (exports-refusal (not-sound e n)) k never form then = absurd (n (k .keeps .sound))
+export-keeps (exports-refusal (not-checked c n)) k never form then = sound-passes (sound-bytes k) c n
 export-keeps (exports-refusal {n = m} (refuses w e)) k never form then = rw (ne-eqb m 0 (never m e)) k
 export-keeps {now = now} (exports-answer {a} (accepts w e)) k never form then = of-store _ now form (then a e)
 
@@ -155,7 +149,6 @@ moved-over {source} {s} {t} {r} es h x k = go (eqb r 0) refl
 -- each public call
 pub called-keeps : {s t : Bytes} {e : Call × Bool} (es : List Entry) → Called s e t → Keeping s es →
     Keeping t (cond (e .1) (noted (e .0) es) es)
-unfolding formatAnswer
 called-keeps {s} {t} es (formats {r} w) k =
     let z : r ≡ 0 = w .answer ∙ ap (λ b. cond b 0 1) (size-right k) in
     let fresh : Keeping t (noted formatting es) = subst (λ x. Keeping x (entry 0 [] ∷ [])) (sym (w .bytes)) (fresh-keeps s (size-right k)) in
@@ -213,7 +206,6 @@ module _ {t : Bytes} (w : SoundBytes t) {es : List Entry} (h : Holds leafHash in
 
 -- a store before the first call
 pub formatted-keeps : {before t : Bytes} → Formats before 0 t → (sizeRight counted (length before) ≡ true) × Keeping t (entry 0 [] ∷ [])
-unfolding formatAnswer
 formatted-keeps {before} w =
     let size = right _ (w .answer) in
     (size, subst (λ x. Keeping x (entry 0 [] ∷ [])) (sym (w .bytes)) (fresh-keeps before size))

@@ -27,8 +27,9 @@ use Rattle.layout.specs.Headers.{Headed, refusal, header, headerOf}
 use Rattle.layout.specs.Stores.{storeOf}
 use Rattle.layout.proofs.Headers.{room-of}
 use Rattle.promises.specs.Calls.{SoundBytes}
-use Rattle.promises.specs.Headed.{byHeader, asMany, headerWith}
+use Rattle.promises.specs.Headed.{byHeader, asMany}
 use Rattle.proofrecords.specs.ProofBytes.{proofBytes}
+use Rattle.contracts.specs.Looking.{headerFor}
 use Rattle.contracts.specs.Reads.{rootAnswer, keyAnswer}
 use Rattle.contracts.specs.Numbers.{numberAnswer, positionAnswer}
 use Rattle.contracts.specs.Proves.{proveAnswer}
@@ -103,8 +104,8 @@ module _ (s : Bytes) (table : List ℕ) (v : ℕ) (many : length table ≡ roomO
   unfolding asMany
   fits = eq-eqb (length table) (roomOf counted (length s)) many
 
-  headed : {A : Type 0} {a b : Answer A} → a ≡ b → byHeader (headerWith s table) a ≡ byHeader (headerOf counted s) b
-  unfolding headerWith
+  headed : {A : Type 0} {a b : Answer A} → a ≡ b → byHeader (headerFor s (some table)) a ≡ byHeader (headerOf counted s) b
+  unfolding asMany
   headed {a = a} e =
       ap (λ c. byHeader (cond c (headerOf counted s) (refusal 1)) a) fits ∙ ap (byHeader (headerOf counted s)) e
 
@@ -187,8 +188,8 @@ module _ (s : Bytes) (table : List ℕ) where
     of-right-length many e (right {c} {o} {l} ok w) =
         stopped-past (rowsBy s table (headerRows s)) early (right-lengths many ok, (w, tt)) (rest c o l e)
 
-    by-header : Deserved (numberOf (byHeader (headerWith s table) a))
-    unfolding headerWith
+    by-header : Deserved (numberOf (byHeader (headerFor s (some table)) a))
+    unfolding asMany
     by-header = go (asMany s table) refl
       where
         go : (b : Bool) → asMany s table ≡ b → Deserved (numberOf (byHeader (cond b (headerOf counted s) (refusal 1)) a))
@@ -234,7 +235,7 @@ module _ {s : Bytes} {table : List ℕ} {v : ℕ} (once : NoneTwice s v) where
     unfolding keyAnswer
     get-answers {k} w =
         subst (Stopped (testsOf (rowsBy s table (getRows s v k))) [] (KeyStopped (storeOf s) v k)) (sym (w .exported .number))
-        (key-stopped k (byHeader (headerWith s table) (readKeyBy (byTable table (storeOf s)) (storeOf s) v k))
+        (key-stopped k (byHeader (headerFor s (some table)) (readKeyBy (byTable table (storeOf s)) (storeOf s) v k))
         (by-header s table (readKeyBy (byTable table (storeOf s)) (storeOf s) v k)
         (λ c o l e. as-stopped (key-alike (storeOf s) table v once k) (get-stopped s (records-formed s bytes e) v k))))
 
@@ -264,7 +265,7 @@ module _ {s : Bytes} {table : List ℕ} {v : ℕ} (once : NoneTwice s v) where
     unfolding proveAnswer
     prove-answers {k} {room} w =
         subst (Stopped (testsOf (rowsBy s table (proveRows s v k room))) ((9, TooLong s v k room) ∷ []) (ProofStopped (storeOf s) v k)) (sym (w .exported .number))
-        (key-stopped k (byHeader (headerWith s table) (proveBy (byTable table (storeOf s)) (storeOf s) v k (length room)))
+        (key-stopped k (byHeader (headerFor s (some table)) (proveBy (byTable table (storeOf s)) (storeOf s) v k (length room)))
         (by-header s table (proveBy (byTable table (storeOf s)) (storeOf s) v k (length room))
         (λ c o l e. as-stopped (prove-alike (storeOf s) table v once k (length room)) (prove-stopped s (records-formed s bytes e) v k room))))
 
@@ -281,7 +282,7 @@ module _ {s : Bytes} {table : List ℕ} {v : ℕ} (once : NoneTwice s v) where
     palette-answers {list} {room} w =
         let its = paletteOf (proofBy (byTable table (storeOf s)) (storeOf s) v) (storeOf s) v (keysIn list) (length room) in
         subst (Stopped (testsOf (rowsBy s table (paletteRows s v list room))) ((9, TooLongTogether s v (keysIn list) room) ∷ []) (StopsPalette s v (keysIn list))) (sym (w .exported .number))
-        (list-stopped list (byHeader (headerWith s table) its)
+        (list-stopped list (byHeader (headerFor s (some table)) its)
         (by-header s table its
         (λ c o l e. as-stopped (palette-alike (storeOf s) table v once (keysIn list) (length room)) (palette-stopped s (records-formed s bytes e) v (keysIn list) room))))
 

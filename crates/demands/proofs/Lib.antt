@@ -26,6 +26,7 @@ pub mod Moved
 pub mod Figured
 pub mod Pocket
 pub mod Forged
+pub mod Listed
 pub mod Sentences
 pub mod Shelf
 pub mod Indexed

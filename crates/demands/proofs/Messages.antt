@@ -50,11 +50,11 @@ pub write-message-exactly : {x asked : Bytes} {leaves : List Bytes} {room f t g 
     Exactly (writeMessageRows x asked leaves room) r
 write-message-exactly {x} {asked} {leaves} {room} {r = r} w =
     exactly (writeMessageRows x asked leaves room) r refl
-    (subst (First (writeMessageRows x asked leaves room)) (sym (w .answer)) (write-first x asked leaves room (w .said) (w .raw) (w .exactly) (w .lent)))
+    (subst (First (writeMessageRows x asked leaves room)) (sym (w .exported .number)) (write-first x asked leaves room (w .said) (w .raw) (w .exactly) (w .lent)))
 
 pub read-message-exactly : {m room f t g : Bytes} {r : ℕ} → ReadsMessage m room f r t g → Exactly (readMessageRows m room) r
 read-message-exactly {m} {room} {r = r} w =
-    exactly (readMessageRows m room) r refl (subst (First (readMessageRows m room)) (sym (w .answer)) (read-first m room (w .said) (w .exactly)))
+    exactly (readMessageRows m room) r refl (subst (First (readMessageRows m room)) (sym (w .exported .number)) (read-first m room (w .said) (w .exactly)))
 
 most : (q : Proof) → mostBytes q ≤ 29999
 most (presence p) = omega arith
@@ -134,11 +134,11 @@ message-is-given {x} {asked} {leaves} {room} {f} {t} {g} w =
       encodes = there;
       lends = k .lends;
       at-most = omega (arith, long, short);
-      given-back = λ {room = room₁} {f = f₁} {t₁} {g₁} {r} fits v. read-back there fits v;
+      given-back = λ {room = room₁} {f = f₁} {u} {h} {r} fits v. read-back there fits v;
       stands = stands-there there;
-      accepted = λ {room = room₁} {f = f₁} {t₁} {g₁} {root} {k = key} {f₂} {g₂} {r} {r₂} fits v.
-          let is : take (length x) t₁ ≡ x = ap (take (length x)) (read-back there fits v .1) ∙ take-at x (drop (length x) room₁) (length x) refl in
-          (subst (λ y. Verifies root key y f₂ r₂ g₂) is, subst (λ y. Verifies root key y f₂ r₂ g₂) (sym is));
+      accepted = λ {room = room₁} {f = f₁} {u} {h} {root} {k = key} {a} {b} {r} {n} fits v.
+          let is : take (length x) u ≡ x = ap (take (length x)) (read-back there fits v .1) ∙ take-at x (drop (length x) room₁) (length x) refl in
+          (subst (λ y. Verifies root key y a n b) is, subst (λ y. Verifies root key y a n b) (sym is));
       partner = partner-agrees x q (encodes-raw there) (there .own);
     }
 

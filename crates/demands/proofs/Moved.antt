@@ -5,7 +5,8 @@ use lib.ListN.{length}
 use Rattle.terms.specs.declared.Form.the-variants.{Plain as plain, Counted as counted}
 use Rattle.terms.specs.Bits.{Bytes, Byte, All}
 use Rattle.move_rules.specs.Moves.{SameRoom}
-use Rattle.move_rules.specs.Claims.{SoundIn, Moved}
+use Rattle.promises.specs.Calls.{SoundIn}
+use Rattle.move_rules.specs.Claims.{Moved}
 use Rattle.move_rules.proofs.Outcomes.{former-never-matter, sound-is-moved}
 use Rattle.move_rules.proofs.Theorems.{accepted-move-is-worth}
 use Rattle.contracts.specs.Contracts.{MovesOver, MovesBack}

@@ -3,7 +3,6 @@
 use Prim.Native.Nat.{ℕ}
 use mathlib.Core.Path.{_≡_, refl, ap, sym, _∙_, subst}
 use lib.ListN.{length}
-use Rattle.terms.specs.declared.Form.the-variants.{Counted as counted}
 use Rattle.terms.specs.Bits.{Bytes}
 use Rattle.promises.proofs.Check.{one-answer}
 use Rattle.meaning.specs.Calls.{Answer, refused, apply}
@@ -11,11 +10,10 @@ use Rattle.meaning.specs.Answers.{roomAfter, Exports}
 use Rattle.meaning.proofs.Told.{one-exported, one-exports}
 use Rattle.sha256.specs.Sha256.{sha256}
 use Rattle.layout.specs.Stores.{storeOf}
-use Rattle.promises.specs.Check.{Checked, sound}
-use Rattle.promises.specs.Calls.{SoundBytes, Does}
+use Rattle.promises.specs.Calls.{Does}
 use Rattle.nodehash.specs.Node.{leafHash, innerHash}
 use Rattle.batch.proofs.Batches.{asks-one}
-use Rattle.promises.proofs.Calls.{one-outcome, one-export}
+use Rattle.promises.proofs.Calls.{sound-passes, one-outcome, one-export}
 use Rattle.changed.specs.Changes.{listBytes}
 use Rattle.contracts.specs.Apply.{told}
 use Rattle.rescue_bytes.proofs.Outcomes as rescue
@@ -28,18 +26,15 @@ use Rattle.verify_rules.proofs.Told.{one-verdict}
 use Rattle.verify_rows.proofs.Told.{one-told-of-row}
 
 -- what is found of a proof has one answer
-sound-checked : {s : Bytes} → SoundBytes s → Checked counted s 0
-sound-checked w = sound (w .capacity) (w .oldest) (w .latest) (w .headed) (w .sound)
-
 one-found : {s : Bytes} {v : ℕ} {k x : Bytes} {p q : Answer Finding} → Answers s v k x p → Answers s v k x q → p ≡ q
 one-found (wrong-key m) (wrong-key n) = refl
 one-found (wrong-key m) (wrong-store l c n) = absurd (m l)
 one-found (wrong-key m) (sound-store l w d) = absurd (m l)
 one-found (wrong-store l c n) (wrong-key m) = absurd (m l)
 one-found {s} (wrong-store {m} l c n) (wrong-store {m = o} i d k) = ap refused (one-answer s m o c d)
-one-found {s} (wrong-store {m} l c n) (sound-store i w d) = absurd (n (one-answer s m 0 c (sound-checked w)))
+one-found (wrong-store l c n) (sound-store i w d) = sound-passes w c n
 one-found (sound-store l w d) (wrong-key m) = absurd (m l)
-one-found {s} (sound-store l w d) (wrong-store {m} i c n) = absurd (n (one-answer s m 0 c (sound-checked w)))
+one-found (sound-store l w d) (wrong-store i c n) = sound-passes w c n
 one-found {s} {v} {k} {x} {p} {q} (sound-store l w c) (sound-store i u d) = found.one-found sha256 (storeOf s) v k x p q c d
 
 module _ {s : Bytes} {a b : ℕ} where

@@ -46,7 +46,7 @@ use Rattle.contracts.specs.Palettes.{paletteAnswer, proofsBytes}
 use Rattle.verify_rules.specs.Verify.{Judged, Told}
 use Rattle.contracts.specs.Contracts.{ReadsRoot, Proves, Palettes, Verifies}
 use Rattle.demands.specs.Claims.{treeOfVersion, grantsOfVersion}
-use Rattle.demands.specs.Palettes.{SingleCalls, none-asked, then-given, FirstRefusal, refused-here, refused-later, BesideSingleCalls, cutApart, EachAccepted, PaletteShown}
+use Rattle.demands.specs.Palettes.{SingleCalls, none-asked, then-given, FirstRefusal, refused-here, refused-later, BesideSingleCalls, AcceptedFor, EachAccepted, PaletteShown}
 use Rattle.demands.proofs.Refusals.{no-refusal, with-number, never-0, refused-of, accepted-of, header-numbers, proof-nonzero}
 use Rattle.demands.proofs.Hashes.{hash-whole}
 use Rattle.demands.proofs.Forms.{proof-form}
@@ -374,7 +374,7 @@ module _ (s : Bytes) (w : SoundBytes s) (v : ℕ) (kept : Kept (storeOf s) v) (s
     is-accepted y z = verify-left z (is-verified y)
 
   each-accepted : (keys : List Bytes) (ps : List Proof) (rest : Bytes) → All Whole32 keys → ProofOfEach (proof (storeOf s) v) keys ps →
-      EachAccepted s v keys (cutApart (length keys) (proofsBytes ps ++ rest))
+      EachAccepted s v keys (proofsBytes ps ++ rest)
   each-accepted [] [] rest h e = tt
   each-accepted [] (p ∷ ps) rest h e = absurd e
   each-accepted (k ∷ keys) [] rest h e = absurd e
@@ -385,9 +385,9 @@ module _ (s : Bytes) (w : SoundBytes s) (v : ℕ) (kept : Kept (storeOf s) v) (s
       let says = says-length p more (form k (h .0) p (e .0)) few in
       let front : take (field 0 4 (proofBytes p ++ more)) (proofBytes p ++ more) ≡ proofBytes p = take-at (proofBytes p) more _ (sym says) in
       let after : drop (field 0 4 (proofBytes p ++ more)) (proofBytes p ++ more) ≡ more = drop-at (proofBytes p) more _ (sym says) in
-      subst (λ x. EachAccepted s v (k ∷ keys) (cutApart (suc (length keys)) x)) (sym assoc)
-      (subst (λ x. EachAccepted s v (k ∷ keys) (x ∷ cutApart (length keys) (drop (field 0 4 (proofBytes p ++ more)) (proofBytes p ++ more)))) (sym front)
-      (subst (λ x. EachAccepted s v (k ∷ keys) (proofBytes p ∷ cutApart (length keys) x)) (sym after)
+      subst (EachAccepted s v (k ∷ keys)) (sym assoc)
+      (subst (λ x. AcceptedFor s v k x × EachAccepted s v keys (drop (field 0 4 (proofBytes p ++ more)) (proofBytes p ++ more))) (sym front)
+      (subst (λ x. AcceptedFor s v k (proofBytes p) × EachAccepted s v keys x) (sym after)
       (record { check = λ y z. is-accepted k (h .0) p (e .0) y z }, each-accepted keys ps rest (h .1) (e .1))))
 
   module _ (list : Bytes) (asked : All Byte list) (whole : wholeKeys list ≡ true) where
@@ -403,9 +403,9 @@ module _ (s : Bytes) (w : SoundBytes s) (v : ℕ) (kept : Kept (storeOf s) v) (s
         ∙ ap (fittedTogether (length room)) (each-proved (proof (storeOf s) v) (keysIn list) (ps .0) (ps .1))
         ∙ fit)
 
-    are-accepted : {room f t g : Bytes} → Palettes s v list room f 0 t g → EachAccepted s v (keysIn list) (cutApart (length (keysIn list)) t)
+    are-accepted : {room f t g : Bytes} → Palettes s v list room f 0 t g → EachAccepted s v (keysIn list) t
     are-accepted x =
-        subst (λ y. EachAccepted s v (keysIn list) (cutApart (length (keysIn list)) y)) (sym (room-is x))
+        subst (EachAccepted s v (keysIn list)) (sym (room-is x))
         (each-accepted (keysIn list) (there-are x .0) _ (keys-are-bytes list asked) (its-given x .each))
 
     -- Cut apart by their own lengths, the proofs of a palette are each accepted against the version's root.

@@ -43,7 +43,7 @@ use Rattle.refusals.proofs.Headers.{records-formed}
 use Rattle.refusals.proofs.Stopped.{Stopped, stopped-first, stopped-names}
 use Rattle.refusals.proofs.Pocket.{pocket-judged-first, pocket-stopped}
 use Rattle.contracts.specs.Contracts.{ReadsRoot, Proves, Verifies, PocketProves, PocketVerifies}
-use Rattle.demands.specs.Claims.{grantsOfVersion}
+use Rattle.demands.specs.Claims.{grantsOfVersion, SameOutcome}
 use Rattle.demands.specs.Pocket.{BesideTheFullCheck, BesideTheFullProver, PocketShown}
 use Rattle.demands.proofs.Refusals.{never-0, header-numbers, refused-of}
 use Rattle.demands.proofs.Exact.{read-stopped, key-stopped}
@@ -178,11 +178,12 @@ module _ (s : Bytes) (v : ℕ) (k : Bytes) where
       let e = as-proved (length room) h in
       record { exported = exported-as e (w .exported); proof = w .proof ∙ ap (λ a. roomAfter proofBytes a room) e }
 
-  prover-inside : {room f t t₁ g g₁ : Bytes} {r r₁ : ℕ} → (ProvedOutside s v k → ⊥) → PocketProves s v k room f r t g → Proves s v k room f r₁ t₁ g₁ →
-      (r ≡ r₁) × (t ≡ t₁) × (g ≡ g₁)
-  prover-inside h w y =
-      let z = as-proves h w in
-      let (e, d) = one-exported refl (z .exported) (y .exported) in (e, z .proof ∙ sym (y .proof), d)
+  prover-inside : (ProvedOutside s v k → ⊥) → SameOutcome (PocketProves s v k) (Proves s v k)
+  prover-inside h = record {
+    same = λ w y.
+        let z = as-proves h w in
+        let (e, d) = one-exported refl (z .exported) (y .exported) in (e, z .proof ∙ sym (y .proof), d);
+  }
 
   -- where it answers 0, the proof there is isn't outside
   given-inside : {room f t g : Bytes} → PocketProves s v k room f 0 t g → ProvedOutside s v k → ⊥
@@ -208,8 +209,8 @@ module _ (s : Bytes) (v : ℕ) (k : Bytes) where
   -- Inside the profile, the provers give the same bytes.
   pub pocket-prover-beside-full : BesideTheFullProver s v k
   pocket-prover-beside-full = record {
-    inside = λ h w y. prover-inside h w y;
-    given = λ w y. let e = prover-inside (given-inside w) w y in (sym (e .0), e .1, e .2);
+    inside = prover-inside;
+    given = λ w y. let e = prover-inside (given-inside w) .same w y in (sym (e .0), e .1, e .2);
     short = λ w. prover-short w;
   }
 

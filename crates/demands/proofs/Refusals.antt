@@ -27,8 +27,8 @@ use Rattle.layout.specs.Stores.{storeOf}
 use Rattle.layout.proofs.Headers.{header-refused}
 use Rattle.proofrecords.specs.ProofBytes.{proofBytes}
 use Rattle.changed.specs.Changes.{listBytes}
-use Rattle.contracts.specs.Format.{formatAnswer, formatBytes}
-use Rattle.promises.specs.Calls.{Does, wrong-header, not-sound, refuses}
+use Rattle.promises.specs.Check as check
+use Rattle.promises.specs.Calls.{Does, not-checked, refuses}
 use Rattle.promises.proofs.Calls.{refused-writes-nothing}
 use Rattle.meaning.specs.Answers.{numberOf, roomAfter, Exports, exports-refusal, exports-answer}
 use Rattle.meaning.proofs.Told.{exported-kept, exports-kept}
@@ -80,7 +80,6 @@ module _ {A : Type 0} where
 -- Format.
 module _ {s t : Bytes} {r : ℕ} (w : Formats s r t) where
   pub refused-format-writes-nothing : (r ≡ 0 → ⊥) → t ≡ s
-  unfolding formatAnswer formatBytes
   refused-format-writes-nothing f = go (sizeRight counted (length s)) _ (w .answer) (w .bytes)
     where
       go : (b : Bool) (fresh : Bytes) → r ≡ cond b 0 1 → t ≡ cond b fresh s → t ≡ s
@@ -99,13 +98,14 @@ header-numbers s {n} e = go (header-refused counted s n e)
 module _ {A : Type 0} {call : Store → Result A} {s : Bytes} where
   pub does-numbers : (ns : List ℕ) {m : ℕ} {t : Bytes} → ((st : Store) (n : ℕ) → call st .answer ≡ refused n → OneOf ns n) →
       Does call s (refused m) t → OneOf (1 ∷ 2 ∷ 3 ∷ ns) m
-  does-numbers ns {m} own (wrong-header e) = later (header-numbers s e)
+  does-numbers ns own (not-checked (check.refused m e) f) = later (header-numbers s e)
     where
       later : OneOf (1 ∷ 2 ∷ []) m → OneOf (1 ∷ 2 ∷ 3 ∷ ns) m
       later (inl z) = inl z
       later (inr (inl z)) = inr (inl z)
       later (inr (inr z)) = absurd z
-  does-numbers ns own (not-sound e g) = inr (inr (inl refl))
+  does-numbers ns own (not-checked (check.unsound c o l e g) f) = inr (inr (inl refl))
+  does-numbers ns own (not-checked (check.sound c o l e g) f) = absurd (f refl)
   does-numbers ns {m} own (refuses w e) = inr (inr (inr (own (storeOf s) m e)))
 
   export-writes-nothing : {told : A → Bytes} {f t g : Bytes} {r : ℕ} → Exports (λ a. Does call s a t) told f r g → (r ≡ 0 → ⊥) → (t ≡ s) × (g ≡ f)

@@ -21,10 +21,10 @@ use Rattle.layout.specs.Headers.{Headed, refusal, header, headerOf, sizeRight}
 use Rattle.layout.specs.Stores.{storeOf}
 use Rattle.layout.proofs.Headers.{room-of, size-right-of}
 use Rattle.batch.proofs.Batches.{asks-one}
-use Rattle.contracts.specs.Format.{formatAnswer, formatBytes}
 use Rattle.contracts.specs.Apply.{told}
 use Rattle.promises.specs.Check as check
-use Rattle.promises.specs.Calls.{SoundBytes, wrong-header, not-sound, refuses, accepts, Does}
+use Rattle.promises.specs.Calls.{SoundBytes, not-checked, refuses, accepts, Does}
+use Rattle.promises.proofs.Calls.{sound-passes}
 use Rattle.index_rules.specs.Tables.{Fits, RightFor, Opened, other-length, checked, Tells, not-opened, not-right, is-right, Builds, not-built, built, FormatsBoth, wrong-size, both-fresh, DoesBoth, not-told, refuses-both, accepts-both}
 use Rattle.index_rules.proofs.Outcomes as outcomes
 use Rattle.refusals.specs.Exactly.{Table, Exactly, NoneOf}
@@ -91,7 +91,6 @@ right-table-is-told-exactly w t = outcomes.told-exactly w t
 
 -- Format, apply and prune leave the right table of the store that they leave, and that store is byte for byte what the plain call leaves.
 pub format-as-plain : {s t : Bytes} {table u : List ℕ} {r : ℕ} → FormatsBoth s table r t u → r ≡ 0 → Formats s 0 t
-unfolding formatAnswer formatBytes
 format-as-plain (wrong-size n) z = absurd (omega arith)
 format-as-plain (both-fresh h f e r) z = record { answer = rw h; bytes = e ∙ rw h }
 
@@ -107,8 +106,7 @@ module _ {A : Type 0} {call : Store → Result A} {told : A → Bytes} {s : Byte
   both-kept : {r : ℕ} {t g : Bytes} {u : List ℕ} → ((m : ℕ) → call (storeOf s) .answer ≡ refused m → m ≡ 0 → ⊥) →
       Exports (λ a. DoesBoth call s table a t u) told f r g → r ≡ 0 → Exports (λ a. Does call s a t) told f 0 g × RightFor s table × RightFor t u
   both-kept never (exports-refusal (not-told n o)) z = absurd (n z)
-  both-kept never (exports-refusal (refuses-both o (wrong-header e))) z = clash e (outcomes.told-sound o refl .headed)
-  both-kept never (exports-refusal (refuses-both o (not-sound e n))) z = absurd (n (outcomes.told-sound o refl .sound))
+  both-kept never (exports-refusal (refuses-both o (not-checked c n))) z = sound-passes (outcomes.told-sound o refl) c n
   both-kept never (exports-refusal (refuses-both o (refuses w e))) z = absurd (never _ e z)
   both-kept never (exports-answer d) z = (exports-answer (outcomes.accepted-as-plain d), outcomes.accepted-was-right d, outcomes.accepted-right d)
 
@@ -220,8 +218,7 @@ both-first : {A : Type 0} (call : Store → Result A) {told : A → Bytes} (s : 
     First more (numberOf (call (storeOf s) .answer)) → Exports (λ a. DoesBoth call s table a t u) told f r g →
     First (rowsBy s table (headerRows s) ++ (3, Sound leafHash innerHash (storeOf s) → ⊥) ∷ (16, RightFor s table → ⊥) ∷ more) r
 both-first call s table more h (exports-refusal (not-told n o)) = told-first s table more o n
-both-first call s table more h (exports-refusal (refuses-both o (wrong-header e))) = clash e (outcomes.told-sound o refl .headed)
-both-first call s table more h (exports-refusal (refuses-both o (not-sound e n))) = absurd (n (outcomes.told-sound o refl .sound))
+both-first call s table more h (exports-refusal (refuses-both o (not-checked c n))) = sound-passes (outcomes.told-sound o refl) c n
 both-first call s table more h (exports-refusal {n = m} (refuses-both o (refuses w e))) =
     right-past s table more m o refl (subst (λ x. First more (numberOf x)) e h)
 both-first call s table more h (exports-answer (accepts-both o (accepts w e) q)) =

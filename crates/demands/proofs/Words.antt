@@ -30,7 +30,7 @@ use Rattle.lookup_root.specs.Roots.{rootHere}
 use Rattle.lifetime.specs.Lifetime.{covers}
 use Rattle.lookup.proofs.Matching.{is-node}
 use Rattle.lookup_root.proofs.Rooting.{at-top}
-use Rattle.demands.specs.Words.{Used, LowestUsed}
+use Rattle.demands.specs.Words.{LowestUsed}
 
 -- bytes that are all zero
 zeros-of : (x : Bytes) → allZero x ≡ true → x ≡ replicate (length x) 0
@@ -72,7 +72,7 @@ module _ (s : Bytes) (size : sizeRight counted (length s) ≡ true) (agree : Byt
   has : (j : ℕ) → j < roomOf counted (length s) → Has counted s j
   has j h = record { size = size; inside = h }
 
-  spoilt-at : (j : ℕ) → (h : j < roomOf counted (length s)) → Used s j → agree (slotIn counted j s) → getD (storeOf s .slots) j free ≡ spoiled (slotIn counted j s)
+  spoilt-at : (j : ℕ) → (h : j < roomOf counted (length s)) → (slotIn counted j s ≡ zeroBytes (slotSize counted) → ⊥) → agree (slotIn counted j s) → getD (storeOf s .slots) j free ≡ spoiled (slotIn counted j s)
   spoilt-at j h u a =
       let x = slotIn counted j s in
       slot-is (has j h) ∙ says-spoilt x (not-zero x (slot-long counted j s (slot-within (has j h))) u) (λ r e. none-matches j r (has j h) e a)

@@ -14,21 +14,18 @@ use Rattle.histories.specs.Claims.{NoGap}
 use Rattle.layout.specs.Stores.{storeIn, storeOf}
 use Rattle.rescue_rules.specs.Rescue.{sourceTree}
 use Rattle.rescue_bytes.specs.Rescues.{slotsIn}
-use Rattle.move_rules.specs.Claims.{SoundIn}
+use Rattle.promises.specs.Calls.{SoundIn}
 use Rattle.contracts.specs.Contracts.{Formats, Applies, Prunes, Rescues, MovesOver, MovesBack}
 use Rattle.contracts.specs.Contracts.{FormatsIndexed, AppliesIndexed, PrunesIndexed}
 
--- What a rescued store takes over: the grants of its versions, from the first that was reported to latest, by the
--- source's trees.
+-- What a rescued store takes over: the grants of its versions from the first reported to latest, by the source's trees.
 abbrev pub takenOver : Bytes → ℕ → Bytes → List Entry
 takenOver source latest g = entriesFrom (sourceTree (slotsIn source)) (field 0 4 g) (latest - field 0 4 g)
 
 -- A public call with any arguments, lent the bytes s whole and as the store, leaves the bytes t. A history notes of it
--- what was asked and whether it was accepted, that is, answered with 0.
+-- what was asked and whether it was accepted, that is, answered with 0. The number of a batch has four bytes.
 pub data Called (s : Bytes) : Call × Bool → Bytes → Type 0 where
-  -- formatting again, too
   formats : {r : ℕ} {t : Bytes} → Formats s r t → Called s (formatting, eqb r 0) t
-  -- the number of a batch has four bytes
   applies : (number : ℕ) (batch : Bytes) {f t g : Bytes} {r : ℕ} → number ≤ top32 →
       (w : Applies number batch s f r t g) → Called s (applying number (w .asked), eqb r 0) t
   prunes : {n r : ℕ} {f t g : Bytes} → Prunes n s f r t g → Called s (pruning n, eqb r 0) t
@@ -39,15 +36,12 @@ pub data Called (s : Bytes) : Call × Bool → Bytes → Type 0 where
       (w : AppliesIndexed number batch s table f r t u g) → Called s (applying number (w .asked), eqb r 0) t
   prunes-both : {table u : List ℕ} {n r : ℕ} {f t g : Bytes} → PrunesIndexed n s table f r t u g →
       Called s (pruning n, eqb r 0) t
-  -- the target of a rescue begins anew, with what the source's trees of the run hold (2026-08)
+  -- the target of a rescue (2026-08) or of a move over (2026-10) begins anew, with what the source's trees hold
   rescues-into : {oldest latest r : ℕ} {source f t g : Bytes} → latest ≤ top32 → All Byte source →
-      Rescues oldest latest source s f r t g →
-      Called s (taking (takenOver source latest g), eqb r 0) t
-  -- so does the target of a move over, with what the source's kept versions hold (2026-10)
+      Rescues oldest latest source s f r t g → Called s (taking (takenOver source latest g), eqb r 0) t
   moves-over : {r : ℕ} {source t : Bytes} → All Byte source → MovesOver source s r t →
       Called s (taking (held (storeIn plain source)), eqb r 0) t
-  -- Every other call is lent the store to look at, as a rescue and a move their source, or not at all: whatever it is
-  -- asked and answers, the store stays.
+  -- every other call is lent the store to look at, if at all: whatever it is asked and answers, the store stays
   looks : Called s (looking, false) s
 
 -- Calls one after the other, from the bytes s to the bytes t, with their history.
@@ -56,22 +50,17 @@ pub data Calls : Bytes → List (Call × Bool) → Bytes → Type 0 where
   then-called : {s t u : Bytes} {e : Call × Bool} {history : List (Call × Bool)} → Called s e t → Calls t history u →
       Calls s (e ∷ history) u
 
--- None of them leaves a gap: each batch that was accepted was given the latest version of the bytes it was lent + 1,
--- and no rescue and no move into the store was accepted.
+-- None of them leaves a gap: each accepted batch was given latest + 1, and no rescue or move into it was accepted.
 abbrev pub WithoutGaps : {s t : Bytes} {history : List (Call × Bool)} → Calls s history t → Type 0
 WithoutGaps none-yet = Unit {0}
 WithoutGaps {s} (then-called {e = e} c calls) = cond (e .1) (NoGap (e .0) (storeOf s)) (Unit {0}) × WithoutGaps calls
 
--- How a store of a form begins, and the grants by version that it begins with. A new one: format accepted some bytes,
--- and there is the empty version 0; or a rescue into some bytes was accepted, and its history counts from the run's
--- first version (2026-08). A sound one of either form without a history starts with what its kept versions hold. A move
--- that was accepted begins its target, which takes over the source's history: so a life may go over and back any number
--- of times (2026-10).
+-- How a store of a form begins, and the grants by version that it begins with. By a move it takes over the source's
+-- history, so that a life may go over and back any number of times (2026-10).
 pub data Begins : Form → Bytes → List Entry → Type 0 where
   by-format : {before t : Bytes} → Formats before 0 t → Begins counted t (entry 0 [] ∷ [])
   by-rescue : {oldest latest : ℕ} {source before f t g : Bytes} → latest ≤ top32 → All Byte source →
-      Rescues oldest latest source before f 0 t g →
-      Begins counted t (takenOver source latest g)
+      Rescues oldest latest source before f 0 t g → Begins counted t (takenOver source latest g)
   as-found : {f : Form} {s : Bytes} → All Byte s → SoundIn f s → Begins f s (held (storeIn f s))
   by-over : {s before t : Bytes} {es : List Entry} → All Byte s → Begins plain s es → MovesOver s before 0 t →
       Begins counted t es

@@ -3,11 +3,11 @@ use Prim.Native.Nat.{ℕ, _≤_, _<_}
 use mathlib.Core.Path.{_≡_}
 use mathlib.Core.Logic.{_↔_}
 use mathlib.Core.Bool.{Bool, true, false}
-use mathlib.Core.List.{List, [], _∷_, map}
+use mathlib.Core.List.{List, [], map}
 use mathlib.Core.Option.{some}
 use lib.ListN.{length, take}
 use Rattle.terms.specs.declared.Form.the-variants.{Counted as counted}
-use Rattle.terms.specs.Bits.{Bytes, Whole32, Place, All, before}
+use Rattle.terms.specs.Bits.{Bytes, Whole32, Place}
 use Rattle.terms.specs.Fields.{le, num, field, slice, zeroBytes}
 use Rattle.terms.specs.Records.{Grant, Ask, Record, Proof, zeros}
 use Rattle.meaning.specs.Tree.{withBatch, treeOf, hash, VTree, unversioned, grantsIn}
@@ -18,10 +18,10 @@ use Rattle.meaning.specs.Reading.{Verdict, present, absent, answerOf}
 use Rattle.checker.specs.Holding as checker
 use Rattle.meaning.specs.Proving.{proof, proofLength}
 use Rattle.meaning.specs.History.{Call, Entry, ledger, grantsOf, Holds}
-use Rattle.histories.specs.Claims.{AfterApply, AfterPrune}
+use Rattle.histories.specs.Claims.{InTree, AfterApply, AfterPrune}
 use Rattle.changed.specs.Changes.{Change, undone, items, listBytes}
 use Rattle.changed.specs.Compare.{changesOf, visitsOf}
-use Rattle.changed.specs.Claims.{WhatChanged}
+use Rattle.changed.specs.Claims.{KeyOrder, WhatChanged}
 use Rattle.nodehash.specs.Node.{leafHash, innerHash}
 use Rattle.proofrecords.specs.ProofBytes.{presenceKind, absenceKind, ProofIs}
 use Rattle.layout.specs.Sizes.{slotSize}
@@ -37,7 +37,7 @@ use Rattle.meaning.specs.Answers.{foundBytes, numberOf, toldOf, roomAfter}
 use Rattle.contracts.specs.Numbers.{grantBytes}
 use Rattle.contracts.specs.Contracts.{ReadsRoot, ReadsKey, Proves, Palettes, Changes, Verifies, Counts, ReadsAt}
 
--- Of the store that bytes hold: the tree of a version, its grants, and the latest version.
+-- Of the store that bytes hold: the tree of a version, its grants, the latest version, and its grants with a batch.
 abbrev pub treeOfVersion : Bytes → ℕ → VTree
 treeOfVersion s v = treeAtVersion (storeOf s) v
 
@@ -47,30 +47,24 @@ grantsOfVersion s v = grantsIn (treeOfVersion s v)
 abbrev pub latestOf : Bytes → ℕ
 latestOf s = storeOf s .latest
 
--- The latest grants with a batch applied.
 abbrev pub grantsWith : List Ask → Bytes → List Grant
 grantsWith asks s = withBatch asks (grantsOfVersion s (latestOf s))
 
--- Grants in key order: each key before all that follow, so each once.
-abbrev pub InKeyOrder : List Grant → Type 0
-InKeyOrder [] = Unit {0}
-InKeyOrder (g ∷ gs) = All (λ h. before (g .key) (h .key) ≡ true) gs × InKeyOrder gs
+-- Two calls with these contracts, lent the same room and array, answer alike and leave the same bytes.
+pub record SameOutcome (A B : Bytes → Bytes → ℕ → Bytes → Bytes → Type 0) : Type 0 where
+  pub same : {room f u u₁ g g₁ : Bytes} {r r₁ : ℕ} → A room f r u g → B room f r₁ u₁ g₁ → (r ≡ r₁) × (u ≡ u₁) × (g ≡ g₁)
 
--- Demand 2: what is shown of a key in a kept version of a sound store, for every version that holds a grant (2026-03),
--- where this is what the version's grants say of the key.
+-- Demand 2: what is shown of a key in a kept version that holds a grant (2026-03), whose grants say this of the key.
 pub record Shown (s : Bytes) (v : ℕ) (k : Bytes) (answer : Verdict) : Type 0 where
-  -- there is a proof, which is given exactly if there is room for it, and 9 exactly if the room is short; 17,080 bytes
-  -- are enough
-  pub proved : Proof
+  pub proved : Proof  -- there is a proof, given exactly if there is room for it, else 9; 17,080 bytes are enough
   pub is-proved : proof (storeOf s) v k ≡ accepted proved
   pub given : {room f t g : Bytes} {r : ℕ} → Proves s v k room f r t g → (r ≡ 0) ↔ (proofLength proved ≤ length room)
   pub short : {room f t g : Bytes} {r : ℕ} → Proves s v k room f r t g → (r ≡ 9) ↔ (length room < proofLength proved)
   pub room : {room f t g : Bytes} {r : ℕ} → Proves s v k room f r t g → 17080 ≤ length room → r ≡ 0
-  -- it shows a grant exactly if the key is in the version, else its absence
   pub presence : {room f t g : Bytes} → Proves s v k room f 0 t g →
       (field 4 2 t ≡ presenceKind) ↔ ((x : Bytes) × (answer ≡ present x))
   pub absence : {room f t g : Bytes} → Proves s v k room f 0 t g → (field 4 2 t ≡ absenceKind) ↔ (answer ≡ absent)
-  -- and the checker accepts it against the version's root, and finds what the key read finds
+  -- the checker accepts it against the version's root, and finds what the key read finds
   pub checked : {room f t g f₁ root f₂ found : Bytes} {r₁ r₂ : ℕ} → Proves s v k room f 0 t g →
       ReadsRoot s v f₁ r₁ root → Verifies root k (take (num g) t) f₂ r₂ found →
       (r₁ ≡ 0) × (r₂ ≡ 0) × (found ≡ foundBytes answer)
@@ -79,88 +73,65 @@ pub record Shown (s : Bytes) (v : ℕ) (k : Bytes) (answer : Verdict) : Type 0 w
 pub record ReadsFor (s : Bytes) (v : ℕ) (gs : List Grant) : Type 0 where
   pub root : {f g : Bytes} {r : ℕ} → ReadsRoot s v f r g → (r ≡ 0) × (g ≡ hash leafHash innerHash (treeOf gs))
   pub key : {k f g : Bytes} {r : ℕ} → Whole32 k → ReadsKey s v k f r g → (r ≡ 0) × (g ≡ foundBytes (answerOf k gs))
-  -- their number, and at position i the i-th of them in key order: 0 exactly if i is below the number, 20 exactly if it
-  -- isn't (2026-09)
   pub number : {f g : Bytes} {r : ℕ} → Counts s v f r g → (r ≡ 0) × (g ≡ le 8 (length gs))
-  pub ordered : InKeyOrder gs
+  pub ordered : KeyOrder (λ (g : Grant). g .key) gs  -- position i has the i-th of them, or 20 (2026-09)
   pub position : {i : ℕ} {f g : Bytes} {r : ℕ} → ReadsAt s v i f r g →
       (r ≡ numberOf (grantAt gs i)) × (g ≡ toldOf grantBytes (grantAt gs i) f)
   pub below : {i : ℕ} {f g : Bytes} {r : ℕ} → ReadsAt s v i f r g → (r ≡ 0) ↔ (i < length gs)
   pub past : {i : ℕ} {f g : Bytes} {r : ℕ} → ReadsAt s v i f r g → (r ≡ 20) ↔ (length gs ≤ i)
-  -- with a grant every key is shown; without one the root is 32 zero bytes, and there is no proof, exactly: 14, with
-  -- nothing written (2026-03)
-  pub shows : (gs ≡ [] → ⊥) → (k : Bytes) → Whole32 k → Shown s v k (answerOf k gs)
+  pub shows : (gs ≡ [] → ⊥) → (k : Bytes) → Whole32 k → Shown s v k (answerOf k gs)  -- else 14 (2026-03)
   pub zero-root : gs ≡ [] → {f g : Bytes} {r : ℕ} → ReadsRoot s v f r g → g ≡ zeros
   pub shows-nothing : {k room f t g : Bytes} {r : ℕ} → Whole32 k → Proves s v k room f r t g →
       ((r ≡ 14) ↔ (gs ≡ [])) × (r ≡ 14 → (t ≡ room) × (g ≡ f))
 
 -- Demand 3: the bytes t of a store after its history, from the grants by version that it began with.
 pub record AfterHistory (start : List Entry) (history : List (Call × Bool)) (t : Bytes) : Type 0 where
-  -- the store is sound, and the bytes are its bytes
   pub sound : SoundBytes t
   pub bytes : t ≡ storeBytes (storeOf t)
-  -- it holds exactly the grants that the history gives it
-  pub holds : Holds leafHash innerHash (storeOf t) (ledger history start)
+  pub holds : Holds leafHash innerHash (storeOf t) (ledger history start)  -- exactly the grants of its history
   -- each record stands in exactly the kept versions of its lifetime
   pub lifetimes : (v : ℕ) → Kept (storeOf t) v → (i : ℕ) (r : Record) → At (storeOf t) i r →
-      NodeOf (r .version) (r .place) (treeOfVersion t v) [] ↔ Lives v r
-  -- a kept version reads for the grants that the history gives it
+      InTree r (treeOfVersion t v) ↔ Lives v r
   pub reads : {v : ℕ} {gs : List Grant} → Kept (storeOf t) v → grantsOf v (ledger history start) ≡ some gs →
       ReadsFor t v gs
-  -- no path is longer than 256 steps
   pub paths : (v : ℕ) → Kept (storeOf t) v → (w : ℕ) (p : Place) → NodeOf w p (treeOfVersion t v) [] → length p ≤ 256
-  -- no proof is longer than 17,080 bytes
   pub proofs : {v : ℕ} {k room f u g : Bytes} → Proves t v k room f 0 u g → num g ≤ 17080
 
--- Version v of the bytes t reads as version w of the bytes s (2026-13, and of each version that a call leaves as it
--- was): for the same grants; the proof of any key, and any palette, into the same room are the same bytes.
+-- Version v of the bytes t reads as version w of the bytes s (2026-13): the same grants, proofs and palettes.
 pub record ReadsAs (t : Bytes) (v : ℕ) (s : Bytes) (w : ℕ) : Type 0 where
   pub grants : List Grant
   pub reads : ReadsFor t v grants × ReadsFor s w grants
-  pub proof : {k room f u u₁ g g₁ : Bytes} {r r₁ : ℕ} → Proves t v k room f r u g → Proves s w k room f r₁ u₁ g₁ →
-      (r ≡ r₁) × (u ≡ u₁) × (g ≡ g₁)
-  pub palette : {list room f u u₁ g g₁ : Bytes} {r r₁ : ℕ} → Palettes t v list room f r u g →
-      Palettes s w list room f r₁ u₁ g₁ →
-      (r ≡ r₁) × (u ≡ u₁) × (g ≡ g₁)
+  pub proof : (k : Bytes) → SameOutcome (Proves t v k) (Proves s w k)
+  pub palette : (list : Bytes) → SameOutcome (Palettes t v list) (Palettes s w list)
 
--- What changed between two versions of the bytes t is what changed between two versions of the bytes s: within the same
--- limit and into the same room, the same answer and the same bytes.
+-- What changed between two versions of the bytes t is what changed between two versions of the bytes s.
 pub record ComparesAs (t : Bytes) (v v′ : ℕ) (s : Bytes) (w w′ : ℕ) : Type 0 where
-  pub same : {limit : ℕ} {room f u u₁ g g₁ : Bytes} {r r₁ : ℕ} → Changes v v′ limit t room f r u g →
-      Changes w w′ limit s room f r₁ u₁ g₁ →
-      (r ≡ r₁) × (u ≡ u₁) × (g ≡ g₁)
+  pub same : (limit : ℕ) → SameOutcome (Changes v v′ limit t) (Changes w w′ limit s)
 
--- Demand 2: a batch was applied to the bytes s as a number and accepted; t are the bytes left, and g what was told:
--- version 4, root 32, count 4. By 2026-13 the next version is that of the given number.
+-- Demand 2: a batch was applied to the bytes s as a number (2026-13) and accepted; t are the bytes left, and g is told.
 pub record NextVersion (number : ℕ) (batch s t g : Bytes) : Type 0 where
   pub asks : List Ask
   pub asked : AskedBy batch asks
   pub was : SoundBytes s
   pub sound : SoundBytes t
   pub bytes : t ≡ storeBytes (storeOf t)
-  -- the new tree with its node versions, the retired nodes, and nothing else
-  pub answer : Applied
+  pub answer : Applied  -- the new tree with its node versions, the retired nodes, and nothing else
   pub answered : g ≡ told answer
   pub after : AfterApply leafHash innerHash number asks (storeOf s) answer (storeOf t)
-  -- the version told is the given number, and what is read of it are the old grants with the batch
   pub version : field 0 4 g ≡ number
   pub tree : unversioned (treeOfVersion t (latestOf t)) ≡ treeOf (grantsWith asks s)
   pub reads : ReadsFor t number (grantsWith asks s)
-  -- the root is that of those grants, and the count that of the new records
   pub root : slice 4 32 g ≡ hash leafHash innerHash (treeOf (grantsWith asks s))
   pub count : field 36 4 g ≡ length (newRecords leafHash innerHash (latestOf t) (treeOfVersion t (latestOf t)))
-  -- each older version reads as it did, and each one between as the latest before
-  pub older : (v : ℕ) → Kept (storeOf s) v → ReadsAs t v s v
+  pub older : (v : ℕ) → Kept (storeOf s) v → ReadsAs t v s v  -- as they were; those between as the latest before
   pub between : (v : ℕ) → latestOf s ≤ v → v < number → ReadsAs t v s (latestOf s)
   pub compares : (v w : ℕ) → Kept (storeOf s) v → Kept (storeOf s) w → ComparesAs t v w s v w
 
 -- Pruning the bytes s to n was accepted; t are the bytes left, and g what was told: the count of records freed.
--- Versions that were not published are kept like any other.
 pub record Pruned (n : ℕ) (s t g : Bytes) : Type 0 where
   pub was : SoundBytes s
   pub sound : SoundBytes t
   pub bytes : t ≡ storeBytes (storeOf t)
-  -- the versions still kept have their trees, and as many slots more are free as was told
   pub after : AfterPrune leafHash innerHash n (storeOf s) (num g) (storeOf t)
   pub reads : (v : ℕ) → Kept (storeOf t) v → ReadsAs t v s v
   pub compares : (v w : ℕ) → Kept (storeOf t) v → Kept (storeOf t) w → ComparesAs t v w s v w
@@ -170,8 +141,7 @@ pub record Pruned (n : ℕ) (s t g : Bytes) : Type 0 where
   pub keeps : (i : ℕ) → i < length (storeOf s .slots) → ((r : Record) → At (storeOf s) i r → retiredBy n r ≡ false) →
       slotIn counted i t ≡ slotIn counted i s
 
--- Demand 2: the proof check accepts the bytes x as a proof for the key k against a root, with this answer. The root and
--- the key have 32 bytes, and x is one whole proof in form that holds.
+-- Demand 2: the proof check accepts the bytes x as a proof for the key k against a root, with this answer.
 pub record Accepts (root k x : Bytes) (answer : Verdict) : Type 0 where
   pub root32 : length root ≡ 32
   pub key32 : length k ≡ 32
@@ -179,27 +149,22 @@ pub record Accepts (root k x : Bytes) (answer : Verdict) : Type 0 where
   pub is-proof : ProofIs x proof
   pub holds : checker.Holds leafHash innerHash root k proof answer
 
--- Document 02, 2026-01: a comparison that was accepted, from version first to version second of the bytes s. The list
--- at the front of the room says what changed, the rest of the room stays, and the array has the number of its records.
+-- Document 02, 2026-01: an accepted comparison, from version first to version second of the bytes s.
 pub record ListsChanges (first second limit : ℕ) (s room t g : Bytes) : Type 0 where
   pub sound : SoundBytes s
   pub kept : Kept (storeOf s) first × Kept (storeOf s) second
   pub changes : List Change
   pub what : WhatChanged (grantsOfVersion s first) (grantsOfVersion s second) changes
-  -- first and second swapped list what undoes it, and equal versions nothing
-  pub undoes : changesOf (storeOf s) second first ≡ map undone changes
+  pub undoes : changesOf (storeOf s) second first ≡ map undone changes  -- swapped, they list what undoes it
   pub equal : first ≡ second → changes ≡ []
   pub room-holds : t ≡ roomAfter listBytes (accepted (items changes)) room
   pub told : g ≡ le 4 (length (items changes))
-  -- there are at most 16,384 of them
   pub short : length (items changes) ≤ 16384
-  -- the visits are within the limit, the same for second and first, and at most 32,769
   pub within : visitsOf (storeOf s) first second ≤ limit
   pub symmetric : visitsOf (storeOf s) first second ≡ visitsOf (storeOf s) second first
   pub few : visitsOf (storeOf s) first second ≤ 32769
 
--- Document 02, 2026-08: a rescue of the source s that was accepted. The target t is worth what 02 says, the array g has
--- the report, and each version kept reads for the grants of the source's tree of that version.
+-- Document 02, 2026-08: a rescue of the source s was accepted; each version kept reads for the grants it has there.
 pub record Rescued (oldest latest : ℕ) (s t g : Bytes) : Type 0 where
   pub report : Report
   pub worth : Worth oldest latest s t report
@@ -207,8 +172,7 @@ pub record Rescued (oldest latest : ℕ) (s t g : Bytes) : Type 0 where
   pub told : g ≡ reportBytes report
   pub reads : (v : ℕ) → report .first ≤ v → v ≤ latest → ReadsFor t v (grantsIn (sourceTree (slotsIn s) v))
 
--- A rescue of the source s that gave it back: accepted, the same bytes, from this version on, nothing changed and
--- nothing left out.
+-- A rescue gave the source s back from this version on: accepted, the same bytes, nothing changed or left out.
 pub record GivenBack (first : ℕ) (s : Bytes) (r : ℕ) (t g : Bytes) : Type 0 where
   pub accepts : r ≡ 0
   pub bytes : t ≡ s

@@ -1,7 +1,7 @@
 -- Document 02, 2026-12: 'what acceptance means, whoever wrote the proof', over the contracts. Assumes nothing.
 use Prim.Native.Nat.{ℕ}
 use mathlib.Core.Path.{_≡_}
-use mathlib.Core.Logic.{_⊎_}
+use mathlib.Core.Logic.{_⊎_, _↔_}
 use mathlib.Core.List.{List, _++_}
 use lib.ListN.{length, getD}
 use Rattle.terms.specs.Bits.{Bytes}
@@ -20,12 +20,10 @@ use Rattle.forgery.specs.Messages.{treeMessages, checkedMessages}
 use Rattle.forgery.specs.Finding.{True, Among}
 use Rattle.demands.specs.Claims.{treeOfVersion, grantsOfVersion, Accepts}
 
--- 131 bytes name a finding among some messages: two different ones with equal SHA-256, or one whose SHA-256 is 32 zero
--- bytes.
+-- 131 bytes name a finding among messages: two different ones with equal SHA-256, or one whose SHA-256 is zeros.
 pub data NamesFinding (messages : List Bytes) (g : Bytes) : Type 0 where
   two-equal : getD g 0 0 ≡ 1 → Among (slice 1 65 g) messages → Among (slice 66 65 g) messages →
-      (slice 1 65 g ≡ slice 66 65 g → ⊥) →
-      sha256 (slice 1 65 g) ≡ sha256 (slice 66 65 g) → NamesFinding messages g
+      (slice 1 65 g ≡ slice 66 65 g → ⊥) → sha256 (slice 1 65 g) ≡ sha256 (slice 66 65 g) → NamesFinding messages g
   one-zero : getD g 0 0 ≡ 2 → Among (slice 1 65 g) messages → sha256 (slice 1 65 g) ≡ zeros → NamesFinding messages g
 
 -- The messages of the version's nodes, and those hashed while checking a proof.
@@ -34,7 +32,6 @@ messagesOf s v p = treeMessages sha256 (unversioned (treeOfVersion s v)) ++ chec
 
 -- The call was accepted of the bytes x, as a proof for the key k in version v of the bytes s; g is what it told.
 pub record Cost (s : Bytes) (v : ℕ) (k x g : Bytes) : Type 0 where
-  -- a sound store, a kept version that holds a grant, and a proof that the check accepts against its root
   pub sound : SoundBytes s
   pub kept : Kept (storeOf s) v
   pub granted : HoldsGrant (storeOf s) v
@@ -49,8 +46,7 @@ pub record Cost (s : Bytes) (v : ℕ) (k x g : Bytes) : Type 0 where
   pub named : NamesFinding (messagesOf s v (accepts .proof)) g ⊎ (g ≡ zeroBytes 131)
   pub of-65-bytes : (m : Bytes) → Among m (messagesOf s v (accepts .proof)) → length m ≡ 65
   -- none is exactly if the proof is true
-  pub true-is-none : True (grantsOfVersion s v) (accepts .proof) → g ≡ zeroBytes 131
-  pub none-is-true : g ≡ zeroBytes 131 → True (grantsOfVersion s v) (accepts .proof)
+  pub none-if-true : True (grantsOfVersion s v) (accepts .proof) ↔ (g ≡ zeroBytes 131)
 
 -- Whom the bytes x deceived holds a finding.
 pub record Deceived (s : Bytes) (v : ℕ) (x g : Bytes) : Type 0 where

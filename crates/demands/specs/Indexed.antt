@@ -1,5 +1,4 @@
--- Document 02, 2026-05: the reads by a table of slot numbers lent with the store. 'A table of another length gives 1';
--- 'whatever the index holds, a read differs from the plain scan's only where two slots match.' Assumes nothing.
+-- Document 02, 2026-05: the reads by a table of slot numbers lent with the store. Assumes nothing.
 use Prim.Native.Nat.{ℕ}
 use mathlib.Core.Path.{_≡_}
 use mathlib.Core.Bool.{true, cond}
@@ -17,8 +16,7 @@ use Rattle.refusals.specs.Tables.{HasSlots, WrongSize}
 use Rattle.contracts.specs.Contracts.{ReadsRoot, ReadsKey, Counts, ReadsAt, Proves, Palettes}
 use Rattle.contracts.specs.Contracts.{ReadsRootBy, ReadsKeyBy, CountsBy, ReadsAtBy, ProvesBy, PalettesBy}
 
--- The rows of a call that is lent a table of slot numbers: those of the plain call, but 1 is also for a table that
--- hasn't n entries.
+-- The rows of a call that is lent a table: those of the plain call, but 'a table of another length gives 1' too.
 abbrev pub rowsBy : Bytes → List ℕ → Table → Table
 rowsBy s table [] = []
 rowsBy s table (row ∷ rows) =

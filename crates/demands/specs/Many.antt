@@ -12,15 +12,13 @@ use Rattle.verify_rows.specs.Rows.{Piece}
 use Rattle.contracts.specs.Contracts.{ReadsRoot, ReadsKey, Palettes, Verifies, VerifiesMany}
 use Rattle.demands.specs.Claims.{grantsOfVersion}
 
--- Single checks against a root, a piece for each key, each with 33 zero bytes for what is found; and of each its
--- number and what it left there.
+-- Single checks against a root, a piece for each key, each lent 33 zero bytes; and of each its number and what it left.
 pub data SingleChecks (root : Bytes) : List Bytes → List Bytes → List Bytes → Type 0 where
   none-checked : SingleChecks root [] [] []
   then-checked : {k x g : Bytes} {r : ℕ} {keys pieces answers : List Bytes} → Verifies root k x (zeroBytes 33) r g →
       SingleChecks root keys pieces answers → SingleChecks root (k ∷ keys) (x ∷ pieces) ((r ∷ g) ∷ answers)
 
--- Many proofs of a row, accepted: whichever pieces the row is, the answers are those of the single checks, in the
--- order of the keys, 34 bytes for each; the rest of the buffer stays.
+-- Many proofs of a row, accepted: the answers are those of the single checks, 34 bytes each; the rest stays.
 pub record BesideSingleChecks (root list row old new : Bytes) : Type 0 where
   pub same : {pieces answers : List Bytes} → All Piece pieces → row ≡ flat pieces →
       SingleChecks root (keysIn list) pieces answers → new ≡ flat answers ++ drop (length (flat answers)) old
@@ -37,15 +35,11 @@ pub data KeyReads (s : Bytes) (v : ℕ) : List Bytes → List Bytes → Type 0 w
 abbrev pub answersFor : Bytes → ℕ → List Bytes → List Bytes
 answersFor s v keys = map (λ k. 0 ∷ foundBytes (answerOf k (grantsOfVersion s v))) keys
 
--- What a palette of a list of whole keys gave, in a kept version of a sound store, checked at once against the
--- version's root.
+-- What a palette of whole keys gave, in a kept version of a sound store, checked at once against the version's root.
 pub record RowShown (s : Bytes) (v : ℕ) (list : Bytes) : Type 0 where
-  -- where there is room for the answers it is accepted, with 0 for every key and what the version's grants say of it;
-  -- the rest of the buffer stays
   pub answered : {room f t g f₁ root old new : Bytes} {r₁ r : ℕ} → Palettes s v list room f 0 t g →
       ReadsRoot s v f₁ r₁ root → VerifiesMany root list (take (num g) t) old r new →
       34 * length (keysIn list) ≤ length old →
       (r ≡ 0) × (new ≡ flat (answersFor s v (keysIn list)) ++ drop (34 * length (keysIn list)) old)
-  -- which is what the key reads find
   pub as-read : {found : List Bytes} → KeyReads s v (keysIn list) found →
       answersFor s v (keysIn list) ≡ map (λ g. 0 ∷ g) found

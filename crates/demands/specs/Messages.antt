@@ -1,5 +1,4 @@
--- Document 02, request 2026-02: what writing and reading a message promise, in the words of their contracts. Assumes
--- nothing.
+-- Document 02, 2026-02: what writing and reading a message promise, in the words of their contracts. Assumes nothing.
 use Prim.Native.Nat.{ℕ, _≤_}
 use mathlib.Core.Path.{_≡_}
 use mathlib.Core.Logic.{_↔_}
@@ -26,25 +25,20 @@ pub record PartnerAgrees (x : Bytes) (q : Proof) : Type 0 where
   pub found : {root f g : Bytes} → Verifies root (sha256 (askedIn q .bytes)) x f 0 g →
       g ≡ foundBytes (verdictOf sha256 q)
 
--- The record x was written as a message, lent some raw keys and values: the room was left as t, and g says how long the
--- message is.
+-- The record x was written as a message, lent raw keys and values: it stands in the room t, and g says how long it is.
 pub record MessageGiven (x asked : Bytes) (leaves : List Bytes) (t g : Bytes) : Type 0 where
   -- it is the message of a proof whose record is x and whose raw keys and values are those lent
   pub proof : Proof
   pub encodes : Encodes x (take (num g) t) proof
   pub lends : Lends x asked leaves proof
-  -- at most 14,868 bytes of a presence, 29,999 of an absence
   pub at-most : num g ≤ mostBytes proof
   -- reading gives back what was written: our record byte for byte, and where the raw keys and values stand
-  pub given-back : {room f t₁ g₁ : Bytes} {r : ℕ} → length x ≤ length room →
-      ReadsMessage (take (num g) t) room f r t₁ g₁ →
-      (r ≡ 0) × (t₁ ≡ x ++ drop (length x) room) × (g₁ ≡ answerBytes proof)
+  pub given-back : {room f u h : Bytes} {r : ℕ} → length x ≤ length room →
+      ReadsMessage (take (num g) t) room f r u h → (r ≡ 0) × (u ≡ x ++ drop (length x) room) × (h ≡ answerBytes proof)
   pub stands : All (StandsIn (take (num g) t)) (askedIn proof ∷ leavesIn proof)
   -- the reading is accepted exactly when our own record would be
-  pub accepted : {room f t₁ g₁ root k f₂ g₂ : Bytes} {r r₂ : ℕ} → length x ≤ length room →
-      ReadsMessage (take (num g) t) room f r t₁ g₁ →
-      Verifies root k (take (length x) t₁) f₂ r₂ g₂ ↔ Verifies root k x f₂ r₂ g₂
-  -- and a partner accepts the message exactly when ours accepts the record
+  pub accepted : {room f u h root k a b : Bytes} {r n : ℕ} → length x ≤ length room →
+      ReadsMessage (take (num g) t) room f r u h → Verifies root k (take (length x) u) a n b ↔ Verifies root k x a n b
   pub partner : PartnerAgrees x proof
 
 -- The bytes m were read as a message: the room was left as t, and g says first how long our own record of it is.
@@ -56,5 +50,4 @@ pub record MessageTaken (m t g : Bytes) : Type 0 where
   pub written-so : {room f t₁ g₁ : Bytes} {r : ℕ} → length m ≤ length room →
       WritesMessage (recordOf proof) (askedIn proof .bytes) (map (λ p. p .bytes) (twoLeaves proof)) room f r t₁ g₁ →
       (r ≡ 0) × (t₁ ≡ m ++ drop (length m) room) × (g₁ ≡ le 4 (length m))
-  -- a partner accepts the message exactly when ours accepts the record
   pub partner : PartnerAgrees (take (num (take 4 g)) t) proof

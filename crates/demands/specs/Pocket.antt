@@ -9,41 +9,30 @@ use Rattle.meaning.specs.Reading.{answerOf}
 use Rattle.meaning.specs.Answers.{foundBytes}
 use Rattle.refusals.specs.Tables.{OutsidePocket, ProvedOutside}
 use Rattle.contracts.specs.Contracts.{ReadsRoot, Proves, Verifies, PocketProves, PocketVerifies}
-use Rattle.demands.specs.Claims.{grantsOfVersion}
+use Rattle.demands.specs.Claims.{grantsOfVersion, SameOutcome}
 
 -- The bytes x checked as a proof for key k against a root, by the pocket check and by the full one.
 pub record BesideTheFullCheck (root k x : Bytes) : Type 0 where
-  -- unless x is a proof of which a leaf shown has more than 32 steps, they agree in the answer and in every byte
   pub inside : {f g g₁ : Bytes} {r r₁ : ℕ} → (OutsidePocket x → ⊥) → PocketVerifies root k x f r g →
       Verifies root k x f r₁ g₁ → (r ≡ r₁) × (g ≡ g₁)
-  -- and 19 is answered exactly if it is one, where root and key have 32 bytes
   pub nineteen : {f g : Bytes} {r : ℕ} → PocketVerifies root k x f r g →
       (r ≡ 19) ↔ ((length root ≡ 32) × (length k ≡ 32) × OutsidePocket x)
-  -- what the pocket check accepts, the full one accepts alike; it has at most 2,296 bytes
   pub accepted : {f g g₁ : Bytes} {r₁ : ℕ} → PocketVerifies root k x f 0 g → Verifies root k x f r₁ g₁ →
       (r₁ ≡ 0) × (g ≡ g₁)
   pub short : {f g : Bytes} → PocketVerifies root k x f 0 g → length x ≤ 2296
 
 -- The key k proved in version v of the bytes s, by the pocket prover and by the full one.
 pub record BesideTheFullProver (s : Bytes) (v : ℕ) (k : Bytes) : Type 0 where
-  -- unless the proof there is shows a leaf with more than 32 steps, they agree in the answer and in every byte
-  pub inside : {room f t t₁ g g₁ : Bytes} {r r₁ : ℕ} → (ProvedOutside s v k → ⊥) → PocketProves s v k room f r t g →
-      Proves s v k room f r₁ t₁ g₁ →
-      (r ≡ r₁) × (t ≡ t₁) × (g ≡ g₁)
-  -- what the pocket prover gives, the full one gives alike; it has at most 2,296 bytes
+  pub inside : (ProvedOutside s v k → ⊥) → SameOutcome (PocketProves s v k) (Proves s v k)
   pub given : {room f t t₁ g g₁ : Bytes} {r₁ : ℕ} → PocketProves s v k room f 0 t g → Proves s v k room f r₁ t₁ g₁ →
       (r₁ ≡ 0) × (t ≡ t₁) × (g ≡ g₁)
   pub short : {room f t g : Bytes} → PocketProves s v k room f 0 t g → num g ≤ 2296
 
 -- The key k proved in a kept version v of a sound store that holds a grant.
 pub record PocketShown (s : Bytes) (v : ℕ) (k : Bytes) : Type 0 where
-  -- 19 exactly if the proof there is shows a leaf with more than 32 steps; else 2,296 bytes of room are enough
   pub nineteen : {room f t g : Bytes} {r : ℕ} → PocketProves s v k room f r t g → (r ≡ 19) ↔ ProvedOutside s v k
   pub room : {room f t g : Bytes} {r : ℕ} → (ProvedOutside s v k → ⊥) → 2296 ≤ length room →
       PocketProves s v k room f r t g → r ≡ 0
-  -- what the pocket prover gives the pocket check accepts against the version's root, with what the version's grants
-  -- say
   pub checked : {room f t g f₁ root f₂ found : Bytes} {r₁ r₂ : ℕ} → PocketProves s v k room f 0 t g →
-      ReadsRoot s v f₁ r₁ root →
-      PocketVerifies root k (take (num g) t) f₂ r₂ found →
+      ReadsRoot s v f₁ r₁ root → PocketVerifies root k (take (num g) t) f₂ r₂ found →
       (r₁ ≡ 0) × (r₂ ≡ 0) × (found ≡ foundBytes (answerOf k (grantsOfVersion s v)))

@@ -1,5 +1,4 @@
--- Document 02, 2026-05: a table kept beside the store: built, told right or wrong, and kept right by format, apply and
--- prune. 'A table of another length gives 1; apply and prune test for 16 after 3.' Assumes nothing.
+-- Document 02, 2026-05: a table kept beside the store. 'Apply and prune test for 16 after 3.' Assumes nothing.
 use Prim.Native.Nat.{ℕ, _≤_}
 use mathlib.Core.Bool.{Bool, false}
 use mathlib.Core.List.{List, [], _∷_, _++_}
@@ -22,14 +21,11 @@ tellRows s table = rowsBy s table (soundRows s) ++ (16, RightFor s table → ⊥
 abbrev pub keepRows : Bytes → List ℕ → Table → Table
 keepRows s table rows = tellRows s table ++ drop 3 rows
 
--- A store and a table that only public calls wrote, each lent both: they begin by a format of both that was accepted,
--- or by a table built for a store with a life of its own; then come calls that keep both, calls that build the table
--- anew, and calls that only look at the store.
+-- A store and a table that only public calls wrote: formatted together, or built for a store with a life of its own.
 pub data Together : Bytes → List ℕ → Type 0 where
   formatted-both : {s t : Bytes} {table u : List ℕ} → FormatsIndexed s table 0 t u → Together t u
   built-for : {start : List Entry} {history : List (Call × Bool)} {s : Bytes} {table u : List ℕ} →
-      Life start history s →
-      Indexes s table 0 u → Together s u
+      Life start history s → Indexes s table 0 u → Together s u
   then-formatted : {s t : Bytes} {table u : List ℕ} {r : ℕ} → Together s table → FormatsIndexed s table r t u →
       Together t u
   then-applied : (number : ℕ) (batch : Bytes) {r : ℕ} {s f t g : Bytes} {table u : List ℕ} → number ≤ top32 →

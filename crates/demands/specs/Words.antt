@@ -1,5 +1,4 @@
--- Document 02, 2026-07, over the bytes of a store: 'no slot in form matches, but a used slot's version, bit count and
--- bits fields agree' and 'name the lowest such slot'. Assumes nothing.
+-- Document 02, 2026-07, over the bytes of a store: the lowest used slot whose version, bit count and bits fields agree.
 use Prim.Native.Nat.{ℕ, _<_}
 use mathlib.Core.Path.{_≡_}
 use lib.ListN.{length}
@@ -9,13 +8,10 @@ use Rattle.terms.specs.Fields.{zeroBytes}
 use Rattle.layout.specs.Sizes.{slotSize, roomOf}
 use Rattle.layout.specs.Stores.{slotIn}
 
--- A used slot: not all zero.
-abbrev pub Used : Bytes → ℕ → Type 0
-Used s i = slotIn counted i s ≡ zeroBytes (slotSize counted) → ⊥
-
--- Slot i is the lowest used slot whose bytes agree.
+-- Slot i is the lowest used slot, that is not all zero, whose bytes agree.
 pub record LowestUsed (s : Bytes) (agree : Bytes → Type 0) (i : ℕ) : Type 0 where
   pub inside : i < roomOf counted (length s)
-  pub used : Used s i
+  pub used : slotIn counted i s ≡ zeroBytes (slotSize counted) → ⊥
   pub agrees : agree (slotIn counted i s)
-  pub lowest : (j : ℕ) → j < i → Used s j → agree (slotIn counted j s) → ⊥
+  pub lowest : (j : ℕ) → j < i → (slotIn counted j s ≡ zeroBytes (slotSize counted) → ⊥) →
+      agree (slotIn counted j s) → ⊥

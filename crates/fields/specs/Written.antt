@@ -1,5 +1,4 @@
--- What writing leaves of lent memory: the bytes written where they were written, and every other byte as it was.
--- Assumes nothing.
+-- What writing leaves of lent memory: what was written, and every other byte as it was. Assumes nothing.
 use Prim.Native.Nat.{ℕ, _+_}
 use mathlib.Core.List.{_++_}
 use lib.ListN.{length, take, drop}

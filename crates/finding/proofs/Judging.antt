@@ -23,8 +23,7 @@ use Rattle.verify.specs.declared.Checked.the-variants.{Refused, Present, Absent
 use Rattle.forgery.specs.Messages.{leafHash, innerHash}
 use Rattle.forgery.specs.Finding.{Finding, finding}
 use Rattle.finding_rules.proofs.Hashes.{leaf-is, inner-is}
-use Rattle.finding_rules.specs.Call.{versionRoot}
-use Rattle.finding_rules.specs.Reading.{foundOf, foundAgainst}
+use Rattle.finding_rules.specs.Reading.{versionRoot, foundOf, foundAgainst}
 
 -- with a root and a key of 32 bytes the check looks at the proof
 pub sizes-right : (root k x : Bytes) → length root ≡ 32 → length k ≡ 32 → verified root k x ≡ judged root k (proofIn x)

@@ -7,7 +7,7 @@ use Rattle.sha256.specs.Sha256.{sha256}
 use Rattle.layout.specs.Stores.{storeOf}
 use Rattle.forgery.specs.Finding.{Finding}
 use Rattle.forged_nodes.specs.Nodes.{namedSays}
-use Rattle.finding_rules.specs.Call.{versionRoot}
+use Rattle.finding_rules.specs.Reading.{versionRoot}
 use Rattle.finding.specs.declared.Found as declared
 use Rattle.finding.specs.declared.Found.the-variants.{Refused, Of}
 

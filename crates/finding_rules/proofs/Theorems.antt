@@ -12,7 +12,8 @@ use Rattle.proofrecords.specs.ProofBytes.{ProofForm}
 use Rattle.forgery.specs.Messages.{leafHash, innerHash}
 use Rattle.forgery.specs.Finding.{finding}
 use Rattle.forgery.proofs.Theorems as forgery
-use Rattle.finding_rules.specs.Call.{versionRoot, HoldsAt}
+use Rattle.finding_rules.specs.Call.{HoldsAt}
+use Rattle.finding_rules.specs.Reading.{versionRoot}
 use Rattle.finding_rules.specs.Claims.{FoundOut}
 
 -- What is found of a proof that holds means what 02 asks.

@@ -25,8 +25,8 @@ use Rattle.proofrecords.proofs.Proofs.{proof-is, no-proof-is, one-proof-is}
 use Rattle.forgery.specs.Messages.{leafHash, innerHash}
 use Rattle.forgery.specs.Finding.{Finding, finding}
 use Rattle.forgery.proofs.Theorems.{found-so, only-found}
-use Rattle.finding_rules.specs.Call.{versionRoot, HoldsAt, FoundIn, not-kept, no-grant, not-in-form, not-holding, holding}
-use Rattle.finding_rules.specs.Reading.{noGrant, foundOf, foundAgainst, finds}
+use Rattle.finding_rules.specs.Call.{HoldsAt, FoundIn, not-kept, no-grant, not-in-form, not-holding, holding}
+use Rattle.finding_rules.specs.Reading.{noGrant, versionRoot, foundOf, foundAgainst, finds}
 
 -- the tests of the version
 pub kept-of : (st : Store) (v : ℕ) → isKept st v ≡ true → Kept st v

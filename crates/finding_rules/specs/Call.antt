@@ -1,5 +1,4 @@
--- Document 02, request 2026-12: what the call answers of bytes as a proof for a key in a version of a sound store.
--- Order: 8, 14; then 10, 11. The hash of a message is given: SHA-256 in the call. Assumes nothing.
+-- Document 02, 2026-12: what the call answers of bytes as a proof for a key in a version of a sound store, by a hash.
 use Prim.Native.Nat.{ℕ}
 use mathlib.Core.Path.{_≡_}
 use mathlib.Core.List.{[], _∷_, _++_}
@@ -18,13 +17,11 @@ use Rattle.forgery.specs.Messages.{leafHash, innerHash, nodeMessages, checkedMe
 use Rattle.forgery.specs.Finding.{True, Finding, nothing, twoEqual, oneZero, searched}
 
 module _ (H : Bytes → Bytes) where
-  -- The root of a version: the hash of its tree.
-  abbrev pub versionRoot : Store → ℕ → Bytes
-  versionRoot st v = hash (leafHash H) (innerHash H) (unversioned (treeAtVersion st v))
-
-  -- A proof holds for the key k against a version's root, with this answer.
+  -- A proof holds for the key k against a version's root, the hash of its tree, with this answer.
   abbrev pub HoldsAt : Store → ℕ → Bytes → Proof → Verdict → Type 0
-  HoldsAt st v k p a = Holds (leafHash H) (innerHash H) (versionRoot st v) k p a
+  HoldsAt st v k p a =
+      let root = hash (leafHash H) (innerHash H) (unversioned (treeAtVersion st v)) in
+      Holds (leafHash H) (innerHash H) root k p a
 
   -- What is found of the bytes x as a proof for the key k in version v of a sound store.
   pub data FoundIn (st : Store) (v : ℕ) (k x : Bytes) : Answer Finding → Type 0 where
@@ -39,8 +36,7 @@ module _ (H : Bytes → Bytes) where
         FoundIn st v k x (refused 11)
     -- else what is found of it: nothing if it is true of the version's grants, what the search names if it isn't
     holding : {p : Proof} {a : Verdict} {f : Finding} → Kept st v → HoldsGrant st v → ProofIs x p → HoldsAt st v k p a →
-        (True (grantsIn (treeAtVersion st v)) p → f ≡ nothing) →
-        ((True (grantsIn (treeAtVersion st v)) p → ⊥) →
+        (True (grantsIn (treeAtVersion st v)) p → f ≡ nothing) → ((True (grantsIn (treeAtVersion st v)) p → ⊥) →
         f ≡ searched H (nodeMessages v (st .slots)) (checkedMessages H p)) → FoundIn st v k x (accepted f)
 
 -- What is found, in 131 bytes: 0, or 1 and two messages, or 2 and one message; zero where there is none.

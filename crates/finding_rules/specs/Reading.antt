@@ -6,14 +6,13 @@ use mathlib.Core.List.{List, [], _∷_}
 use mathlib.Core.Option.{Option, none, some}
 use Rattle.terms.specs.Bits.{Bytes}
 use Rattle.terms.specs.Records.{Grant, Proof, Store}
-use Rattle.meaning.specs.Tree.{grantsIn}
+use Rattle.meaning.specs.Tree.{hash, unversioned, grantsIn}
 use Rattle.meaning.specs.Store.{treeAtVersion}
 use Rattle.meaning.specs.Calls.{Answer, refused, accepted, isKept}
 use Rattle.meaning.specs.Reading.{Verdict}
 use Rattle.meaning.specs.Checking.{checked}
 use Rattle.forgery.specs.Messages.{leafHash, innerHash}
 use Rattle.forgery.specs.Finding.{Finding, finding}
-use Rattle.finding_rules.specs.Call.{versionRoot}
 
 -- There is no grant.
 abbrev pub noGrant : List Grant → Bool
@@ -21,6 +20,10 @@ noGrant [] = true
 noGrant (g ∷ gs) = false
 
 module _ (H : Bytes → Bytes) where
+  -- The root of a version: the hash of its tree.
+  abbrev pub versionRoot : Store → ℕ → Bytes
+  versionRoot st v = hash (leafHash H) (innerHash H) (unversioned (treeAtVersion st v))
+
   -- What is found of a proof that the checker accepts; else its refusal.
   abbrev pub foundOf : Store → ℕ → Proof → Answer Verdict → Answer Finding
   foundOf st v p (refused n) = refused n
@@ -29,7 +32,7 @@ module _ (H : Bytes → Bytes) where
   -- 10 if there is no proof in form; 11 if it doesn't hold against the version's root.
   abbrev pub foundAgainst : Store → ℕ → Bytes → Option Proof → Answer Finding
   foundAgainst st v k none = refused 10
-  foundAgainst st v k (some p) = foundOf st v p (checked (leafHash H) (innerHash H) (versionRoot H st v) k p)
+  foundAgainst st v k (some p) = foundOf st v p (checked (leafHash H) (innerHash H) (versionRoot st v) k p)
 
   -- 8 if the version isn't kept; 14 if it holds no grant; then 10, 11, or what is found.
   unfoldable pub finds : ℕ → Bytes → Option Proof → Store → Answer Finding

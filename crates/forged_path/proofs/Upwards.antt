@@ -15,7 +15,8 @@ use Rattle.proofrecords.specs.Steps.{stepAt}
 use Rattle.proofrecords.proofs.Lying.{fromStep}
 use Rattle.verify_path.proofs.Steps.{steps-left, no-steps-left}
 use Rattle.forgery.specs.Messages.{leafMessage, parentMessage, upwards}
-use Rattle.forgery.specs.Finding.{Finding, nothing, twoEqual, oneZero, orElse, partner, zeroAmong, searched}
+use Rattle.forgery.specs.Finding.{Finding, nothing, twoEqual, oneZero, orElse, partnerOr, partner, zeroAmong, searched}
+use Rattle.forgery.proofs.Search.{partner-or-else}
 use Rattle.forged_message.specs.declared.Message.{Message}
 use Rattle.forged_message.specs.Parts.{messageBytes}
 use Rattle.forged_nodes.specs.Nodes.{namedSays}
@@ -74,11 +75,11 @@ unfolding atMessage
 in-parts nodes m ms ih = go (sameBytes (sha256 m) zeros)
   where
     go : (b : Bool) →
-        cond b (oneZero m) (orElse (partner sha256 m nodes) (searched sha256 nodes ms))
+        cond b (oneZero m) (partnerOr sha256 (searched sha256 nodes ms) m nodes)
         ≡ orElse (orElse (cond b (oneZero m) (partner sha256 m nodes)) (looked nodes ms)) (zeroAmong sha256 nodes)
     go true = refl
     go false =
-        ap (orElse (partner sha256 m nodes)) ih
+        partner-or-else sha256 (searched sha256 nodes ms) m nodes ∙ ap (orElse (partner sha256 m nodes)) ih
         ∙ sym (or-assoc (partner sha256 m nodes) (looked nodes ms) (zeroAmong sha256 nodes))
 
 pub searched-in-parts : (nodes ms : List Bytes) → searched sha256 nodes ms ≡ orElse (looked nodes ms) (zeroAmong sha256 nodes)

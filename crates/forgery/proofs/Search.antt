@@ -1,14 +1,14 @@
 -- The search: what it names is a finding, and where it names nothing there is none between the two lists. Assumes nothing.
 use Prim.Native.Nat.{ℕ}
 use native.Mathlib.Omega.{arith}
-use mathlib.Core.Path.{_≡_, refl, ap, sym, _∙_}
+use mathlib.Core.Path.{_≡_, refl, ap, sym, _∙_, subst}
 use mathlib.Core.Logic.{_⊎_, inl, inr}
 use mathlib.Core.Bool.{Bool, true, false, cond, _&&_, not, true≢false}
 use mathlib.Core.List.{List, [], _∷_, _++_}
 use Rattle.terms.specs.Bits.{Bytes, sameBytes}
 use Rattle.terms.specs.Records.{zeros}
 use Rattle.terms.proofs.Tests.{same-bytes, bytes-same}
-use Rattle.forgery.specs.Finding.{Finding, nothing, twoEqual, oneZero, Among, orElse, NamedFrom, partner, zeroAmong, searched}
+use Rattle.forgery.specs.Finding.{Finding, nothing, twoEqual, oneZero, Among, orElse, NamedFrom, partnerOr, partner, zeroAmong, searched}
 use Rattle.forgery.proofs.Lists.{Within}
 
 two-not-nothing : {A : Type 0} (m n : Bytes) → twoEqual m n ≡ nothing → A
@@ -27,6 +27,16 @@ told-apart : {A : Type 0} (x y : Bytes) → sameBytes x y ≡ false → x ≡ y 
 told-apart x y s e = absurd (true≢false (sym (bytes-same x) ∙ ap (sameBytes x) e ∙ s))
 
 module _ (H : Bytes → Bytes) where
+  -- what has no partner is found besides
+  pub partner-or-else : (f : Finding) (m : Bytes) (ns : List Bytes) → partnerOr H f m ns ≡ orElse (partner H m ns) f
+  partner-or-else f m [] = refl
+  partner-or-else f m (n ∷ ns) = go (not (sameBytes n m) && sameBytes (H n) (H m)) (partner-or-else f m ns)
+    where
+      go : (b : Bool) → partnerOr H f m ns ≡ orElse (partner H m ns) f →
+          cond b (twoEqual n m) (partnerOr H f m ns) ≡ orElse (cond b (twoEqual n m) (partner H m ns)) f
+      go true e = refl
+      go false e = e
+
   -- No finding: a message of a node and one that was hashed while checking are the same if their hashes are, and no hash is zero.
   pub record Clean (nodes checked : List Bytes) : Type 0 where
     pub same : (n m : Bytes) → Among n nodes → Among m checked → H n ≡ H m → n ≡ m
@@ -66,10 +76,10 @@ module _ (H : Bytes → Bytes) where
   nothing-is-clean nodes (m ∷ ms) e = go (λ q. nothing-is-clean nodes ms q) (sameBytes (H m) zeros) refl e
     where
       go : (searched H nodes ms ≡ nothing → Clean nodes ms) → (b : Bool) → sameBytes (H m) zeros ≡ b →
-          cond b (oneZero m) (orElse (partner H m nodes) (searched H nodes ms)) ≡ nothing → Clean nodes (m ∷ ms)
+          cond b (oneZero m) (partnerOr H (searched H nodes ms) m nodes) ≡ nothing → Clean nodes (m ∷ ms)
       go ih true s e = zero-not-nothing m e
       go ih false s e =
-          let w = or-nothing (partner H m nodes) (searched H nodes ms) e in
+          let w = or-nothing (partner H m nodes) (searched H nodes ms) (sym (partner-or-else (searched H nodes ms) m nodes) ∙ e) in
           let rest = ih (w .1) in
           record {
             same = λ n k a b f. elim b [
@@ -119,9 +129,11 @@ module _ (H : Bytes → Bytes) where
       go (sameBytes (H m) zeros) refl (searched-named all nodes ms v (λ n h. w n (inr h)))
     where
       go : (b : Bool) → sameBytes (H m) zeros ≡ b → NamedIf all (searched H nodes ms) →
-          NamedIf all (cond b (oneZero m) (orElse (partner H m nodes) (searched H nodes ms)))
+          NamedIf all (cond b (oneZero m) (partnerOr H (searched H nodes ms) m nodes))
       go true s r = (w m (inl refl), same-bytes (H m) zeros s)
-      go false s r = or-named all (partner H m nodes) (searched H nodes ms) (partner-named all m nodes (w m (inl refl)) v) r
+      go false s r =
+          subst (NamedIf all) (sym (partner-or-else (searched H nodes ms) m nodes))
+          (or-named all (partner H m nodes) (searched H nodes ms) (partner-named all m nodes (w m (inl refl)) v) r)
 
   something : (all : List Bytes) (f : Finding) → NamedIf all f → (f ≡ nothing → ⊥) → NamedFrom H all f
   something all nothing a found = found refl

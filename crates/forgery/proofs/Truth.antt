@@ -13,7 +13,7 @@ use Rattle.meaning.specs.Tree as T
 use Rattle.meaning.specs.Reading.{Verdict, present, absent, answerOf}
 use Rattle.meaning.specs.Proving.{absenceOf}
 use Rattle.meaning.proofs.Runs.{Ascending}
-use Rattle.checker.specs.Holding.{Rightmost, Leftmost, Parted, Leads, Holds, shown, only-left, only-right, both}
+use Rattle.checker.specs.Holding.{Rightmost, Leftmost, Parted, parted, Leads, Holds, shown, only-left, only-right, both}
 use Rattle.proofrecords.specs.ProofBytes.{PresenceForm, ProofForm}
 use Rattle.forgery.specs.Messages.{leafHash, innerHash, treeMessages, pathMessages, neighbourMessages, checkedMessages}
 use Rattle.forgery.specs.Finding.{True}
@@ -84,20 +84,20 @@ module _ (H : Bytes → Bytes) (hash32 : (m : Bytes) → length (H m) ≡ 32) (n
   Beside g h = (xs : List Grant) × (ys : List Grant) × (grants t ≡ xs ++ g ∷ h ∷ ys)
 
   beside : (ls rs : List Step) (g h : Grant) → Parted ls rs → Shown t ls g → Shown t rs h → Beside g h
-  beside ls rs g h w s z =
-      let u : Tree = below (w .common) t in
-      let sl = subst (λ steps. Shown t steps g) (w .left-is) s in
-      let sr = subst (λ steps. Shown t steps h) (w .right-is) z in
-      let fork = real-append H (w .xs) (w .x ∷ w .common) t (sl .1) .1 in
+  beside ls rs g h (parted xs ys common x y l r le re rightmost leftmost) s z =
+      let u : Tree = below common t in
+      let sl = subst (λ steps. Shown t steps g) l s in
+      let sr = subst (λ steps. Shown t steps h) r z in
+      let fork = real-append H xs (x ∷ common) t (sl .1) .1 in
       let deeper : (b : Side) → Within (treeMessages H (kid b u)) nodes =
-      λ b m i. inside m (below-messages H (record { side = b; sibling = [] } ∷ w .common) t m i) in
-      let a = last (kid left u) (deeper left) (w .xs) g (lower left (w .xs) (w .x) (w .common) g (w .left-side) sl) (w .rightmost) in
-      let c = first (kid right u) (deeper right) (w .ys) h (lower right (w .ys) (w .y) (w .common) h (w .right-side) sr) (w .leftmost) in (
-        lefts (w .common) t ++ lefts (w .xs) (kid left u),
-        rights (w .ys) (kid right u) ++ rights (w .common) t,
-        around H (w .common) t (fork .2)
-            ∙ ap (λ gs. lefts (w .common) t ++ (gs ++ rights (w .common) t)) (forked u (fork .0) ∙ ap₂ _++_ a c)
-            ∙ joined (lefts (w .common) t) (lefts (w .xs) (kid left u)) g h (rights (w .ys) (kid right u)) (rights (w .common) t),
+      λ b m i. inside m (below-messages H (record { side = b; sibling = [] } ∷ common) t m i) in
+      let a = last (kid left u) (deeper left) xs g (lower left xs x common g le sl) rightmost in
+      let c = first (kid right u) (deeper right) ys h (lower right ys y common h re sr) leftmost in (
+        lefts common t ++ lefts xs (kid left u),
+        rights ys (kid right u) ++ rights common t,
+        around H common t (fork .2)
+            ∙ ap (λ gs. lefts common t ++ (gs ++ rights common t)) (forked u (fork .0) ∙ ap₂ _++_ a c)
+            ∙ joined (lefts common t) (lefts xs (kid left u)) g h (rights ys (kid right u)) (rights common t),
       )
 
   absent-left : (k : Bytes) (l : Presence) → Shown t (l .steps) (grantOf l) → Rightmost (l .steps) → before (l .key) k ≡ true →

@@ -16,8 +16,7 @@ abbrev pub neighbourSays : Option Presence → List (Bytes × Verdict)
 neighbourSays none = []
 neighbourSays (some p) = (p .key, present (p .value)) ∷ []
 
--- What a proof says: of its key that it is present with the value, or absent; and of each neighbour that it is present
--- with its value.
+-- What a proof says: its key is present with the value, or absent; each neighbour is present with its value.
 abbrev pub says : Proof → List (Bytes × Verdict)
 says (presence p) = (p .key, present (p .value)) ∷ []
 says (absence a) = (a .key, absent) ∷ (neighbourSays (a .leftward) ++ neighbourSays (a .rightward))
@@ -32,18 +31,17 @@ pub data Finding : Type 0 where
   twoEqual : Bytes → Bytes → Finding
   oneZero : Bytes → Finding
 
--- A message is among those of a list.
 abbrev pub Among : Bytes → List Bytes → Type 0
 Among m [] = ⊥
 Among m (n ∷ ms) = (n ≡ m) ⊎ Among m ms
 
--- The first, where it is something, else the second.
+-- The first, where it is something, else the second; whether two verdicts are the same, and what is found by that. No
+-- public promise reaches these.
 abbrev pub orElse : Finding → Finding → Finding
 orElse nothing f = f
 orElse (twoEqual m n) f = twoEqual m n
 orElse (oneZero m) f = oneZero m
 
--- The same as a test, and what is found by it. No public promise reaches these.
 abbrev pub sameVerdict : Verdict → Verdict → Bool
 sameVerdict (present x) (present y) = sameBytes x y
 sameVerdict (present x) absent = false
@@ -61,21 +59,23 @@ module _ (H : Bytes → Bytes) where
   NamedFrom ms (twoEqual m n) = Among m ms × Among n ms × (m ≡ n → ⊥) × (H m ≡ H n)
   NamedFrom ms (oneZero m) = Among m ms × (H m ≡ zeros)
 
-  -- The first of some messages that differs from m and has the same hash.
+  -- The first of some messages that differs from m and has the same hash; else what is found besides.
+  abbrev pub partnerOr : Finding → Bytes → List Bytes → Finding
+  partnerOr f m [] = f
+  partnerOr f m (n ∷ ns) = cond (not (sameBytes n m) && sameBytes (H n) (H m)) (twoEqual n m) (partnerOr f m ns)
+
   abbrev pub partner : Bytes → List Bytes → Finding
-  partner m [] = nothing
-  partner m (n ∷ ns) = cond (not (sameBytes n m) && sameBytes (H n) (H m)) (twoEqual n m) (partner m ns)
+  partner m ns = partnerOr nothing m ns
 
   -- The first of some messages with hash zero.
   abbrev pub zeroAmong : List Bytes → Finding
   zeroAmong [] = nothing
   zeroAmong (m ∷ ms) = cond (sameBytes (H m) zeros) (oneZero m) (zeroAmong ms)
 
-  -- One after the other, the messages hashed while checking: its hash is zero, or it has a partner among the nodes'
-  -- messages. Then the nodes' own.
+  -- Each message hashed while checking: its hash is zero, or it has a partner among the nodes' messages. Then those.
   abbrev pub searched : List Bytes → List Bytes → Finding
   searched nodes [] = zeroAmong nodes
-  searched nodes (m ∷ ms) = cond (sameBytes (H m) zeros) (oneZero m) (orElse (partner m nodes) (searched nodes ms))
+  searched nodes (m ∷ ms) = cond (sameBytes (H m) zeros) (oneZero m) (partnerOr (searched nodes ms) m nodes)
 
   -- What is found of a proof that was accepted: nothing if it is true, else what the search names.
   unfoldable pub finding : Store → ℕ → Proof → Finding

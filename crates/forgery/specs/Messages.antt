@@ -23,15 +23,13 @@ use Rattle.terms.specs.Records.{
 use Rattle.meaning.specs.Tree.{Tree, none, leaf, inner, hash}
 use Rattle.meaning.specs.Store.{retiredBy}
 
--- Of a leaf: byte 1, key, value.
+-- The message of a leaf: byte 1, key, value; of an inner node: byte 0, left hash, right hash.
 abbrev pub leafMessage : Bytes → Bytes → Bytes
 leafMessage k x = 1 ∷ (k ++ x)
 
--- Of an inner node: byte 0, left hash, right hash.
 abbrev pub innerMessage : Bytes → Bytes → Bytes
 innerMessage l r = 0 ∷ (l ++ r)
 
--- Of a record, from what it holds.
 abbrev pub messageOf : Body → Bytes
 messageOf (leafBody k x) = leafMessage k x
 messageOf (innerBody l r) = innerMessage (l .hash) (r .hash)
@@ -52,21 +50,18 @@ nodeMessages v [] = []
 nodeMessages v (x ∷ s) = slotMessages v x ++ nodeMessages v s
 
 module _ (H : Bytes → Bytes) where
-  -- The hash of a leaf, and of an inner node.
   abbrev pub leafHash : Bytes → Bytes → Bytes
   leafHash k x = H (leafMessage k x)
 
   abbrev pub innerHash : Bytes → Bytes → Bytes
   innerHash l r = H (innerMessage l r)
 
-  -- The messages of a tree's nodes.
   abbrev pub treeMessages : Tree → List Bytes
   treeMessages none = []
   treeMessages (leaf g) = leafMessage (g .key) (g .value) ∷ []
   treeMessages (inner l r) =
       innerMessage (hash leafHash innerHash l) (hash leafHash innerHash r) ∷ (treeMessages l ++ treeMessages r)
 
-  -- The message of the parent of a node with hash h.
   abbrev pub parentMessage : Bytes → Step → Bytes
   parentMessage h s = cond (s .side) (innerMessage (s .sibling) h) (innerMessage h (s .sibling))
 

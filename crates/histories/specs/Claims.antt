@@ -7,7 +7,7 @@ use mathlib.Core.Option.{Option, none, some}
 use lib.ListN.{length}
 use Rattle.terms.specs.Bits.{Bytes}
 use Rattle.terms.specs.Records.{Grant, Ask, insert, delete, Record, Store}
-use Rattle.meaning.specs.Tree.{withBatch, hash, unversioned, grantsIn, nextTree}
+use Rattle.meaning.specs.Tree.{withBatch, hash, VTree, unversioned, grantsIn, nextTree}
 use Rattle.meaning.specs.Store.{treeAtVersion, freeSlots, marked, newRecords}
 use Rattle.meaning.specs.Sound.{At, Kept, NodeOf, Sound}
 use Rattle.meaning.specs.Calls.{Applied, ascending}
@@ -20,14 +20,17 @@ abbrev pub NoChange : List Grant → Ask → Type 0
 NoChange gs (insert k x) = answerOf k gs ≡ present x
 NoChange gs (delete k) = answerOf k gs ≡ absent
 
--- A call leaves no gap: a batch is given latest + 1 (or less, and is refused), and the store isn't made of another one,
--- which may have some.
+-- A call leaves no gap: a batch is given at most latest + 1, and the store isn't made of another, which may have some.
 abbrev pub NoGap : Call → Store → Type 0
 NoGap formatting st = Unit {0}
 NoGap (applying number batch) st = number ≤ suc (st .latest)
 NoGap (pruning n) st = Unit {0}
 NoGap (taking es) st = ⊥
 NoGap looking st = Unit {0}
+
+-- A record's node stands in a tree.
+abbrev pub InTree : Record → VTree → Type 0
+InTree r t = NodeOf (r .version) (r .place) t []
 
 module _ (leafHash innerHash : Bytes → Bytes → Bytes) where
   -- Rows 4, 5, 18 and 7 of the numbers of refusal, each after those before it.
@@ -43,9 +46,7 @@ module _ (leafHash innerHash : Bytes → Bytes → Bytes) where
         (newRecords leafHash innerHash number (nextTree number (treeAtVersion st (st .latest)) batch)) →
         ApplyRefuses number st (some batch) 7
 
-  -- st′ is st with a batch applied as the version of a number, and this was answered: the new version's tree is that of
-  -- the batch, the older ones have their trees, those between have the tree of the latest before, and as many slots
-  -- fewer are free as the answer counts.
+  -- st′ is st with a batch applied as the version of a number, and this was answered.
   pub record AfterApply (number : ℕ) (batch : List Ask) (st : Store) (answer : Applied) (st′ : Store) : Type 0 where
     pub sound : Sound leafHash innerHash st′
     pub capacity : length (st′ .slots) ≡ length (st .slots)
@@ -57,17 +58,15 @@ module _ (leafHash innerHash : Bytes → Bytes → Bytes) where
     pub older : (v : ℕ) → Kept st v → treeAtVersion st′ v ≡ treeAtVersion st v
     pub between : (v : ℕ) → st .latest ≤ v → v < st′ .latest → treeAtVersion st′ v ≡ treeAtVersion st (st .latest)
     -- a record of the old tree alone is marked retired since the new version, any other old record is as it was
-    pub ends : (i : ℕ) (r : Record) → At st i r → NodeOf (r .version) (r .place) (treeAtVersion st (st .latest)) [] →
-        (NodeOf (r .version) (r .place) (treeAtVersion st′ (st′ .latest)) [] → ⊥) → At st′ i (marked (st′ .latest) r)
+    pub ends : (i : ℕ) (r : Record) → At st i r → InTree r (treeAtVersion st (st .latest)) →
+        (InTree r (treeAtVersion st′ (st′ .latest)) → ⊥) → At st′ i (marked (st′ .latest) r)
     pub stays : (i : ℕ) (r : Record) → At st i r →
-        (NodeOf (r .version) (r .place) (treeAtVersion st (st .latest)) [] →
-        NodeOf (r .version) (r .place) (treeAtVersion st′ (st′ .latest)) []) → At st′ i r
+        (InTree r (treeAtVersion st (st .latest)) → InTree r (treeAtVersion st′ (st′ .latest))) → At st′ i r
     pub version : answer .version ≡ st′ .latest
     pub root : answer .root ≡ hash leafHash innerHash (unversioned (treeAtVersion st′ (st′ .latest)))
     pub count : freeSlots (st .slots) ≡ freeSlots (st′ .slots) + answer .count
 
-  -- st′ is st pruned to n, and this was answered: each version that is still kept has its tree, and as many slots more
-  -- are free as the answer counts.
+  -- st′ is st pruned to n, and as many slots more are free as was answered.
   pub record AfterPrune (n : ℕ) (st : Store) (answer : ℕ) (st′ : Store) : Type 0 where
     pub sound : Sound leafHash innerHash st′
     pub capacity : length (st′ .slots) ≡ length (st .slots)

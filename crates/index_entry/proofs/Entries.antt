@@ -4,14 +4,14 @@ use native.Mathlib.Omega.{arith}
 use mathlib.Core.Path.{_≡_, ap, ap₂, sym, _∙_}
 use mathlib.Core.Bool.{Bool, true, false, not}
 use mathlib.Core.List.{List, []}
-use lib.ListN.{length, List·getD-eq-default}
+use lib.ListN.{length, getD, List·getD-eq-default}
 use borrow.Author.Tests.{lt-ltb, le-ltb, le-leb}
 use Rattle.terms.specs.declared.Form.the-variants.{Counted as counted}
 use Rattle.terms.specs.Bits.{Bytes, Byte, All, samePlace}
 use Rattle.terms.specs.Records.{Record, Slot, free, used}
 use Rattle.terms.proofs.Tests.{is-false, same-place}
 use Rattle.meaning.specs.Store.{retiredBy}
-use Rattle.indexed.specs.Index.{Look, tooSmall, tooGreat, meets, inForm, named, lookAt, rootLook}
+use Rattle.indexed.specs.Index.{Look, tooSmall, tooGreat, meets, lookAt, rootLook}
 use Rattle.layout.specs.Sizes.{slotSize}
 use Rattle.layout.specs.Slots.{slotOf, countIn, versionIn, sinceIn}
 use Rattle.layout.specs.Stores.{slotIn, slotNo, Has}
@@ -25,9 +25,8 @@ use Rattle.index_node.specs.declared.Look as declared
 use Rattle.index_node.proofs.Looked.{by-slot, off-form}
 
 -- an entry beyond the slots names none
-pub beyond : (look : Record → Look) (s : List Slot) (e : ℕ) → length s ≤ e → Great ≡ lookSays (lookAt look (named s e))
-unfolding named
-beyond look s e l = ap (λ y. lookSays (lookAt look (inForm y))) (sym (List·getD-eq-default s free l))
+pub beyond : (look : Record → Look) (s : List Slot) (e : ℕ) → length s ≤ e → Great ≡ lookSays (lookAt look (getD s e free))
+beyond look s e l = ap (λ y. lookSays (lookAt look y)) (sym (List·getD-eq-default s free l))
 
 -- the look for a root
 module _ (v : ℕ) (r : Record) where
@@ -61,7 +60,7 @@ module _ {s : Bytes} {i : ℕ} (has : Has counted s i) (b : All Byte s) (v : ℕ
   y = slotIn counted i s
 
   abbrev SaysRoot : declared.Look → Type 0
-  SaysRoot l = l ≡ lookSays (lookAt (rootLook v) (inForm (slotNo counted i s)))
+  SaysRoot l = l ≡ lookSays (lookAt (rootLook v) (slotNo counted i s))
 
   lasting : length y ≡ slotSize counted
   lasting = slot-long counted i s (slot-within has)
@@ -70,10 +69,10 @@ module _ {s : Bytes} {i : ℕ} (has : Has counted s i) (b : All Byte s) (v : ℕ
   all = slot-bytes counted i s b
 
   root-says : (l : declared.Look) → isUsed (slotOf y) ≡ true → ((r : Record) → slotOf y ≡ used r → lookSays (rootLook v r) ≡ l) → SaysRoot l
-  root-says l e f = by-slot (rootLook v) l (slotOf y) e f ∙ ap (λ x. lookSays (lookAt (rootLook v) (inForm x))) (sym (slot-is has))
+  root-says l e f = by-slot (rootLook v) l (slotOf y) e f ∙ ap (λ x. lookSays (lookAt (rootLook v) x)) (sym (slot-is has))
 
   pub root-unformed : isUsed (slotOf y) ≡ false → SaysRoot Great
-  root-unformed e = off-form (rootLook v) (slotOf y) e ∙ ap (λ x. lookSays (lookAt (rootLook v) (inForm x))) (sym (slot-is has))
+  root-unformed e = off-form (rootLook v) (slotOf y) e ∙ ap (λ x. lookSays (lookAt (rootLook v) x)) (sym (slot-is has))
 
   module _ (form : isUsed (slotOf y) ≡ true) where
     pub root-deep : (countIn y ≡ 0 → ⊥) → SaysRoot Great

@@ -11,8 +11,9 @@ use store::version_at;
 use terms::Form;
 ghost use mathlib.Core.Path.{_≡_};
 ghost use mathlib.Core.Bool.{true};
-ghost use lib.ListN.{length};
-ghost use Rattle.indexed.specs.Index.{inForm, named, lookAt, rootLook};
+ghost use lib.ListN.{length, getD};
+ghost use Rattle.terms.specs.Records.{free};
+ghost use Rattle.indexed.specs.Index.{lookAt, rootLook};
 ghost use Rattle.place.specs.Place.{placeOf, Proper};
 ghost use Rattle.layout.specs.Sizes.{roomOf};
 ghost use Rattle.layout.specs.Headers.{sizeRight};
@@ -23,7 +24,7 @@ ghost use Rattle.index_entry.specs.Entries.{lookFor};
 // How slot i stands to the root of a version: other places and later versions are too great, a root retired by then too small.
 fn look_root(store: &[u8], i: usize, version: u32) -> Look
     requires { ⌜ Has Form.Counted (now store) i ⌝ }
-    ensures { λ r. ⌜ r ≡ lookSays (lookAt (rootLook version) (inForm (slotNo Form.Counted i (now (store .entry))))) ⌝ }
+    ensures { λ r. ⌜ r ≡ lookSays (lookAt (rootLook version) (slotNo Form.Counted i (now (store .entry)))) ⌝ }
 {
     if !holds_record(slot_of(Form::Counted, store, i)) {
         return Look::Great;
@@ -51,7 +52,7 @@ pub fn look_entry(
     root: bool,
 ) -> Look
     requires { ⌜ (sizeRight Form.Counted (length (now store)) ≡ true) × (n ≡ roomOf Form.Counted (length (now store))) × Proper place ⌝ }
-    ensures { λ r. ⌜ r ≡ lookSays (lookAt (lookFor root version (placeOf place)) (named (storeOf (now (store .entry)) .slots) entry)) ⌝ }
+    ensures { λ r. ⌜ r ≡ lookSays (lookAt (lookFor root version (placeOf place)) (getD (storeOf (now (store .entry)) .slots) entry free)) ⌝ }
 {
     if n <= entry {
         return Look::Great;

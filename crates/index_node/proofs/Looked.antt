@@ -10,7 +10,7 @@ use Rattle.terms.specs.Bits.{Bytes, Byte, All, Place, pack, before}
 use Rattle.terms.specs.Records.{Body, leafBody, innerBody, Record, Slot, free, used, spoiled}
 use Rattle.terms.specs.Form.{placeLimit}
 use Rattle.terms.proofs.Order.{before-total}
-use Rattle.indexed.specs.Index.{nodeBefore, Look, tooSmall, tooGreat, meets, inForm, lookAt, nodeLook}
+use Rattle.indexed.specs.Index.{nodeBefore, Look, tooSmall, tooGreat, meets, lookAt, nodeLook}
 use Rattle.indexed.proofs.Before.{by-place, by-version, node-itself, node-once}
 use Rattle.indexed.proofs.Packed.{bytes-before, bytes-equal}
 use Rattle.place.specs.declared.Place as declared-place
@@ -44,12 +44,12 @@ limit (leafBody k x) = omega arith
 limit (innerBody l r) = omega arith
 
 pub by-slot : (look : Record → Look) (l : declared.Look) (y : Slot) → isUsed y ≡ true → ((r : Record) → y ≡ used r → lookSays (look r) ≡ l) →
-    l ≡ lookSays (lookAt look (inForm y))
+    l ≡ lookSays (lookAt look y)
 by-slot look l free e f = absurd (false≢true e)
 by-slot look l (used r) e f = sym (f r refl)
 by-slot look l (spoiled x) e f = absurd (false≢true e)
 
-pub off-form : (look : Record → Look) (y : Slot) → isUsed y ≡ false → Great ≡ lookSays (lookAt look (inForm y))
+pub off-form : (look : Record → Look) (y : Slot) → isUsed y ≡ false → Great ≡ lookSays (lookAt look y)
 off-form look free e = refl
 off-form look (used r) e = absurd (true≢false e)
 off-form look (spoiled x) e = refl
@@ -62,7 +62,7 @@ module _ {s : Bytes} {i : ℕ} (has : Has counted s i) (b : All Byte s) (v : ℕ
   q = placeOf p
 
   abbrev Says : declared.Look → Type 0
-  Says l = l ≡ lookSays (lookAt (nodeLook v q) (inForm (slotNo counted i s)))
+  Says l = l ≡ lookSays (lookAt (nodeLook v q) (slotNo counted i s))
 
   long : length x ≡ slotSize counted
   long = slot-long counted i s (slot-within has)
@@ -71,7 +71,7 @@ module _ {s : Bytes} {i : ℕ} (has : Has counted s i) (b : All Byte s) (v : ℕ
   whole = slot-bytes counted i s b
 
   says-of : (l : declared.Look) → isUsed (slotOf x) ≡ true → ((r : Record) → slotOf x ≡ used r → lookSays (nodeLook v q r) ≡ l) → Says l
-  says-of l e f = by-slot (nodeLook v q) l (slotOf x) e f ∙ ap (λ y. lookSays (lookAt (nodeLook v q) (inForm y))) (sym (slot-is has))
+  says-of l e f = by-slot (nodeLook v q) l (slotOf x) e f ∙ ap (λ y. lookSays (lookAt (nodeLook v q) y)) (sym (slot-is has))
 
   short : length q ≤ 256
   short = omega (arith, proper .short, proper-count p proper)
@@ -83,7 +83,7 @@ module _ {s : Bytes} {i : ℕ} (has : Has counted s i) (b : All Byte s) (v : ℕ
   its-short r e = omega (arith, says {fm = counted} x long whole r e .form .short, limit (r .body))
 
   pub unformed : isUsed (slotOf x) ≡ false → Says Great
-  unformed e = off-form (nodeLook v q) (slotOf x) e ∙ ap (λ y. lookSays (lookAt (nodeLook v q) (inForm y))) (sym (slot-is has))
+  unformed e = off-form (nodeLook v q) (slotOf x) e ∙ ap (λ y. lookSays (lookAt (nodeLook v q) y)) (sym (slot-is has))
 
   module _ (form : isUsed (slotOf x) ≡ true) where
     pub bits-small : before (bitsIn x) (p .bits) ≡ true → Says Small

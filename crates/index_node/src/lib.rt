@@ -8,7 +8,7 @@ use store::slot_of;
 use store::version_at;
 use terms::Form;
 ghost use mathlib.Core.Path.{_≡_};
-ghost use Rattle.indexed.specs.Index.{inForm, lookAt, nodeLook};
+ghost use Rattle.indexed.specs.Index.{lookAt, nodeLook};
 ghost use Rattle.place.specs.Place.{placeOf, Proper};
 ghost use Rattle.layout.specs.Stores.{slotNo, Has};
 ghost use Rattle.index_node.specs.Looks.{lookSays};
@@ -24,7 +24,7 @@ pub enum Look {
 // looks need not ask whether the slot is in form.
 pub fn look_node(store: &[u8], i: usize, version: u32, place: Place) -> Look
     requires { ⌜ Has Form.Counted (now store) i × Proper place ⌝ }
-    ensures { λ r. ⌜ r ≡ lookSays (lookAt (nodeLook version (placeOf place)) (inForm (slotNo Form.Counted i (now (store .entry))))) ⌝ }
+    ensures { λ r. ⌜ r ≡ lookSays (lookAt (nodeLook version (placeOf place)) (slotNo Form.Counted i (now (store .entry)))) ⌝ }
 {
     let slot = slot_of(Form::Counted, store, i);
     let bits = place.bits;

@@ -71,7 +71,7 @@ module _ (s : Bytes) (table : List ℕ) where
   -- both are fresh
   pub formats-both : {r n : ℕ} {t : Bytes} {u : List ℕ} → sizeRight counted (length s) ≡ true → n ≡ roomOf counted (length s) → length table ≡ n →
       u ≡ replicate (length table) n → r ≡ formatAnswer s → t ≡ formatBytes s → FormatsBoth s table r t u
-  unfolding formatAnswer formatBytes formatted
+  unfolding formatted
   formats-both {r} {n} {t} {u} h e f w a b =
       let size = size-says counted (length s) h in
       let room = roomOf counted (length s) in

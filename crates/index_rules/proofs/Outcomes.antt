@@ -20,7 +20,7 @@ use Rattle.layout.proofs.Headers.{header-refused}
 use Rattle.store.proofs.Slots.{slots-many}
 use Rattle.promises.specs.Check.{Checked}
 use Rattle.promises.specs.Check as check
-use Rattle.promises.specs.Calls.{SoundBytes, Does, wrong-header, not-sound, refuses, accepts}
+use Rattle.promises.specs.Calls.{SoundBytes, Does, refuses, accepts}
 use Rattle.promises.proofs.Calls.{checked-sound, refused-writes-nothing, one-outcome}
 use Rattle.index_rules.specs.Tables.{Fits, RightFor, Opened, other-length, checked, Tells, not-opened, not-right, is-right, Builds, not-built, built, FormatsBoth, wrong-size, both-fresh, DoesBoth, not-told, refuses-both, accepts-both}
 

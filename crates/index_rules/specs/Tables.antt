@@ -1,5 +1,4 @@
--- Document 02, request 2026-05: the calls that keep a table of slot numbers, over any bytes and any table. Order: 1,
--- with a table of another length, 2, 3; then 16; then the call's own. Assumes nothing.
+-- Document 02, 2026-05: the calls that keep a table of slot numbers, over any bytes and any table. Assumes nothing.
 use Prim.Native.Nat.{ℕ}
 use mathlib.Core.Path.{_≡_}
 use mathlib.Core.Bool.{true}
@@ -17,11 +16,9 @@ use Rattle.layout.specs.Stores.{storeOf, storeBytes}
 use Rattle.promises.specs.Check.{Checked}
 use Rattle.promises.specs.Calls.{Does}
 
--- The table has as many entries as the bytes have room for slots.
 abbrev pub Fits : Bytes → List ℕ → Type 0
 Fits s table = length table ≡ roomOf counted (length s)
 
--- The table is the right one of the store in the bytes.
 abbrev pub RightFor : Bytes → List ℕ → Type 0
 RightFor s table = Right (storeOf s) table
 
@@ -41,21 +38,17 @@ pub data Builds (s : Bytes) (table : List ℕ) : ℕ → List ℕ → Type 0 whe
   not-built : {r : ℕ} → (r ≡ 0 → ⊥) → Opened s table r → Builds s table r table
   built : {u : List ℕ} → Opened s table 0 → RightFor s u → Builds s table 0 u
 
--- Formatting both answers r and leaves the bytes t and the table u: a fresh store and its right table; refused, as they
--- were.
+-- Formatting both answers r and leaves bytes t and table u: a fresh store and its right table; refused, as they were.
 pub data FormatsBoth (s : Bytes) (table : List ℕ) : ℕ → Bytes → List ℕ → Type 0 where
   wrong-size : (sizeRight counted (length s) ≡ true → Fits s table → ⊥) → FormatsBoth s table 1 s table
   both-fresh : {t : Bytes} {u : List ℕ} → sizeRight counted (length s) ≡ true → Fits s table →
       t ≡ storeBytes (formatted (roomOf counted (length s))) → RightFor t u → FormatsBoth s table 0 t u
 
--- A call that tests soundness, with the table: this answer, these bytes and this table are left.
+-- A call that tests soundness, with the table: refused as telling is or as the call alone, else the right one is left.
 pub data DoesBoth {A : Type 0} (call : Store → Result A) (s : Bytes) (table : List ℕ) : Answer A → Bytes → List ℕ →
     Type 0 where
-  -- 1, 2, 3 or 16, as telling answers; nothing is written
   not-told : {r : ℕ} → (r ≡ 0 → ⊥) → Tells s table r → DoesBoth call s table (refused r) s table
-  -- the table is right, and the call without it is refused; nothing is written
   refuses-both : {m : ℕ} {t : Bytes} → Tells s table 0 → Does call s (refused m) t →
       DoesBoth call s table (refused m) t table
-  -- the call without it is accepted: its answer, its bytes, and the right table of the store in them
   accepts-both : {a : A} {t : Bytes} {u : List ℕ} → Tells s table 0 → Does call s (accepted a) t → RightFor t u →
       DoesBoth call s table (accepted a) t u

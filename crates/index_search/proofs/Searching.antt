@@ -6,8 +6,8 @@ use mathlib.Core.Bool.{Bool, true, false}
 use mathlib.Core.List.{List, [], _∷_}
 use lib.ListN.{length, getD}
 use Rattle.terms.specs.Bits.{Place}
-use Rattle.terms.specs.Records.{Record, Slot}
-use Rattle.indexed.specs.Index.{Look, tooSmall, tooGreat, meets, named, lookAt}
+use Rattle.terms.specs.Records.{Record, Slot, free}
+use Rattle.indexed.specs.Index.{Look, tooSmall, tooGreat, meets, lookAt}
 use Rattle.indexed.proofs.Halving.{inMiddle}
 use Rattle.indexed.proofs.Searching.{node-met, root-met}
 use Rattle.index_node.specs.Looks.{lookSays}
@@ -39,8 +39,8 @@ any-default (x ∷ xs) (suc k) d e l = any-default xs k d e (omega arith)
 
 -- the entry looked at is the one in the middle
 pub in-middle : (look : Record → Look) (table : List ℕ) (s : List Slot) (lo hi : ℕ) {n e : ℕ} → n ≡ length s → e ≡ getD table ((lo + hi) / 2) n →
-    lookAt look (named s e) ≡ inMiddle look table s lo hi
-in-middle look table s lo hi m h = ap (λ k. lookAt look (named s k)) (h ∙ ap (getD table ((lo + hi) / 2)) m)
+    lookAt look (getD s e free) ≡ inMiddle look table s lo hi
+in-middle look table s lo hi m h = ap (λ k. lookAt look (getD s k free)) (h ∙ ap (getD table ((lo + hi) / 2)) m)
 
 -- what is met is the record looked at
 pub own-met : (root : Bool) (v : ℕ) (p : Place) (q r : Record) → lookFor root v p q ≡ meets r → q ≡ r

@@ -61,7 +61,7 @@ module _ (number : ℕ) (batch : Bytes) (bytes : All Byte batch) {s f t : Bytes}
       (exports-refusal (refuses-both (subst (Tells s table) zero told) (subst (λ q. ApplyDoes number batch s (appliedSays q) t) e o)))
 
   pub apply-made : {v n : ℕ} {h : Hash} {g : Bytes} {u : List ℕ} → a ≡ Made v h n → RightFor t u → g ≡ answerBytes v (hashBytes h) n → AppliesBoth number batch s table f 0 t u g
-  unfolding appliedSays
+  unfolding appliedSays answerBytes
   apply-made {u = u} e w q =
       subst (AppliesBoth number batch s table f 0 t u) (sym q)
       (both-applied number batch bytes

@@ -8,8 +8,8 @@ use mathlib.Core.Option.{Option, none, some}
 use lib.ListN.{length, getD}
 use lib.Dec.{ltb}
 use borrow.Author.Tests.{ltb-true, lt-ltb, le-ltb}
-use Rattle.terms.specs.Records.{Record, Slot}
-use Rattle.indexed.specs.Index.{Look, tooSmall, tooGreat, meets, named, lookAt, onwards, searchFrom, search}
+use Rattle.terms.specs.Records.{Record, Slot, free}
+use Rattle.indexed.specs.Index.{Look, tooSmall, tooGreat, meets, lookAt, onwards, searchFrom, search}
 
 module _ (look : Record → Look) (table : List ℕ) (s : List Slot) where
   abbrev go-on : ℕ → ℕ → ℕ → Option Record
@@ -17,7 +17,7 @@ module _ (look : Record → Look) (table : List ℕ) (s : List Slot) where
 
   -- What a look at the entry in the middle says.
   abbrev pub inMiddle : ℕ → ℕ → Look
-  inMiddle lo hi = lookAt look (named s (getD table ((lo + hi) / 2) (length s)))
+  inMiddle lo hi = lookAt look (getD s (getD table ((lo + hi) / 2) (length s)) free)
 
   done : (n lo hi : ℕ) → hi ≤ lo → go-on n lo hi ≡ none
   done zero lo hi l = refl

@@ -17,7 +17,7 @@ use Rattle.meaning.specs.Sound.{At, Kept, Lives, Sound}
 use Rattle.meaning.proofs.Finding.{same-slot}
 use Rattle.meaning.proofs.Roots.{root-at, root-is}
 use Rattle.histories.proofs.Whole.{retired-later, not-retired}
-use Rattle.indexed.specs.Index.{placeBefore, nodeBefore, Look, tooSmall, tooGreat, meets, inForm, named, lookAt, nodeLook, rootLook, onwards, searchFrom, search}
+use Rattle.indexed.specs.Index.{placeBefore, nodeBefore, Look, tooSmall, tooGreat, meets, lookAt, nodeLook, rootLook, onwards, searchFrom, search}
 use Rattle.indexed.specs.Table.{entry, Right}
 use Rattle.indexed.proofs.Before.{place-itself, before-cases, node-itself, node-once}
 use Rattle.indexed.proofs.Scanned.{one-root}
@@ -30,16 +30,15 @@ top-first (b ∷ p) = refl
 module _ (st : Store) (table : List ℕ) (right : Right st table) where
   -- what a look at the entry at a position says
   abbrev lookedAt : (Record → Look) → ℕ → Look
-  lookedAt look j = lookAt look (named (st .slots) (entry st table j))
+  lookedAt look j = lookAt look (getD (st .slots) (entry st table j) free)
 
   in-slot : (look : Record → Look) (j : ℕ) (q : Record) → At st (entry st table j) q → lookedAt look j ≡ look q
-  unfolding named At
-  in-slot look j q a = ap (λ x. lookAt look (inForm x)) (a .1)
+  unfolding At
+  in-slot look j q a = ap (λ x. lookAt look x) (a .1)
 
   past-use : (look : Record → Look) (j : ℕ) → right .many ≤ j → j < length (st .slots) → lookedAt look j ≡ tooGreat
-  unfolding named
   past-use look j m l =
-      ap (λ x. lookAt look (inForm x))
+      ap (λ x. lookAt look x)
       (ap (λ i. getD (st .slots) i free) (right .rest j m (omega (arith, right .size))) ∙ List·getD-eq-default (st .slots) free (omega arith))
 
   -- where all before the entry at k is too small and all after it too great

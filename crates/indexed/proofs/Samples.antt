@@ -10,7 +10,7 @@ use Rattle.terms.specs.Bits.{Place, left, right, samePlace}
 use Rattle.terms.specs.Records.{leafBody, noTally, Record, Slot, free, used, spoiled, Store}
 use Rattle.meaning.specs.Store.{isNode, isRoot, retiredBy, rootOf}
 use Rattle.meaning.specs.Sight.{Sight, matches, nothing, spoilt, agrees, agreesRoot, livesBy, rootSight, nodeSight}
-use Rattle.indexed.specs.Index.{placeBefore, nodeBefore, Look, tooSmall, tooGreat, meets, named, nodeLook, rootLook, searchFrom, search, rootBy, nodeBy}
+use Rattle.indexed.specs.Index.{placeBefore, nodeBefore, Look, tooSmall, tooGreat, meets, nodeLook, rootLook, searchFrom, search, rootBy, nodeBy}
 
 -- 02's order: "", 0, 00, 01, 010, 1, each before the next alone
 order : List Bool
@@ -60,7 +60,7 @@ found =
 
 searched : found ≡
     some (at 1 [] 3) ∷ some (at 1 [] 3) ∷ some (at 3 [] 0) ∷ some (at 3 [] 0) ∷ none ∷ some (at 1 (left ∷ []) 0) ∷ none ∷ some (at 2 (right ∷ []) 7) ∷ none ∷ []
-unfolding found search rootLook nodeLook nodeBefore retiredBy table named
+unfolding found search rootLook nodeLook nodeBefore retiredBy table
 searched = refl
 
 -- whatever a table holds, the read finds: entries that name no slot, or all of them one slot
@@ -76,5 +76,5 @@ anyhow =
 
 found-anyhow : anyhow ≡
     matches (at 1 (left ∷ []) 0) ∷ matches (at 1 (left ∷ []) 0) ∷ matches (at 3 [] 0) ∷ matches (at 1 [] 3) ∷ matches (at 1 [] 3) ∷ nothing ∷ []
-unfolding anyhow nodeBy rootBy nodeSight rootSight rootOf isNode isRoot retiredBy search rootLook nodeLook nodeBefore table named st
+unfolding anyhow nodeBy rootBy nodeSight rootSight rootOf isNode isRoot retiredBy search rootLook nodeLook nodeBefore table st
 found-anyhow = refl

@@ -7,7 +7,7 @@ use mathlib.Core.Logic.{_↔_}
 use mathlib.Core.Bool.{Bool, true, false, cond, true≢false}
 use mathlib.Core.List.{List, [], _∷_}
 use mathlib.Core.Option.{Option, none, some}
-use lib.ListN.{length, List·getD-eq-default}
+use lib.ListN.{length, getD, List·getD-eq-default}
 use lib.Dec.{eqb, ltb}
 use Rattle.terms.specs.Bits.{Bytes, Side, Place, longer}
 use Rattle.terms.specs.Records.{Grant, Child, Record, Slot, free, Store}
@@ -20,7 +20,7 @@ use Rattle.meaning.specs.Counting.{weight, numberAt, atBody, atSight, descend, 
 use Rattle.meaning.proofs.Finding.{Lowest, miss, hit, lowest-is, same-slot, isNode-eq, found-in}
 use Rattle.meaning.proofs.Roots.{is-root, top-root, root-at}
 use Rattle.meaning.proofs.Sights.{root-sighted, node-sighted, sighted-root, sighted-node}
-use Rattle.indexed.specs.Index.{Look, tooGreat, inForm, named, lookAt, nodeLook, rootLook, onwards, searchFrom, search, orScan, rootBy, nodeBy, byTable}
+use Rattle.indexed.specs.Index.{Look, tooGreat, lookAt, nodeLook, rootLook, onwards, searchFrom, search, orScan, rootBy, nodeBy, byTable}
 use Rattle.indexed.proofs.Searching.{search-ends, node-met, root-met}
 
 module _ (st : Store) where
@@ -61,15 +61,14 @@ module _ (st : Store) where
             sym (root-sighted st v r (only-found (isRoot v) one (w .slot) r (w .inside, w .holds) (root-met v r r (w .met) .1)))
 
 -- By a table without entries, which names no slot, what is found is what the scan finds.
-nothing-named : (look : Record → Look) (s : List Slot) → lookAt look (named s (length s)) ≡ tooGreat
-unfolding named
-nothing-named look s = ap (λ x. lookAt look (inForm x)) (List·getD-eq-default s free (omega arith))
+nothing-named : (look : Record → Look) (s : List Slot) → lookAt look (getD s (length s) free) ≡ tooGreat
+nothing-named look s = ap (λ x. lookAt look x) (List·getD-eq-default s free (omega arith))
 
 nowhere : (look : Record → Look) (s : List Slot) (n lo hi : ℕ) → searchFrom n look [] s lo hi ≡ none
 nowhere look s zero lo hi = refl
 nowhere look s (suc n) lo hi = go (ltb lo hi) _ _ (nowhere look s n lo ((lo + hi) / 2))
   where
-    go : (b : Bool) (up down : Option Record) → down ≡ none → cond b (onwards (lookAt look (named s (length s))) up down) none ≡ none
+    go : (b : Bool) (up down : Option Record) → down ≡ none → cond b (onwards (lookAt look (getD s (length s) free)) up down) none ≡ none
     go true up down e = ap (λ x. onwards x up down) (nothing-named look s) ∙ e
     go false up down e = refl
 

@@ -16,7 +16,7 @@ use Rattle.meaning.specs.Store.{isNode, isRoot, retiredBy}
 use Rattle.meaning.specs.Sound.{At, Lives}
 use Rattle.meaning.proofs.Finding.{isNode-refl, free-used}
 use Rattle.meaning.proofs.Roots.{root-is}
-use Rattle.indexed.specs.Index.{nodeBefore, Look, tooSmall, tooGreat, meets, inForm, named, lookAt, nodeLook, rootLook, onwards, searchFrom, search}
+use Rattle.indexed.specs.Index.{nodeBefore, Look, tooSmall, tooGreat, meets, lookAt, nodeLook, rootLook, onwards, searchFrom, search}
 use Rattle.indexed.proofs.Before.{node-apart}
 
 meets-eq : (r q : Record) → meets r ≡ meets q → r ≡ q
@@ -68,21 +68,19 @@ pub record Ends (look : Record → Look) (s : List Slot) (r : Record) : Type 0 w
 
 module _ (look : Record → Look) (own : (q r : Record) → look q ≡ meets r → q ≡ r) (s : List Slot) where
   -- an entry that is met names a slot in form, with that record
-  pub entry-met : (i : ℕ) (r : Record) → lookAt look (named s i) ≡ meets r → (i < length s) × (getD s i free ≡ used r)
-  unfolding named
+  pub entry-met : (i : ℕ) (r : Record) → lookAt look (getD s i free) ≡ meets r → (i < length s) × (getD s i free ≡ used r)
   entry-met i r e = go (getD s i free) refl e
     where
-      go : (x : Slot) → getD s i free ≡ x → lookAt look (inForm x) ≡ meets r → (i < length s) × (getD s i free ≡ used r)
+      go : (x : Slot) → getD s i free ≡ x → lookAt look x ≡ meets r → (i < length s) × (getD s i free ≡ used r)
       go free h f = great-meets r f
       go (spoiled x) h f = great-meets r f
       go (used q) h f = (inside s i q h, h ∙ ap used (own q r f))
 
-  entry-look : (i : ℕ) (r : Record) → lookAt look (named s i) ≡ meets r → look r ≡ meets r
-  unfolding named
-  entry-look i r e = let w = entry-met i r e in ap (λ x. lookAt look (inForm x)) (sym (w .1)) ∙ e
+  entry-look : (i : ℕ) (r : Record) → lookAt look (getD s i free) ≡ meets r → look r ≡ meets r
+  entry-look i r e = let w = entry-met i r e in ap (λ x. lookAt look x) (sym (w .1)) ∙ e
 
   step : (r : Record) (i : ℕ) (above below : Option Record) → (above ≡ some r → Ends look s r) → (below ≡ some r → Ends look s r) →
-      (l : Look) → lookAt look (named s i) ≡ l → onwards l above below ≡ some r → Ends look s r
+      (l : Look) → lookAt look (getD s i free) ≡ l → onwards l above below ≡ some r → Ends look s r
   step r i above below up down tooSmall h f = up f
   step r i above below up down tooGreat h f = down f
   step r i above below up down (meets q) h f =

@@ -1,7 +1,6 @@
--- Document 02, request 2026-05: how a read finds by a table of slot numbers, for every table and every store, sound or
--- not. Assumes nothing.
+-- Document 02, 2026-05: how a read finds by a table of slot numbers, for every table and store, sound or not.
 use Prim.Native.Nat.{ℕ, zero, suc, _+_, _/_}
-use mathlib.Core.Bool.{Bool, true, false, cond, _&&_, _||_}
+use mathlib.Core.Bool.{Bool, true, false, cond, _&&_, _||_, Bool·beq}
 use mathlib.Core.List.{List, [], _∷_}
 use mathlib.Core.Option.{Option, none, some}
 use lib.ListN.{length, getD}
@@ -16,10 +15,7 @@ abbrev pub placeBefore : Place → Place → Bool
 placeBefore [] [] = false
 placeBefore [] (c ∷ q) = true
 placeBefore (b ∷ p) [] = false
-placeBefore (false ∷ p) (false ∷ q) = placeBefore p q
-placeBefore (false ∷ p) (true ∷ q) = true
-placeBefore (true ∷ p) (false ∷ q) = false
-placeBefore (true ∷ p) (true ∷ q) = placeBefore p q
+placeBefore (b ∷ p) (c ∷ q) = cond (Bool·beq b c) (placeBefore p q) c
 
 -- The order of records: by place and then by version.
 unfoldable pub nodeBefore : ℕ → Place → ℕ → Place → Bool
@@ -31,34 +27,22 @@ pub data Look : Type 0 where
   tooGreat : Look
   meets : Record → Look
 
--- The record of the slot that an entry names, if there is such a slot and it is in form.
-abbrev pub inForm : Slot → Option Record
-inForm free = none
-inForm (used r) = some r
-inForm (spoiled x) = none
+-- By the slot that an entry names; an entry that names no slot in form counts as too great.
+abbrev pub lookAt : (Record → Look) → Slot → Look
+lookAt look free = tooGreat
+lookAt look (used r) = look r
+lookAt look (spoiled x) = tooGreat
 
-unfoldable pub named : List Slot → ℕ → Option Record
-named s i = inForm (getD s i free)
-
--- An entry that names no slot in form counts as too great.
-abbrev pub lookAt : (Record → Look) → Option Record → Look
-lookAt look none = tooGreat
-lookAt look (some r) = look r
-
--- Looking for a node by its version and place.
 unfoldable pub nodeLook : ℕ → Place → Record → Look
-nodeLook v p r =
-    cond (nodeBefore (r .version) (r .place) v p) tooSmall (cond (nodeBefore v p (r .version) (r .place)) tooGreat
-    (meets r))
+nodeLook v p r = cond (nodeBefore (r .version) (r .place) v p) tooSmall
+    (cond (nodeBefore v p (r .version) (r .place)) tooGreat (meets r))
 
--- Looking for the root of a version (2026-13): other places and later versions are too great, a lifetime that covers it
--- matches, and else a root is too small.
+-- Looking for the root of a version (2026-13): other places and later versions are too great, retired ones too small.
 unfoldable pub rootLook : ℕ → Record → Look
 rootLook v r = cond (samePlace (r .place) [])
     (cond (ltb v (r .version)) tooGreat (cond (retiredBy v r) tooSmall (meets r))) tooGreat
 
--- A search halves: between lo and hi it looks at (lo + hi) / 2, rounded down, and ends on an entry that meets or where
--- nothing is left between.
+-- A search halves: between lo and hi it looks at (lo + hi) / 2, rounded down, till an entry meets or none is left.
 abbrev pub onwards : Look → Option Record → Option Record → Option Record
 onwards tooSmall above below = above
 onwards tooGreat above below = below
@@ -67,11 +51,9 @@ onwards (meets r) above below = some r
 abbrev pub searchFrom : ℕ → (Record → Look) → List ℕ → List Slot → ℕ → ℕ → Option Record
 searchFrom zero look table s lo hi = none
 searchFrom (suc n) look table s lo hi =
-    cond (ltb lo hi)
-    (onwards (lookAt look (named s (getD table ((lo + hi) / 2) (length s))))
-    (searchFrom n look table s (suc ((lo + hi) / 2)) hi)
-    (searchFrom n look table s lo ((lo + hi) / 2)))
-    none
+    let mid = (lo + hi) / 2 in
+    cond (ltb lo hi) (onwards (lookAt look (getD s (getD table mid (length s)) free))
+    (searchFrom n look table s (suc mid) hi) (searchFrom n look table s lo mid)) none
 
 -- lo is 0 and hi the capacity at first; each look takes at least one entry away.
 unfoldable pub search : (Record → Look) → List ℕ → List Slot → Option Record
@@ -88,6 +70,5 @@ rootBy table st v = orScan (search (rootLook v) table (st .slots)) (rootSight st
 unfoldable pub nodeBy : List ℕ → Store → ℕ → Place → Sight
 nodeBy table st v p = orScan (search (nodeLook v p) table (st .slots)) (nodeSight st v p)
 
--- How a read finds by a table.
 abbrev pub byTable : List ℕ → Store → Looking
 byTable table st = record { root = rootBy table st; node = nodeBy table st }

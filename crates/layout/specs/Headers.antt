@@ -29,25 +29,15 @@ pub data Headed : Type 0 where
 -- Refusal 1: the store's length isn't 24 + 120n, or 24 + 128n in the counted form, n in 1 to 16,384.
 unfoldable pub sizeRight : Form → ℕ → Bool
 sizeRight f n =
-    allOf
-    (eqb n (headerSize + slotSize f * roomOf f n)
-    ∷ leb 1 (roomOf f n)
-    ∷ leb (roomOf f n) mostSlots
-    ∷ [])
+    allOf (eqb n (headerSize + slotSize f * roomOf f n) ∷ leb 1 (roomOf f n) ∷ leb (roomOf f n) mostSlots ∷ [])
 
--- Refusal 2: a header field isn't as above, its capacity isn't n, or oldest is above latest.
-abbrev pub headerTests : Form → Bytes → List Bool
-headerTests f s =
-    eqb (field 0 4 s) headerSize
-    ∷ eqb (field kindAt 2 s) (headerKind f)
-    ∷ allZero (slice gapAt 2 s)
-    ∷ eqb (field capacityAt 4 s) (roomOf f (length s))
-    ∷ leb (field oldestAt 4 s) (field latestAt 4 s)
-    ∷ allZero (slice headerTailAt 4 s)
-    ∷ []
-
+-- Refusal 2: a header field isn't as 'Bytes' says, its capacity isn't n, or oldest is above latest.
 unfoldable pub headerRight : Form → Bytes → Bool
-headerRight f s = allOf (headerTests f s)
+headerRight f s =
+    allOf
+    (eqb (field 0 4 s) headerSize ∷ eqb (field kindAt 2 s) (headerKind f) ∷ allZero (slice 6 2 s)
+    ∷ eqb (field capacityAt 4 s) (roomOf f (length s)) ∷ leb (field oldestAt 4 s) (field latestAt 4 s)
+    ∷ allZero (slice 20 4 s) ∷ [])
 
 -- The answer of reading a header.
 unfoldable pub headerOf : Form → Bytes → Headed
@@ -60,3 +50,10 @@ headerOf f s =
 unfoldable pub headerBytes : Form → ℕ → ℕ → ℕ → Bytes
 headerBytes f n oldest latest =
     flat (le 4 headerSize ∷ le 2 (headerKind f) ∷ zeroBytes 2 ∷ le 4 n ∷ le 4 oldest ∷ le 4 latest ∷ zeroBytes 4 ∷ [])
+
+-- The tests of a header as a list, which proofs go along.
+abbrev pub headerTests : Form → Bytes → List Bool
+headerTests f s =
+    eqb (field 0 4 s) headerSize ∷ eqb (field kindAt 2 s) (headerKind f) ∷ allZero (slice gapAt 2 s)
+    ∷ eqb (field capacityAt 4 s) (roomOf f (length s)) ∷ leb (field oldestAt 4 s) (field latestAt 4 s)
+    ∷ allZero (slice headerTailAt 4 s) ∷ []

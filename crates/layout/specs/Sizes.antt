@@ -1,5 +1,4 @@
--- Document 01, 'Bytes': the sizes, kinds and lengths of header and slot, and where their fields begin. All in one
--- place, and nowhere else. Assumes nothing.
+-- Document 01, 'Bytes': the sizes and kinds of header and slot, and where their fields begin. Assumes nothing.
 use Rattle.terms.specs.declared.Form.{Form}
 use Rattle.terms.specs.declared.Form.the-variants.{Plain as plain, Counted as counted}
 use Prim.Native.Nat.{ℕ, _+_, _*_, _-_, _/_}
@@ -8,8 +7,7 @@ use lib.Dec.{eqb}
 pub use Rattle.terms.specs.Form.{mostSlots}
 pub use Rattle.terms.specs.Heads.{countAt, bitsAt, versionAt, retiredAt}
 
--- Header, 24 bytes: length 24, kind 1 (4 in the counted form), 2 zero, capacity 4, oldest 4, latest 4, 4 zero. Capacity
--- n is 1 to 16,384.
+-- Header, 24 bytes: length 24, kind 1 (4 in the counted form), 2 zero, capacity 4, oldest 4, latest 4, 4 zero.
 abbrev pub headerSize : ℕ
 headerSize = 24
 
@@ -17,8 +15,8 @@ abbrev pub headerKind : Form → ℕ
 headerKind plain = 1
 headerKind counted = 4
 
-abbrev pub gapAt : ℕ
-gapAt = 6
+abbrev pub kindAt : ℕ
+kindAt = 4
 
 abbrev pub capacityAt : ℕ
 capacityAt = 8
@@ -29,20 +27,30 @@ oldestAt = 12
 abbrev pub latestAt : ℕ
 latestAt = 16
 
+-- A slot has 120 bytes, 128 in the counted form.
+abbrev pub slotSize : Form → ℕ
+slotSize plain = 120
+slotSize counted = 128
+
+-- How many slots there is room for in a store of this many bytes.
+unfoldable pub roomOf : Form → ℕ → ℕ
+roomOf f n = (n - headerSize) / slotSize f
+
+-- Where slot i begins.
+abbrev pub slotAt : Form → ℕ → ℕ
+slotAt f i = headerSize + slotSize f * i
+
+-- The other numbers of header and slot by the names that code and proofs have for them. The header's zero bytes begin
+-- here.
+abbrev pub gapAt : ℕ
+gapAt = 6
+
 abbrev pub headerTailAt : ℕ
 headerTailAt = 20
 
--- Slot, 120 bytes, 128 in the counted form. A leaf says length 112, kind 2; an inner record the slot's size as its
--- length, and kind 3, or 5 in the counted form. So a slot's own size tells its form.
+-- The kind of a leaf, and of an inner record in a slot of n bytes.
 abbrev pub plainSize : ℕ
 plainSize = 120
-
-abbrev pub slotSize : Form → ℕ
-slotSize plain = plainSize
-slotSize counted = 128
-
-abbrev pub leafLength : ℕ
-leafLength = 112
 
 abbrev pub leafKind : ℕ
 leafKind = 2
@@ -50,12 +58,7 @@ leafKind = 2
 abbrev pub innerKind : ℕ → ℕ
 innerKind n = cond (eqb n plainSize) 3 5
 
--- Each record begins with its length (4 bytes) and kind (2 bytes).
-abbrev pub kindAt : ℕ
-kindAt = 4
-
--- Then the fields of `terms/Heads`, and what its kind says. A leaf's key 32, value 32, then zero; key and value are its
--- grant.
+-- A leaf's key 32, value 32, then zero; key and value are its grant.
 abbrev pub grantSize : ℕ
 grantSize = 64
 
@@ -64,9 +67,6 @@ keyAt = 48
 
 abbrev pub valueAt : ℕ
 valueAt = 80
-
-abbrev pub tailAt : ℕ
-tailAt = 112
 
 -- An inner record's left version 4, left hash 32, right version 4, right hash 32.
 abbrev pub childSize : ℕ
@@ -77,21 +77,6 @@ leftAt = 48
 
 abbrev pub rightAt : ℕ
 rightAt = 84
-
--- In the counted form an inner record's left count 4, right count 4.
-abbrev pub leftCountAt : ℕ
-leftCountAt = 120
-
-abbrev pub rightCountAt : ℕ
-rightCountAt = 124
-
--- How many slots there is room for in a store of this many bytes.
-unfoldable pub roomOf : Form → ℕ → ℕ
-roomOf f n = (n - headerSize) / slotSize f
-
--- Where slot i begins.
-abbrev pub slotAt : Form → ℕ → ℕ
-slotAt f i = headerSize + slotSize f * i
 
 -- One more than the largest number of eight bytes: an address is below it.
 abbrev pub most64 : ℕ

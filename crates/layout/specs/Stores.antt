@@ -1,5 +1,4 @@
--- Document 01, 'Bytes': a store is its header and its slots, one after the other; the store is 24 + 120n bytes, 24 +
--- 128n in the counted form. Which form bytes are read as is said, not read: a header may be damaged. Assumes nothing.
+-- Document 01, 'Bytes': a store is its header and its slots, read as those of a form. Assumes nothing.
 use Prim.Native.Nat.{ℕ, zero, suc, _+_, _<_, _≤_}
 use mathlib.Core.Path.{_≡_}
 use mathlib.Core.Bool.{true}

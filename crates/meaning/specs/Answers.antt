@@ -28,8 +28,7 @@ pub record Exported {A : Type 0} (a : Answer A) (tell : A → Bytes) (f : Bytes)
   pub number : r ≡ numberOf a
   pub told : g ≡ toldOf tell a f
 
--- A call for such a caller, given what is said of its answer: it answers 0 where it is accepted, else the number of
--- refusal; what is told goes to the array f, which a refused call leaves.
+-- The same, where what is said of the answer is a relation.
 pub data Exports {A : Type 0} (Said : Answer A → Type 0) (tell : A → Bytes) (f : Bytes) : ℕ → Bytes → Type 0 where
   exports-refusal : {n : ℕ} → Said (refused n) → Exports Said tell f n f
   exports-answer : {a : A} → Said (accepted a) → Exports Said tell f 0 (tell a)

@@ -1,6 +1,4 @@
--- Document 01, 'Numbers of refusal', with versions named as in 2026-13: what format, apply and prune answer and leave.
--- 1, 2 and 12 are refused before there is a store or a key to speak of, and 3 by soundness, in the calls that test it;
--- here the store is sound. Assumes nothing.
+-- Document 01, 'Numbers of refusal', and 2026-13: what apply and prune answer of a sound store. Assumes nothing.
 use Prim.Native.Nat.{ℕ, _-_}
 use mathlib.Core.Bool.{Bool, true, cond, _&&_}
 use mathlib.Core.List.{List, [], _∷_}
@@ -8,7 +6,7 @@ use mathlib.Core.Option.{Option, none, some}
 use lib.ListN.{length}
 use lib.Dec.{leb, ltb}
 use Rattle.terms.specs.Bits.{Bytes, before}
-use Rattle.terms.specs.Records.{Ask, askKey, Store}
+use Rattle.terms.specs.Records.{Ask, askKey, Store, storeFrom}
 use Rattle.meaning.specs.Tree.{VTree, unversioned, hash, nextTree}
 use Rattle.meaning.specs.Store.{treeAtVersion, freeSlots, newRecords, settled, pruned}
 
@@ -26,6 +24,10 @@ pub record Result (A : Type 0) : Type 0 where
 unfoldable pub refuse : {A : Type 0} → ℕ → Store → Result A
 refuse n st = record { answer = refused n; store = st }
 
+-- An accepted call answers, and leaves this store.
+abbrev pub accept : {A : Type 0} → A → Store → Result A
+accept a st = record { answer = accepted a; store = st }
+
 -- The version is kept.
 unfoldable pub isKept : Store → ℕ → Bool
 isKept st v = leb (st .oldest) v && leb v (st .latest)
@@ -36,6 +38,9 @@ pub record Applied : Type 0 where
   pub root : Bytes
   pub count : ℕ
 
+abbrev pub appliedAs : ℕ → Bytes → ℕ → Applied
+appliedAs v root n = record { version = v; root = root; count = n }
+
 -- Keys strictly ascending.
 abbrev pub ascending : List Ask → Bool
 ascending [] = true
@@ -45,11 +50,9 @@ ascending (a ∷ b ∷ batch) = before (askKey a) (askKey b) && ascending (b ∷
 -- Pruning to n: 8 if the version isn't kept; else it answers how many records it freed.
 unfoldable pub prune : ℕ → Store → Result ℕ
 prune n st =
+    let kept = pruned n (st .slots) in
     cond (isKept st n)
-    (record {
-      answer = accepted (freeSlots (pruned n (st .slots)) - freeSlots (st .slots));
-      store = record { form = st .form; oldest = n; latest = st .latest; slots = pruned n (st .slots) };
-    })
+    (accept (freeSlots kept - freeSlots (st .slots)) (storeFrom (st .form) n (st .latest) kept))
     (refuse 8 st)
 
 module _ (leafHash innerHash : Bytes → Bytes → Bytes) where
@@ -58,22 +61,16 @@ module _ (leafHash innerHash : Bytes → Bytes → Bytes) where
   publish new old now st =
       cond (ltb (freeSlots (st .slots)) (length (newRecords leafHash innerHash new now)))
       (refuse 7 st)
-      (record {
-        answer = accepted (record {
-          version = new;
-          root = hash leafHash innerHash (unversioned now);
-          count = length (newRecords leafHash innerHash new now);
-        });
-        store = settled leafHash innerHash new old now st;
-      })
+      (accept
+      (appliedAs new (hash leafHash innerHash (unversioned now)) (length (newRecords leafHash innerHash new now)))
+      (settled leafHash innerHash new old now st))
 
   -- A batch makes version `new` of the latest tree.
   unfoldable pub applyAs : ℕ → List Ask → Store → Result Applied
   applyAs new batch st =
       publish new (treeAtVersion st (st .latest)) (nextTree new (treeAtVersion st (st .latest)) batch) st
 
-  -- Apply, of a batch in form (else 4): keys not strictly ascending 5, a number not above latest 18, too few free slots
-  -- 7. The batch makes the version of that number.
+  -- Apply, of a batch in form (else 4): keys not strictly ascending 5, a number not above latest 18, too few slots 7.
   abbrev pub apply : ℕ → Option (List Ask) → Store → Result Applied
   apply number none st = refuse 4 st
   apply number (some batch) st =

@@ -1,5 +1,4 @@
--- Document 01, 'Checking': when a proof holds, whoever wrote it; with 2026-03, by which a proof without a neighbour
--- never does. Assumes nothing.
+-- Document 01, 'Checking', with 2026-03: when a proof holds, whoever wrote it. Assumes nothing.
 use mathlib.Core.Bool.{Bool, true, false, cond, _&&_, _||_, not, Bool·beq}
 use mathlib.Core.List.{List, [], _∷_, reverse}
 use mathlib.Core.Option.{Option, none, some}

@@ -1,5 +1,4 @@
--- Document 02, 2026-09: the number of grants of a version and the grant at a position, for every store, sound or not.
--- Both are reads, and go by the counts alone: no leaf but the one asked for is looked at. Assumes nothing.
+-- Document 02, 2026-09: the number of grants of a version, the grant at a position, by counts alone, for every store.
 use Prim.Native.Nat.{ℕ, zero, suc, _+_, _-_}
 use mathlib.Core.Bool.{cond}
 use mathlib.Core.List.{List, [], _∷_}
@@ -31,8 +30,8 @@ readNumberBy look st v = cond (isKept st v) (numberAt (look .root v)) (refused 8
 unfoldable pub readNumber : Store → ℕ → Answer ℕ
 readNumber st v = readNumberBy (scan st) st v
 
--- At a record: a leaf is the grant at position 0, with a position left over it is 3; an inner record sends the
--- positions below its left count to the left, and the others, less that count, to the right.
+-- A leaf is the grant at position 0, else 3; an inner record sends the positions below its left count to the left, and
+-- the others, less that count, to the right.
 abbrev pub atBody : Place → Body → Tally → ℕ → (Side → Child → ℕ → Answer Grant) → Answer Grant
 atBody p (leafBody k x) c i below =
     cond (begins p k) (cond (eqb i 0) (accepted (grant k x)) (refused 3)) (refused (refusalOf strayLeaf))
@@ -43,8 +42,7 @@ atSight p (matches r) i below = atBody p (r .body) (r .counts) i below
 atSight p nothing i below = refused (refusalOf lostRecord)
 atSight p (spoilt s) i below = refused (refusalOf (spoiltRecord s))
 
--- The descent at a child, at a place which is n bits short of a key: a missing child gives 3. Below the place of a
--- whole key all is lost.
+-- The descent at a child, at a place which is n bits short of a key: a missing child gives 3; below a whole key 17.
 abbrev pub descend : ℕ → Looking → Place → Child → ℕ → Answer Grant
 descend zero look p c i =
     cond (eqb (c .version) 0) (refused 3)

@@ -1,5 +1,4 @@
--- Document 01, 'The desk's example': M1 to M12 without M10 as one table, each batch with the number latest + 1; hashes
--- are names, of any two hash functions. Assumes nothing.
+-- Document 01, 'The desk's example', M1 to M12 without M10, of any two hash functions. Assumes nothing.
 use Prim.Native.Nat.{ℕ}
 use mathlib.Core.List.{List, [], _∷_, _++_, map}
 use lib.ListN.{replicate, take, drop}
@@ -11,21 +10,21 @@ use Rattle.terms.specs.Records.{
   Ask,
   insert,
   delete,
-  Body,
   leafBody,
   innerBody,
   child,
-  Tally,
   tally,
   noTally,
+  recordOf,
   Slot,
   free,
   used,
   Store,
+  storeFrom,
   zeros,
 }
 use Rattle.meaning.specs.Store.{formatted}
-use Rattle.meaning.specs.Calls.{Answer, refused, accepted, Applied}
+use Rattle.meaning.specs.Calls.{Answer, refused, accepted, Applied, appliedAs}
 
 -- A row: a batch on a store with its number, a pruning, or a version's root read.
 pub data Row : Type 0 where
@@ -66,15 +65,12 @@ F = granting 0b00010000 0 2
 abbrev pub at : ℕ → Grant → Place
 at n g = take n (bits (g .key))
 
--- a record by place, version and the rest, and last the version since which it is retired
-abbrev pub slotOf : Place → ℕ → Body → Tally → ℕ → Slot
-slotOf p v b t r = used (record { place = p; version = v; retired = r; body = b; counts = t })
-
+-- a leaf, and an inner node with its children's versions, hashes and counts, last the version since which it is retired
 abbrev pub lf : Place → ℕ → Grant → ℕ → Slot
-lf p v g r = slotOf p v (leafBody (g .key) (g .value)) noTally r
+lf p v g r = used (recordOf p v r (leafBody (g .key) (g .value)) noTally)
 
 abbrev pub nd : Place → ℕ → ℕ → Bytes → ℕ → Bytes → ℕ → ℕ → ℕ → Slot
-nd p v lv lh rv rh lc rc r = slotOf p v (innerBody (child lv lh) (child rv rh)) (tally lc rc) r
+nd p v lv lh rv rh lc rc r = used (recordOf p v r (innerBody (child lv lh) (child rv rh)) (tally lc rc))
 
 -- the first of some records, each retired since the version beside it
 abbrev pub since : List (ℕ → Slot) → List ℕ → List Slot
@@ -83,10 +79,10 @@ since (r ∷ rs) [] = []
 since (r ∷ rs) (v ∷ versions) = r v ∷ since rs versions
 
 abbrev pub store : ℕ → ℕ → List Slot → Store
-store old new s = record { form = counted; oldest = old; latest = new; slots = s }
+store old new s = storeFrom counted old new s
 
 abbrev pub made : ℕ → Bytes → ℕ → Answer Applied
-made v root n = accepted (record { version = v; root = root; count = n })
+made v root n = accepted (appliedAs v root n)
 
 abbrev pub put : Grant → Ask
 put g = insert (g .key) (g .value)

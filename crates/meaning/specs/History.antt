@@ -19,15 +19,13 @@ pub record Entry : Type 0 where
 abbrev pub entry : ℕ → List Grant → Entry
 entry v gs = record { version = v; grants = gs }
 
--- A call on a store, with its arguments.
+-- A call on a store: the number given and the batch as decoded, none where it isn't whole records in form; the store
+-- made anew from another one, with the grants of these versions (2026-08); any call that writes nothing.
 pub data Call : Type 0 where
   formatting : Call
-  -- the number given, and the batch as decoded; none where it isn't whole records in form
   applying : ℕ → Option (List Ask) → Call
   pruning : ℕ → Call
-  -- the store is made anew from another one, with the grants of these versions (document 02, 2026-08)
   taking : List Entry → Call
-  -- check, the reads, proving, and any call refused for its sizes or its header: nothing is written
   looking : Call
 
 unfoldable pub keptBy : ℕ → Entry → Bool
@@ -39,8 +37,7 @@ lasting zero e es = e ∷ es
 lasting (suc n) e es = entry (e .version + suc n) (e .grants) ∷ lasting n e es
 
 -- What an accepted call does to the grants by version, the newest first: formatting starts anew with the empty version
--- 0; a batch makes the version of its number, and those between it and the newest one (there always is one) hold what
--- that holds; pruning forgets what is older; a store made anew from another one starts with what it took.
+-- 0; a batch makes the version of its number, and those between it and the newest one hold what that holds.
 abbrev pub noted : Call → List Entry → List Entry
 noted formatting es = entry 0 [] ∷ []
 noted (applying number none) es = es
@@ -70,14 +67,10 @@ entriesFrom trees o (suc n) = entry (o + suc n) (grantsIn (trees (o + suc n))) �
 unfoldable pub held : Store → List Entry
 held st = entriesFrom (treeAtVersion st) (st .oldest) (st .latest - st .oldest)
 
--- A store holds what a ledger says: it is sound, each kept version's tree is the tree of its grants, and no other
--- version has any.
+-- A store holds what a ledger says: each kept version's tree is the tree of its grants, and no other version has any.
 module _ (leafHash innerHash : Bytes → Bytes → Bytes) where
   pub record Holds (st : Store) (es : List Entry) : Type 0 where
     pub sound : Sound leafHash innerHash st
-    pub gives : (v : ℕ) → Kept st v →
-        (gs : List Grant)
-        × (grantsOf v es ≡ some gs)
-        × (unversioned (treeAtVersion st v) ≡ treeOf gs)
-        × (grantsIn (treeAtVersion st v) ≡ gs)
+    pub gives : (v : ℕ) → Kept st v → (gs : List Grant) × (grantsOf v es ≡ some gs) ×
+        (unversioned (treeAtVersion st v) ≡ treeOf gs) × (grantsIn (treeAtVersion st v) ≡ gs)
     pub only : (v : ℕ) → (Kept st v → ⊥) → grantsOf v es ≡ none

@@ -1,5 +1,4 @@
--- Document 01, 'Reading and proving': the neighbours of a key, and the proof that the prover writes, for every store;
--- with 2026-03: no neighbour, no absence proof; and 2026-07: which record is missing. Assumes nothing.
+-- Document 01, 'Reading and proving', with 2026-03 and 2026-07: a key's neighbours, and its proof, for every store.
 use Prim.Native.Nat.{ℕ, _+_, _*_}
 use mathlib.Core.Path.{_≡_}
 use mathlib.Core.Bool.{Bool, true, false, cond, _&&_, not, Bool·beq}
@@ -69,8 +68,7 @@ abbrev pub raisedBy : List Step → Descended → Descended
 raisedBy steps (descentStopped t) = descentStopped t
 raisedBy steps (reached p) = reached (raised steps p)
 
--- The descent into a child: to side b where there is a child on side b, else to the other. An inner record in form has
--- a child, so no descent from a present child ends at a missing one.
+-- The descent into a child: to side b where there is a child, else to the other; an inner record in form has one.
 abbrev pub descend : Side → Seen → Descended
 descend b (stoppedBy t) = descentStopped t
 descend b gap = descentStopped lostRecord
@@ -108,8 +106,7 @@ neighbour b k (atLeaf l x trail) =
     cond (beyond b l k) (somebody (presenceOf l x (map stepUp trail))) (fromTrail b trail)
 neighbour b k (atGap trail) = fromTrail b trail
 
--- The proof of absence from what the two searches found; at least one neighbour is needed. The left one's trouble is
--- met first.
+-- The proof of absence from what the two searches found, one neighbour at least; the left one's trouble is met first.
 abbrev pub absenceFrom : Bytes → Sought → Sought → Answer Proof
 absenceFrom k (searchStopped t) r = refused (refusalOf t)
 absenceFrom k nobody (searchStopped t) = refused (refusalOf t)

@@ -26,8 +26,7 @@ refusalOf lostRecord = 17
 refusalOf (spoiltRecord i) = beside 3 i
 refusalOf strayLeaf = 3
 
--- What a read sees at a place: trouble; no child; a leaf; or an inner node, with its children's hashes as stored and
--- what is seen there, by the side.
+-- What a read sees at a place: trouble; no child; a leaf; an inner node, with its children's hashes and what is seen.
 pub data Seen : Type 0 where
   stoppedBy : Trouble → Seen
   gap : Seen
@@ -38,27 +37,22 @@ abbrev pub seenBody : Place → Body → (Side → Child → Seen) → Seen
 seenBody p (leafBody k x) kid = cond (begins p k) (leafSeen k x) (stoppedBy strayLeaf)
 seenBody p (innerBody l r) kid = fork (λ b. childOn b l r .hash) (λ b. kid b (childOn b l r))
 
-abbrev pub seenChild : Place → Sight → (Side → Child → Seen) → Seen
-seenChild p (matches r) kid = seenBody p (r .body) kid
-seenChild p nothing kid = stoppedBy lostRecord
-seenChild p (spoilt i) kid = stoppedBy (spoiltRecord i)
+-- By what was found; where no slot matches, this is seen.
+abbrev pub seenFound : Seen → Place → Sight → (Side → Child → Seen) → Seen
+seenFound end p (matches r) kid = seenBody p (r .body) kid
+seenFound end p nothing kid = end
+seenFound end p (spoilt i) kid = stoppedBy (spoiltRecord i)
 
--- At a child, at a place which is n bits short of a key. Below the place of a whole key, which no inner record in form
--- has, all is lost.
+-- At a child, at a place which is n bits short of a key; below a whole key, where no record is in form, all is lost.
 abbrev pub seenAt : ℕ → Looking → Place → Child → Seen
-seenAt zero look p c =
-    cond (eqb (c .version) 0) gap (seenChild p (look .node (c .version) p) (λ b d. stoppedBy lostRecord))
-seenAt (suc n) look p c =
-    cond (eqb (c .version) 0) gap (seenChild p (look .node (c .version) p) (λ b d. seenAt n look (longer b p) d))
+seenAt zero look p c = cond (eqb (c .version) 0) gap
+    (seenFound (stoppedBy lostRecord) p (look .node (c .version) p) (λ b d. stoppedBy lostRecord))
+seenAt (suc n) look p c = cond (eqb (c .version) 0) gap
+    (seenFound (stoppedBy lostRecord) p (look .node (c .version) p) (λ b d. seenAt n look (longer b p) d))
 
 -- No slot that matches a root means an empty version.
-abbrev pub seenRoot : Sight → (Side → Child → Seen) → Seen
-seenRoot (matches r) kid = seenBody [] (r .body) kid
-seenRoot nothing kid = gap
-seenRoot (spoilt i) kid = stoppedBy (spoiltRecord i)
-
 unfoldable pub seen : Looking → ℕ → Seen
-seen look v = seenRoot (look .root v) (λ b d. seenAt 255 look (b ∷ []) d)
+seen look v = seenFound gap [] (look .root v) (λ b d. seenAt 255 look (b ∷ []) d)
 
 -- An inner node passed by a walk, and the side taken there.
 pub record Pass : Type 0 where
@@ -90,8 +84,7 @@ readEnd k (walkStopped t) = refused (refusalOf t)
 readEnd k (atLeaf l x trail) = accepted (cond (sameBytes k l) (present x) absent)
 readEnd k (atGap trail) = accepted absent
 
--- A key read answers the value or "absent": 8, then the first of 3 and 17 that is met; by how it finds, and by looking
--- at every slot.
+-- A key read answers the value or "absent": 8, then the first of 3 and 17 that is met; by how it finds, and by scans.
 abbrev pub readKeyBy : Looking → Store → ℕ → Bytes → Answer Verdict
 readKeyBy look st v k = cond (isKept st v) (readEnd k (walk k 0 [] (seen look v))) (refused 8)
 
@@ -121,3 +114,10 @@ module _ (leafHash innerHash : Bytes → Bytes → Bytes) where
 
   unfoldable pub readRoot : Store → ℕ → Answer Bytes
   readRoot st v = readRootBy (scan st) st v
+
+-- What is seen at a child and at a root, by name.
+abbrev pub seenChild : Place → Sight → (Side → Child → Seen) → Seen
+seenChild p s kid = seenFound (stoppedBy lostRecord) p s kid
+
+abbrev pub seenRoot : Sight → (Side → Child → Seen) → Seen
+seenRoot s kid = seenFound gap [] s kid

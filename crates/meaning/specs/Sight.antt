@@ -1,5 +1,4 @@
--- Document 02, 2026-07, with 2026-13's sentence for roots: what finding a node tells apart, for every store, sound or
--- not. Assumes nothing.
+-- Document 02, 2026-07, and 2026-13 for roots: what finding a node tells apart, for every store. Assumes nothing.
 use Prim.Native.Nat.{ℕ, suc}
 use mathlib.Core.Bool.{Bool, cond, _&&_, not}
 use mathlib.Core.List.{List, [], _∷_}
@@ -31,8 +30,7 @@ livesBy v x = leb (versionIn x) v && not (leb 1 (sinceIn x) && leb (sinceIn x) v
 unfoldable pub agreesRoot : ℕ → Bytes → Bool
 agreesRoot v x = allOf (eqb (countIn x) 0 ∷ allZero (bitsIn x) ∷ livesBy v x ∷ [])
 
--- The lowest slot that is neither free nor in form and whose bytes pass a test, where the list begins with slot i. A
--- slot in form that agrees matches.
+-- The lowest slot neither free nor in form whose bytes pass a test, where the list begins with slot i.
 abbrev pub lowestSpoilt : (Bytes → Bool) → ℕ → List Slot → Option ℕ
 lowestSpoilt test i [] = none
 lowestSpoilt test i (free ∷ s) = lowestSpoilt test (suc i) s

@@ -63,9 +63,8 @@ Lives v r = (r .version ≤ v) × (retiredBy v r ≡ false)
 
 module _ (leafHash innerHash : Bytes → Bytes → Bytes) where
   -- A tree stands at a place: children are found at their version and place, leaves' keys begin with their place,
-  -- stored hashes are the children's hashes, and there is no inner node whose only child is a leaf. A present child
-  -- that is not found is no tree, so what is said of it, version and hash, is not what the record says. Each count is
-  -- the number of leaves below that child, 0 for none (2026-09).
+  -- stored hashes and counts (2026-09) are the children's, and no inner node's only child is a leaf. A present child
+  -- that is not found is no tree, so its version and hash are not what the record says.
   abbrev pub Stands : Store → Place → VTree → Type 0
   Stands st p vnone = Unit {0}
   Stands st p (vleaf v g) = Found st v p (leafBody (g .key) (g .value)) × (begins p (g .key) ≡ true)
@@ -89,9 +88,8 @@ module _ (leafHash innerHash : Bytes → Bytes → Bytes) where
     -- versions lie in 1 to latest
     pub versions : (i : ℕ) (r : Record) → At st i r → (1 ≤ r .version) × (r .version ≤ st .latest)
     -- retired-since is 0 or above the record's version, above oldest and at most latest
-    pub lifetimes : (i : ℕ) (r : Record) →
-        At st i r → (r .retired ≡ 0) ⊎ ((r .version < r .retired) × (st .oldest < r .retired) ×
-        (r .retired ≤ st .latest))
+    pub lifetimes : (i : ℕ) (r : Record) → At st i r →
+        (r .retired ≡ 0) ⊎ ((r .version < r .retired) × (st .oldest < r .retired) × (r .retired ≤ st .latest))
     -- for each kept version v, the root record, where present, starts a tree as above
     pub stands : (v : ℕ) → Kept st v → Stands st [] (treeAtVersion st v)
     -- and a record is in v's tree exactly if it lives at v

@@ -19,17 +19,19 @@ use Rattle.terms.specs.Records.{
   tally,
   noTally,
   Record,
+  recordOf,
   Slot,
   free,
   used,
   spoiled,
   Store,
+  storeFrom,
 }
 use Rattle.meaning.specs.Tree.{hash, VTree, vnone, vleaf, vinner, topVersion, unversioned, leaves}
 
 -- Formatted: oldest and latest are 0 and all slots free, in the counted form (2026-09).
 unfoldable pub formatted : ℕ → Store
-formatted n = record { form = counted; oldest = 0; latest = 0; slots = replicate n free }
+formatted n = storeFrom counted 0 0 (replicate n free)
 
 -- A record is the node (version, place).
 unfoldable pub isNode : ℕ → Place → Record → Bool
@@ -72,8 +74,7 @@ abbrev pub treeFound : Option Record → (Side → ℕ → VTree) → VTree
 treeFound none below = vnone
 treeFound (some r) below = treeBelow (r .version) (r .body) below
 
--- The tree that stands at a version and place which is n bits short of a key; below a place of a whole key there is
--- none.
+-- The tree that stands at a version and place which is n bits short of a key; below a whole key there is none.
 abbrev pub treeFrom : ℕ → List Slot → ℕ → Place → VTree
 treeFrom zero s v p = cond (eqb v 0) vnone (treeFound (find v p s) (λ b w. vnone))
 treeFrom (suc n) s v p = cond (eqb v 0) vnone (treeFound (find v p s) (λ b w. treeFrom n s w (longer b p)))
@@ -98,7 +99,7 @@ placed rs (spoiled x ∷ s) = spoiled x ∷ placed rs s
 
 -- A record marked retired since n; nothing else in it changes.
 unfoldable pub marked : ℕ → Record → Record
-marked n r = record { place = r .place; version = r .version; retired = n; body = r .body; counts = r .counts }
+marked n r = recordOf (r .place) (r .version) n (r .body) (r .counts)
 
 -- What stands in a slot, changed where it is a record.
 abbrev pub onRecord : (Record → Slot) → Slot → Slot
@@ -139,23 +140,9 @@ module _ (leafHash innerHash : Bytes → Bytes → Bytes) where
   -- The record of the node at a place, not retired.
   abbrev pub recordAt : Place → VTree → List Record
   recordAt p vnone = []
-  recordAt p (vleaf v g) = record {
-    place = p;
-    version = v;
-    retired = 0;
-    body = leafBody (g .key) (g .value);
-    counts =
-        countsOf (vleaf v g);
-  } ∷ []
+  recordAt p (vleaf v g) = recordOf p v 0 (leafBody (g .key) (g .value)) noTally ∷ []
   recordAt p (vinner v l r) =
-      record {
-        place = p;
-        version = v;
-        retired = 0;
-        body = innerBody (childOf l) (childOf r);
-        counts =
-            countsOf (vinner v l r);
-      } ∷ []
+      recordOf p v 0 (innerBody (childOf l) (childOf r)) (tally (leaves l) (leaves r)) ∷ []
 
   -- The records strictly below a node in the order of placing: first all strictly below its left child, then strictly
   -- below its right, then the left child, then the right.
@@ -176,9 +163,6 @@ module _ (leafHash innerHash : Bytes → Bytes → Bytes) where
 
   -- The store with version `new`, where `old` is the tree before and `now` the tree after.
   unfoldable pub settled : ℕ → VTree → VTree → Store → Store
-  settled new old now st = record {
-    form = st .form;
-    oldest = st .oldest;
-    latest = new;
-    slots = placed (newRecords new now) (retire new (recordsOf old) (recordsOf now) (st .slots));
-  }
+  settled new old now st =
+      storeFrom (st .form) (st .oldest) new
+      (placed (newRecords new now) (retire new (recordsOf old) (recordsOf now) (st .slots)))

@@ -71,7 +71,6 @@ unversioned vnone = none
 unversioned (vleaf v g) = leaf g
 unversioned (vinner v l r) = inner (unversioned l) (unversioned r)
 
--- The grants of a tree with versions.
 abbrev pub grantsIn : VTree → List Grant
 grantsIn t = grants (unversioned t)
 
@@ -100,9 +99,8 @@ sameGrants [] (h ∷ hs) = false
 sameGrants (g ∷ gs) [] = false
 sameGrants (g ∷ gs) (h ∷ hs) = sameBytes (g .key) (h .key) && sameBytes (g .value) (h .value) && sameGrants gs hs
 
--- A node with the grants gs below it keeps its version if the old tree has a node at that place and the grants below it
--- are the same ones; otherwise it gets the new version. `old` is the old tree at that place: no node there has no
--- grants.
+-- A node keeps its version if the old tree has a node at that place with the same grants below it; otherwise it gets
+-- the new version. `old` is the old tree at that place: where no node is, there are no grants.
 unfoldable pub nodeVersion : ℕ → VTree → List Grant → ℕ
 nodeVersion new old gs = cond (sameGrants (grantsIn old) gs) (topVersion old) new
 

@@ -30,9 +30,11 @@ written-so {x} {lent} {room} {t} {old} bytes lends number left told =
       exactly = said-as-read x bytes;
       raw = k .raw;
       lent = k .lends;
-      answer = number ∙ ap (λ o. numberOf o) (k .same) ∙ number-of-message a;
+      exported = record {
+        number = number ∙ ap (λ o. numberOf o) (k .same) ∙ number-of-message a;
+        told = told ∙ ap (λ o. toldOf (λ m. le 4 (length m)) o old) (k .same) ∙ told-of-message a old;
+      };
       message = left ∙ ap (λ o. roomAfter (λ m. m) o room) (k .same) ∙ room-of-message a room;
-      told = told ∙ ap (λ o. toldOf (λ m. le 4 (length m)) o old) (k .same) ∙ told-of-message a old;
     }
 
 module _ {x : Bytes} (bytes : All Byte x) {lent : Lent} (lends : LentBytes lent) {room t : Bytes} {r : Wrote} (w : Writes (writtenInto (proofIn x) lent room) room r t) (old : Bytes) where

@@ -13,7 +13,7 @@ use Rattle.terms.specs.Fields.{slice, allOf}
 use Rattle.terms.specs.Records.{Step, Presence}
 use Rattle.terms.proofs.Lists.{all-drop}
 use Rattle.terms.proofs.Fields.{length-slice}
-use Rattle.messages.specs.Wire.{varintIn, varint, numberTag, bytesTag, messageField, bytesField, numberField}
+use Rattle.messages.specs.Wire.{varintIn, varint, bytesTag, messageField, bytesField, numberField}
 use Rattle.messages.specs.Message.{leafBytes}
 use Rattle.messages.specs.Raws.{leafOp}
 use Rattle.messages.specs.Reading.{onward, onlyIf, fieldFrom, pathIn, lengthRight, existenceIn}
@@ -77,7 +77,7 @@ abbrev pub leaf : Bytes
 leaf = 8 ∷ 1 ∷ 16 ∷ 1 ∷ 24 ∷ 1 ∷ 42 ∷ 1 ∷ 1 ∷ []
 
 leaf-is : leafOp ≡ leaf
-unfolding leafBytes varintIn varint numberTag bytesTag messageField bytesField numberField
+unfolding leafBytes varintIn varint bytesTag messageField bytesField numberField
 leaf-is = refl
 
 last-failed : (a b : Bool) → allOf (a ∷ b ∷ false ∷ []) ≡ false

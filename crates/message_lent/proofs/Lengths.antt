@@ -16,7 +16,7 @@ use Rattle.terms.proofs.Fields.{length-slice, all-of-tests}
 use Rattle.sha256.specs.Sha256.{sha256}
 use Rattle.proofrecords.specs.ProofBytes.{StepForm, presenceTests, isPresence, presenceIn, stepCount, stepsIn}
 use Rattle.proofrecords.proofs.Lying.{first-at, fromStep, next-step, one-less, none-left}
-use Rattle.messages.specs.Wire.{varintIn, varint, numberTag, bytesTag, messageField, bytesField, numberField}
+use Rattle.messages.specs.Wire.{varintIn, varint, bytesTag, messageField, bytesField, numberField}
 use Rattle.messages.specs.Message.{existence}
 use Rattle.messages.specs.Raws.{leafOp, innerOp, path}
 use Rattle.messages.specs.Reading.{lengthRight}

@@ -15,7 +15,7 @@ use Rattle.terms.specs.Records.{Step, Presence}
 use Rattle.terms.proofs.Fields.{length-slice, slice-slice, part-slice}
 use Rattle.proofrecords.specs.ProofBytes.{isPresence, presenceIn, stepCount, stepsIn}
 use Rattle.proofrecords.proofs.Lying.{first-at, fromStep, next-step, one-less, none-left}
-use Rattle.messages.specs.Wire.{varintIn, varint, numberTag, bytesTag, messageField, bytesField, numberField}
+use Rattle.messages.specs.Wire.{varintIn, varint, bytesTag, messageField, bytesField, numberField}
 use Rattle.messages.specs.Message.{existence, neighbourField, leafBytes, existenceBytes}
 use Rattle.messages.specs.Raws.{leafOp, innerOp, path}
 use Rattle.messages.specs.Lending.{rawPresence, rawNeighbour}
@@ -68,7 +68,7 @@ inner-parts y h = go (eqb (getD y 0 0) 1)
 
 -- our leaf op's field
 pub leaf-field : messageField 3 leafOp ≡ 26 ∷ 9 ∷ 8 ∷ 1 ∷ 16 ∷ 1 ∷ 24 ∷ 1 ∷ 42 ∷ 1 ∷ 1 ∷ []
-unfolding leafBytes varintIn varint numberTag bytesTag messageField bytesField numberField
+unfolding leafBytes varintIn varint bytesTag messageField bytesField numberField
 leaf-field = refl
 
 -- step i where it lies

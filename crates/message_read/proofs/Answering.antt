@@ -20,7 +20,7 @@ use Rattle.messages.specs.Reading.{messageIn}
 use Rattle.messages.specs.Lending.{fitted, recordOf, readFrom}
 use Rattle.messages.specs.Spots.{spotsIn}
 use Rattle.messages.proofs.Back.{message-at-most, message-exactly, message-said}
-use Rattle.message_rules.specs.Contracts.{Encodes, Which, read, answerBytes, ReadsMessage}
+use Rattle.message_rules.specs.Contracts.{Encodes, read, answerBytes, ReadsMessage}
 use Rattle.message_rules.specs.Answers.{spotsBytes, readInto, answerBytes as answerOfSpots}
 use Rattle.message_rules.proofs.Writing.{written-front}
 use Rattle.message_rules.proofs.Ties.{encodes-raw, raw-encodes, read-as, told-as}
@@ -52,11 +52,11 @@ encodes {m} {q} b e = let s = message-said m q b e in raw-encodes (s .0) (s .1)
 pub short : {m : Bytes} {q : Proof} → Encodes (recordOf sha256 q) m q → length m ≤ 29999
 short {m} {q} e = omega (arith, message-at-most q (encodes-raw e), most-bytes q, ap length (e .is))
 
-says-none : {m : Bytes} → All Byte m → messageIn m ≡ none → Which (λ q. Encodes (recordOf sha256 q) m q) none
+says-none : {m : Bytes} → All Byte m → messageIn m ≡ none → (q : Proof) → Encodes (recordOf sha256 q) m q → ⊥
 says-none {m} b e q k = Option·none-ne-some q (sym e ∙ message-exactly m q b .1 (encodes-raw k, k .is))
 
 pub reads-nothing : {m room f : Bytes} → All Byte m → messageIn m ≡ none → ReadsMessage m room f 10 room f
-reads-nothing b e = record { said = none; exactly = says-none b e; answer = refl; record-is = refl; told = refl }
+reads-nothing b e = record { said = none; exactly = says-none b e; exported = record { number = refl; told = refl }; record-is = refl }
 
 told-alike : (a : Answer Proof) (f : Bytes) → toldOf answerOfSpots a f ≡ toldOf answerBytes a f
 told-alike (refused n) f = refl
@@ -67,7 +67,9 @@ reads-as {m} {room} {f} {t} {g} {q} e a =
     let same = read-as (some q) room in record {
       said = some q;
       exactly = e;
-      answer = a .answer ∙ ap (λ o. numberOf o) same;
+      exported = record {
+        number = a .answer ∙ ap (λ o. numberOf o) same;
+        told = a .told ∙ ap (λ o. toldOf answerOfSpots o f) same ∙ told-alike (read (some q) room) f;
+      };
       record-is = a .record-is ∙ ap (λ o. roomAfter (recordOf sha256) o room) same;
-      told = a .told ∙ ap (λ o. toldOf answerOfSpots o f) same ∙ told-alike (read (some q) room) f;
     }

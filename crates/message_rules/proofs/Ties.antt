@@ -15,7 +15,7 @@ use Rattle.meaning.specs.Calls.{Answer, refused, accepted}
 use Rattle.meaning.specs.Answers.{numberOf, toldOf, roomAfter}
 use Rattle.sha256.specs.Sha256.{sha256}
 use Rattle.sha256.proofs.Digests.{digest-whole}
-use Rattle.proofrecords.specs.ProofBytes.{proofBytes, ProofIs, ProofSaid}
+use Rattle.proofrecords.specs.ProofBytes.{proofBytes, ProofIs, Which}
 use Rattle.proofrecords.proofs.Proofs.{one-proof-is}
 use Rattle.messages.specs.Message.{existence, neighbourField, nonexistence, messageBytes, ownProof}
 use Rattle.messages.specs.Raws.{RawProof}
@@ -26,7 +26,7 @@ use Rattle.messages.specs.Spots.{Spot, fieldHead, keySpot, valueSpot, leafSpots
 use Rattle.messages.proofs.Lending.{hashes-said, lent-said, own-form}
 use Rattle.messages.proofs.Back.{one-message}
 use Rattle.messages.proofs.Parts.{raw-parts, parts-raw, leaves-lent, lent-of-presence, lent-of-absence}
-use Rattle.message_rules.specs.Contracts.{Encodes, recordOf, AskedFor, Lends, Which, fitted, written, read, answerBytes}
+use Rattle.message_rules.specs.Contracts.{Encodes, recordOf, AskedFor, Lends, fitted, written, read, answerBytes}
 use Rattle.message_rules.specs.Answers.{writtenInto, readInto, spotBytes, spotsBytes, answerBytes as answerOfSpots}
 
 -- what is encoded is raw, and what is raw is encoded
@@ -140,7 +140,7 @@ in-room q room = go (ltb (length room) (length (messageBytes q)))
     go true = refl
     go false = refl
 
-pub writes-as : (x : Bytes) (said : Option Proof) (lent : Lent) (room : Bytes) → ProofSaid x said → LentBytes lent → WritesAs x said lent room
+pub writes-as : (x : Bytes) (said : Option Proof) (lent : Lent) (room : Bytes) → Which (ProofIs x) said → LentBytes lent → WritesAs x said lent room
 unfolding writtenFrom
 writes-as x none lent room is b = record { raw = none; lends = λ q h. is (ownProof sha256 q) (h .encodes .own); same = refl }
 writes-as x (some p) lent room is b = go (lentFits sha256 lent p) refl

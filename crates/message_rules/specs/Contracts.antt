@@ -1,5 +1,4 @@
--- Document 02, request 2026-02, over bytes: what writing and reading a message answer to any bytes, and every byte that
--- they leave. Assumes nothing.
+-- Document 02, 2026-02: what writing and reading a message answer to any bytes, and what they leave. Assumes nothing.
 use Prim.Native.Nat.{ℕ}
 use mathlib.Core.Path.{_≡_}
 use mathlib.Core.Bool.{cond}
@@ -11,9 +10,9 @@ use Rattle.terms.specs.Bits.{Bytes, All}
 use Rattle.terms.specs.Fields.{le, flat}
 use Rattle.terms.specs.Records.{Proof, presence, absence}
 use Rattle.meaning.specs.Calls.{Answer, refused, accepted}
-use Rattle.meaning.specs.Answers.{numberOf, toldOf, roomAfter}
+use Rattle.meaning.specs.Answers.{roomAfter, Exported}
 use Rattle.sha256.specs.Sha256.{sha256}
-use Rattle.proofrecords.specs.ProofBytes.{proofBytes, ProofIs, ProofSaid}
+use Rattle.proofrecords.specs.ProofBytes.{proofBytes, ProofIs, Which}
 use Rattle.messages.specs.Message.{messageBytes, ownProof}
 use Rattle.messages.specs.Parts.{Raw, askedIn, leavesIn, twoLeaves}
 
@@ -32,17 +31,11 @@ abbrev pub AskedFor : Bytes → Proof → Type 0
 AskedFor asked (presence p) = Raw 256 asked × (sha256 asked ≡ sha256 (p .key))
 AskedFor asked (absence a) = asked ≡ a .key
 
--- What is lent beside the record x makes the message of q: the raw key asked for, and raw key and value of the leaf
--- shown or the left of two, and of the right of two.
+-- What is lent beside x makes the message of q: the raw key asked for, raw key and value of the leaf or of both leaves.
 pub record Lends (x asked : Bytes) (leaves : List Bytes) (q : Proof) : Type 0 where
   pub encodes : Encodes x (messageBytes q) q
   pub asked-for : AskedFor asked q
   pub leaves-are : leaves ≡ map (λ p. p .bytes) (twoLeaves q)
-
--- Which proof something holds of; none, where it holds of none.
-abbrev pub Which : (Proof → Type 0) → Option Proof → Type 0
-Which P none = (q : Proof) → P q → ⊥
-Which P (some q) = P q
 
 -- 9 where the bytes of a proof don't fit the room.
 abbrev pub fitted : (Proof → Bytes) → Proof → Bytes → Answer Proof
@@ -61,15 +54,13 @@ read (some q) room = fitted recordOf q room
 -- Writing the message of the record x answers r; the room is left as t, the array f for the message's length as g.
 pub record WritesMessage (x asked : Bytes) (leaves : List Bytes) (room f : Bytes) (r : ℕ) (t g : Bytes) : Type 0 where
   pub said : Option Proof
-  pub exactly : ProofSaid x said
+  pub exactly : Which (ProofIs x) said
   pub raw : Option Proof
   pub lent : Which (Lends x asked leaves) raw
-  pub answer : r ≡ numberOf (written said raw room)
+  pub exported : Exported (written said raw room) (λ q. le 4 (length (messageBytes q))) f r g
   pub message : t ≡ roomAfter messageBytes (written said raw room) room
-  pub told : g ≡ toldOf (λ q. le 4 (length (messageBytes q))) (written said raw room) f
 
--- The record's length, then where the raw key asked for and raw key and value of each leaf stand: offset and length, 4
--- bytes each.
+-- The record's length, then offset and length of the raw key asked for and of each leaf's key and value: 4 bytes each.
 abbrev pub answerBytes : Proof → Bytes
 answerBytes q =
     le 4 (length (recordOf q)) ++ flat (map (λ p. le 4 (p .at) ++ le 4 (length (p .bytes))) (askedIn q ∷ twoLeaves q))
@@ -78,6 +69,5 @@ answerBytes q =
 pub record ReadsMessage (m room f : Bytes) (r : ℕ) (t g : Bytes) : Type 0 where
   pub said : Option Proof
   pub exactly : Which (λ q. Encodes (recordOf q) m q) said
-  pub answer : r ≡ numberOf (read said room)
+  pub exported : Exported (read said room) answerBytes f r g
   pub record-is : t ≡ roomAfter recordOf (read said room) room
-  pub told : g ≡ toldOf answerBytes (read said room) f

@@ -14,12 +14,12 @@ use Rattle.terms.specs.Records.{Proof, presence, absence}
 use Rattle.meaning.specs.Calls.{Answer, refused, accepted}
 use Rattle.meaning.specs.Answers.{numberOf, toldOf, roomAfter}
 use Rattle.sha256.specs.Sha256.{sha256}
-use Rattle.proofrecords.specs.ProofBytes.{ProofSaid, ProofIs}
+use Rattle.proofrecords.specs.ProofBytes.{ProofIs, Which}
 use Rattle.proofrecords.proofs.Proofs.{one-proof-said}
 use Rattle.messages.specs.Message.{messageBytes, ownProof}
 use Rattle.messages.specs.Parts.{askedIn, leavesIn, twoLeaves, StandsIn}
 use Rattle.messages.proofs.Spots.{raw-stands-there}
-use Rattle.message_rules.specs.Contracts.{Encodes, recordOf, AskedFor, Lends, Which, fitted, written, read, WritesMessage, answerBytes, ReadsMessage}
+use Rattle.message_rules.specs.Contracts.{Encodes, recordOf, AskedFor, Lends, fitted, written, read, WritesMessage, answerBytes, ReadsMessage}
 use Rattle.message_rules.proofs.Ties.{encodes-raw, one-encoded, one-which, one-lends}
 
 -- Two outcomes are one.
@@ -29,18 +29,18 @@ one-write {x} {asked} {leaves} {room} {f} v w =
     let e = one-proof-said x (v .said) (w .said) (v .exactly) (w .exactly) in
     let k = one-which one-lends (v .raw) (w .raw) (v .lent) (w .lent) in
     let same : written (v .said) (v .raw) room ≡ written (w .said) (w .raw) room = ap₂ (λ s r. written s r room) e k in (
-      v .answer ∙ ap (λ o. numberOf o) same ∙ sym (w .answer),
+      v .exported .number ∙ ap (λ o. numberOf o) same ∙ sym (w .exported .number),
       v .message ∙ ap (λ o. roomAfter messageBytes o room) same ∙ sym (w .message),
-      v .told ∙ ap (λ o. toldOf (λ q. le 4 (length (messageBytes q))) o f) same ∙ sym (w .told),
+      v .exported .told ∙ ap (λ o. toldOf (λ q. le 4 (length (messageBytes q))) o f) same ∙ sym (w .exported .told),
     )
 
 pub one-read : {m room f t g u h : Bytes} {a b : ℕ} → ReadsMessage m room f a t g → ReadsMessage m room f b u h → (a ≡ b) × (t ≡ u) × (g ≡ h)
 one-read {m} {room} {f} v w =
     let e = one-which (λ p q. one-encoded) (v .said) (w .said) (v .exactly) (w .exactly) in
     let same : read (v .said) room ≡ read (w .said) room = ap (λ s. read s room) e in (
-      v .answer ∙ ap (λ o. numberOf o) same ∙ sym (w .answer),
+      v .exported .number ∙ ap (λ o. numberOf o) same ∙ sym (w .exported .number),
       v .record-is ∙ ap (λ o. roomAfter recordOf o room) same ∙ sym (w .record-is),
-      v .told ∙ ap (λ o. toldOf answerBytes o f) same ∙ sym (w .told),
+      v .exported .told ∙ ap (λ o. toldOf answerBytes o f) same ∙ sym (w .exported .told),
     )
 
 -- A refused call writes nothing.
@@ -51,13 +51,13 @@ refused-keeps bytes tell (accepted a) room f h = absurd (h refl)
 pub refused-write-writes-nothing : {x asked : Bytes} {leaves : List Bytes} {room f t g : Bytes} {r : ℕ} → WritesMessage x asked leaves room f r t g → (r ≡ 0 → ⊥) →
     (t ≡ room) × (g ≡ f)
 refused-write-writes-nothing {room = room} {f} w h =
-    let k = refused-keeps messageBytes (λ q. le 4 (length (messageBytes q))) (written (w .said) (w .raw) room) room f (λ z. h (w .answer ∙ z)) in
-    (w .message ∙ k .0, w .told ∙ k .1)
+    let k = refused-keeps messageBytes (λ q. le 4 (length (messageBytes q))) (written (w .said) (w .raw) room) room f (λ z. h (w .exported .number ∙ z)) in
+    (w .message ∙ k .0, w .exported .told ∙ k .1)
 
 pub refused-read-writes-nothing : {m room f t g : Bytes} {r : ℕ} → ReadsMessage m room f r t g → (r ≡ 0 → ⊥) → (t ≡ room) × (g ≡ f)
 refused-read-writes-nothing {m} {room} {f} w h =
-    let k = refused-keeps recordOf answerBytes (read (w .said) room) room f (λ z. h (w .answer ∙ z)) in
-    (w .record-is ∙ k .0, w .told ∙ k .1)
+    let k = refused-keeps recordOf answerBytes (read (w .said) room) room f (λ z. h (w .exported .number ∙ z)) in
+    (w .record-is ∙ k .0, w .exported .told ∙ k .1)
 
 -- what has room is accepted, and what is accepted has room
 in-room : (bytes : Proof → Bytes) (q : Proof) (room : Bytes) → length (bytes q) ≤ length room → fitted bytes q room ≡ accepted q
@@ -90,9 +90,9 @@ read-back {x} {m} {room} {f} {q = q} e long v =
     let own : Encodes (recordOf q) m q = subst (λ y. Encodes y m q) (sym n) e in
     let said : read (v .said) room ≡ accepted q =
     ap (λ s. read s room) (one-which (λ p q. one-encoded) (v .said) (some q) (v .exactly) own) ∙ in-room recordOf q room (omega (arith, ap length n, long)) in (
-      v .answer ∙ ap (λ o. numberOf o) said,
+      v .exported .number ∙ ap (λ o. numberOf o) said,
       v .record-is ∙ ap (λ o. roomAfter recordOf o room) said ∙ ap (λ y. y ++ drop (length y) room) n,
-      v .told ∙ ap (λ o. toldOf answerBytes o f) said,
+      v .exported .told ∙ ap (λ o. toldOf answerBytes o f) said,
     )
 
 -- A record and the raw keys and values of its message, written with enough room, make the message.
@@ -112,9 +112,9 @@ written-again {x} {m} {room} {f} {q = q} e long v =
     let k = one-which one-lends (v .raw) (some q) (v .lent) lends in
     let said : written (v .said) (v .raw) room ≡ accepted q =
     ap₂ (λ a b. written a b room) s k ∙ in-room messageBytes q room (omega (arith, ap length (e .is), long)) in (
-      v .answer ∙ ap (λ o. numberOf o) said,
+      v .exported .number ∙ ap (λ o. numberOf o) said,
       v .message ∙ ap (λ o. roomAfter messageBytes o room) said ∙ ap (λ y. y ++ drop (length y) room) (e .is),
-      v .told ∙ ap (λ o. toldOf (λ p. le 4 (length (messageBytes p))) o f) said ∙ ap (λ y. le 4 (length y)) (e .is),
+      v .exported .told ∙ ap (λ o. toldOf (λ p. le 4 (length (messageBytes p))) o f) said ∙ ap (λ y. le 4 (length y)) (e .is),
     )
 
 -- The raw keys and values of a message stand where its parts say.
@@ -130,11 +130,11 @@ pub record Message (x asked : Bytes) (leaves : List Bytes) (room t g : Bytes) : 
 
 pub written-message : {x asked : Bytes} {leaves : List Bytes} {room f t g : Bytes} → WritesMessage x asked leaves room f 0 t g → Message x asked leaves room t g
 written-message {x} {asked} {leaves} {room} {f} w =
-    let a = accepted-write (w .said) (w .raw) room (w .lent) (sym (w .answer)) in record {
+    let a = accepted-write (w .said) (w .raw) room (w .lent) (sym (w .exported .number)) in record {
       proof = a .0;
       lends = a .1;
       room-is = w .message ∙ ap (λ o. roomAfter messageBytes o room) (a .2);
-      told-is = w .told ∙ ap (λ o. toldOf (λ q. le 4 (length (messageBytes q))) o f) (a .2);
+      told-is = w .exported .told ∙ ap (λ o. toldOf (λ q. le 4 (length (messageBytes q))) o f) (a .2);
     }
 
 -- A message that was read.
@@ -146,9 +146,9 @@ pub record ReadBack (m room t g : Bytes) : Type 0 where
 
 pub read-message : {m room f t g : Bytes} → ReadsMessage m room f 0 t g → ReadBack m room t g
 read-message {m} {room} {f} w =
-    let a = accepted-read (w .said) room (w .exactly) (sym (w .answer)) in record {
+    let a = accepted-read (w .said) room (w .exactly) (sym (w .exported .number)) in record {
       proof = a .0;
       encodes = a .1;
       room-is = w .record-is ∙ ap (λ o. roomAfter recordOf o room) (a .2);
-      told-is = w .told ∙ ap (λ o. toldOf answerBytes o f) (a .2);
+      told-is = w .exported .told ∙ ap (λ o. toldOf answerBytes o f) (a .2);
     }

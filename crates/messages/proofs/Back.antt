@@ -15,7 +15,7 @@ use Rattle.terms.specs.Records.{Step, Presence, Absence, Proof, presence, absen
 use Rattle.terms.proofs.Tests.{and-left, and-right, same-bytes, bytes-same}
 use Rattle.terms.proofs.Fields.{all-of-tests}
 use Rattle.proofrecords.specs.ProofBytes.{flagsOf}
-use Rattle.messages.specs.Wire.{varintIn, varint, numberTag, bytesTag, messageField, bytesField, numberField}
+use Rattle.messages.specs.Wire.{varintIn, varint, bytesTag, messageField, bytesField, numberField}
 use Rattle.messages.specs.Message.{existence, neighbourField, nonexistence, messageBytes, mostBytes, leafBytes, innerBytes, existenceBytes, opOf}
 use Rattle.messages.specs.Raws.{leafOp, path, RawPresence, RawNeighbour, RawProof}
 use Rattle.messages.specs.Parts.{Raw}
@@ -36,7 +36,7 @@ right-length most x h e =
     record { some-byte = leb-true 1 (length x) (and-left one many e); short = leb-true (length x) most (and-right one many e); bytes = h }
 
 length-leaf : length leafOp ≡ 9
-unfolding leafBytes varintIn varint numberTag bytesTag messageField bytesField numberField
+unfolding leafBytes varintIn varint bytesTag messageField bytesField numberField
 length-leaf = refl
 
 -- an existence proof, field after field

@@ -9,7 +9,7 @@ use Rattle.terms.specs.Fields.{le, slice, field, allOf}
 use Rattle.terms.specs.Records.{Presence, Proof, presence, absence}
 use Rattle.proofrecords.specs.ProofBytes.{presenceBytes, stepCount, isPresence, presenceIn, leftLength, leftPart, rightPart, flags, neighboursFit, isAbsence, proofIn}
 use Rattle.meaning.specs.Calls.{refused, accepted}
-use Rattle.messages.specs.Wire.{varintIn, varint, numberTag, bytesTag, messageField, bytesField, numberField}
+use Rattle.messages.specs.Wire.{varintIn, varint, bytesTag, messageField, bytesField, numberField}
 use Rattle.messages.specs.Message.{existence, nonexistence, messageBytes, leafBytes, innerBytes, existenceBytes}
 use Rattle.messages.specs.Raws.{leafOp, innerOp}
 use Rattle.messages.specs.Reading.{onward, onlyIf, notZero, stepIn, lengthRight, existenceIn, neighbourFrom, nonexistenceIn, fieldAlone, messageIn}
@@ -58,7 +58,7 @@ presences :
     ++ (34 ∷ 37 ∷ 8 ∷ 1 ∷ 18 ∷ 33 ∷ 0 ∷ [])
     ++ replicate 32 9
     )
-unfolding varintIn varint numberTag bytesTag messageField bytesField numberField leafBytes innerBytes existenceBytes allOf onward onlyIf notZero stepIn lengthRight existenceIn
+unfolding varintIn varint bytesTag messageField bytesField numberField leafBytes innerBytes existenceBytes allOf onward onlyIf notZero stepIn lengthRight existenceIn
     fieldAlone messageIn
 presences = ((refl, refl), (refl, refl))
 
@@ -75,7 +75,7 @@ absences :
     ++ (34 ∷ 37 ∷ 8 ∷ 1 ∷ 18 ∷ 33 ∷ 0 ∷ [])
     ++ replicate 32 4
     )
-unfolding varintIn varint numberTag bytesTag messageField bytesField numberField leafBytes innerBytes existenceBytes nonexistence allOf onward onlyIf notZero stepIn lengthRight existenceIn
+unfolding varintIn varint bytesTag messageField bytesField numberField leafBytes innerBytes existenceBytes nonexistence allOf onward onlyIf notZero stepIn lengthRight existenceIn
     neighbourFrom nonexistenceIn fieldAlone messageIn
 absences = ((refl, refl), (refl, refl), (refl, refl))
 
@@ -84,7 +84,7 @@ ends :
     No []
     × No ((10 ∷ 17 ∷ 10 ∷ 1 ∷ 97 ∷ 18 ∷ 1 ∷ 98 ∷ []) ++ leafField ++ (0 ∷ []))
     × No ((10 ∷ 18 ∷ 10 ∷ 1 ∷ 97 ∷ 18 ∷ 1 ∷ 98 ∷ []) ++ leafField)
-unfolding varintIn varint numberTag bytesTag messageField bytesField numberField leafBytes allOf onward onlyIf notZero stepIn lengthRight existenceIn neighbourFrom nonexistenceIn
+unfolding varintIn varint bytesTag messageField bytesField numberField leafBytes allOf onward onlyIf notZero stepIn lengthRight existenceIn neighbourFrom nonexistenceIn
     fieldAlone messageIn
 ends = (refl, refl, refl)
 
@@ -96,7 +96,7 @@ others :
     × No ((10 ∷ 20 ∷ 10 ∷ 1 ∷ 97 ∷ 18 ∷ 1 ∷ 98 ∷ []) ++ leafField ++ (42 ∷ 1 ∷ 0 ∷ []))
     × No ((10 ∷ 16 ∷ 10 ∷ 0 ∷ 18 ∷ 1 ∷ 98 ∷ []) ++ leafField)
     × No ((10 ∷ 58 ∷ 10 ∷ 1 ∷ 97 ∷ 18 ∷ 1 ∷ 98 ∷ []) ++ leafField ++ (34 ∷ 39 ∷ 8 ∷ 1 ∷ 18 ∷ 33 ∷ 0 ∷ []) ++ replicate 32 9 ++ (26 ∷ 0 ∷ []))
-unfolding varintIn varint numberTag bytesTag messageField bytesField numberField leafBytes allOf onward onlyIf notZero stepIn lengthRight existenceIn neighbourFrom nonexistenceIn
+unfolding varintIn varint bytesTag messageField bytesField numberField leafBytes allOf onward onlyIf notZero stepIn lengthRight existenceIn neighbourFrom nonexistenceIn
     fieldAlone messageIn
 others = (refl, refl, refl, refl, refl, refl)
 
@@ -109,7 +109,7 @@ codes :
     × No (18 ∷ 3 ∷ 10 ∷ 1 ∷ 109 ∷ [])
     × No ((10 ∷ 17 ∷ 10 ∷ 1 ∷ 97 ∷ 18 ∷ 1 ∷ 98 ∷ []) ++ leafField ++ (18 ∷ 22 ∷ 10 ∷ 1 ∷ 109 ∷ 18 ∷ 17 ∷ 10 ∷ 1 ∷ 97 ∷ 18 ∷ 1 ∷ 98 ∷ []) ++ leafField)
     × No ((26 ∷ 17 ∷ 10 ∷ 1 ∷ 97 ∷ 18 ∷ 1 ∷ 98 ∷ []) ++ leafField)
-unfolding varintIn varint numberTag bytesTag messageField bytesField numberField leafBytes allOf onward onlyIf notZero stepIn lengthRight existenceIn neighbourFrom nonexistenceIn
+unfolding varintIn varint bytesTag messageField bytesField numberField leafBytes allOf onward onlyIf notZero stepIn lengthRight existenceIn neighbourFrom nonexistenceIn
     fieldAlone messageIn
 codes = (refl, refl, refl, refl, refl, refl, refl)
 
@@ -119,7 +119,7 @@ lengths :
     ((10 ∷ 145 ∷ 2 ∷ 10 ∷ 128 ∷ 2 ∷ []) ++ replicate 256 5 ++ (18 ∷ 1 ∷ 98 ∷ []) ++ leafField)
     × No ((10 ∷ 146 ∷ 2 ∷ 10 ∷ 129 ∷ 2 ∷ []) ++ replicate 257 5 ++ (18 ∷ 1 ∷ 98 ∷ []) ++ leafField)
     × No ((10 ∷ 146 ∷ 32 ∷ 10 ∷ 1 ∷ 97 ∷ 18 ∷ 129 ∷ 32 ∷ []) ++ replicate 4097 5 ++ leafField)
-unfolding varintIn varint numberTag bytesTag messageField bytesField numberField leafBytes existenceBytes allOf onward onlyIf notZero stepIn lengthRight existenceIn
+unfolding varintIn varint bytesTag messageField bytesField numberField leafBytes existenceBytes allOf onward onlyIf notZero stepIn lengthRight existenceIn
     neighbourFrom nonexistenceIn fieldAlone messageIn
 lengths = ((refl, refl), refl, refl)
 
@@ -150,7 +150,7 @@ writing :
     × (writtenFrom shown32 (proofIn aloneRecord) (lending [] (97 ∷ []) (98 ∷ []) [] []) 19 ≡ refused 15)
     × (writtenFrom shown32 (proofIn aloneRecord) (lending (97 ∷ []) (replicate 257 97) (98 ∷ []) [] []) 600 ≡ refused 15)
     × (writtenFrom shown32 (proofIn aloneRecord) (lending (97 ∷ []) (97 ∷ []) (98 ∷ []) (97 ∷ []) (98 ∷ [])) 19 ≡ refused 15)
-unfolding varintIn varint numberTag bytesTag messageField bytesField numberField leafBytes existenceBytes allOf slice field le stepCount isPresence presenceIn leftLength leftPart
+unfolding varintIn varint bytesTag messageField bytesField numberField leafBytes existenceBytes allOf slice field le stepCount isPresence presenceIn leftLength leftPart
     rightPart flags neighboursFit isAbsence proofIn lengthRight unlent hashesTo leafFits fitted writtenFrom
 writing = (refl, refl, refl, refl, refl, refl, refl, refl, refl)
 
@@ -159,7 +159,7 @@ reading :
     × (recordOf shown32 (presence alone) ≡ aloneRecord)
     × (read shown32 (aloneMessage ++ (0 ∷ [])) 0 ≡ refused 10)
     × (read shown32 aloneMessage 71 ≡ refused 9)
-unfolding varintIn varint numberTag bytesTag messageField bytesField numberField leafBytes existenceBytes allOf onward onlyIf notZero stepIn lengthRight existenceIn neighbourFrom
+unfolding varintIn varint bytesTag messageField bytesField numberField leafBytes existenceBytes allOf onward onlyIf notZero stepIn lengthRight existenceIn neighbourFrom
     nonexistenceIn fieldAlone messageIn le presenceBytes fitted readFrom read
 reading = (refl, refl, refl, refl)
 
@@ -170,5 +170,5 @@ longest = record { key = replicate 256 5; value = replicate 4096 5; steps = repl
 sizes :
     (length (messageBytes (presence longest)) ≡ 14868)
     × (length (messageBytes (absence (record { key = replicate 256 5; leftward = some longest; rightward = some longest }))) ≡ 29999)
-unfolding varintIn varint numberTag bytesTag messageField bytesField numberField leafBytes innerBytes existenceBytes nonexistence
+unfolding varintIn varint bytesTag messageField bytesField numberField leafBytes innerBytes existenceBytes nonexistence
 sizes = (refl, refl)

@@ -1,6 +1,5 @@
--- Document 02, request 2026-02: the protobuf CommitmentProof, presence or absence, by ICS 23's published proto file
--- (cosmos.ics23.v1). What a message says is a proof of ours in which keys and values are raw; fields stand in number
--- order. Assumes nothing.
+-- Document 02, 2026-02: the CommitmentProof of ICS 23's published proto file (cosmos.ics23.v1), fields in number order.
+-- What a message says is a proof of ours in which keys and values are raw. Assumes nothing.
 use Prim.Native.Nat.{ℕ}
 use mathlib.Core.Bool.{cond}
 use mathlib.Core.List.{List, [], _∷_, map}
@@ -32,23 +31,15 @@ pub record Existence : Type 0 where
 -- Their bytes: the fields are numbered as they stand above; each op of the path is a field 4.
 unfoldable pub leafBytes : LeafOp → Bytes
 leafBytes op =
-    flat
-    (numberField 1 (op .hash)
-    ∷ numberField 2 (op .prehashKey)
-    ∷ numberField 3 (op .prehashValue)
-    ∷ numberField 4 (op .lengthOp)
-    ∷ bytesField 5 (op .prefix)
-    ∷ [])
+    flat (numberField 1 (op .hash) ∷ numberField 2 (op .prehashKey) ∷ numberField 3 (op .prehashValue)
+    ∷ numberField 4 (op .lengthOp) ∷ bytesField 5 (op .prefix) ∷ [])
 
 unfoldable pub innerBytes : InnerOp → Bytes
 innerBytes op = flat (numberField 1 (op .hash) ∷ bytesField 2 (op .prefix) ∷ bytesField 3 (op .suffix) ∷ [])
 
 unfoldable pub existenceBytes : Existence → Bytes
 existenceBytes e =
-    flat
-    (bytesField 1 (e .key)
-    ∷ bytesField 2 (e .value)
-    ∷ messageField 3 (leafBytes (e .leaf))
+    flat (bytesField 1 (e .key) ∷ bytesField 2 (e .value) ∷ messageField 3 (leafBytes (e .leaf))
     ∷ map (λ op. messageField 4 (innerBytes op)) (e .path))
 
 -- Keys and values are hashed before use, no length prefix, leaf prefix byte 1.
@@ -57,10 +48,7 @@ ourLeaf = record { hash = 1; prehashKey = 1; prehashValue = 1; lengthOp = 0; pre
 
 -- Inner prefix byte 0, and the sibling on its side of the node's hash.
 abbrev pub opOf : Step → InnerOp
-opOf s =
-    cond (s .side)
-    (record { hash = 1; prefix = 0 ∷ s .sibling; suffix = [] })
-    (record { hash = 1; prefix = 0 ∷ []; suffix = s .sibling })
+opOf s = record { hash = 1; prefix = 0 ∷ cond (s .side) (s .sibling) []; suffix = cond (s .side) [] (s .sibling) }
 
 -- A leaf shown, with its path from the leaf upwards.
 abbrev pub existenceOf : Presence → Existence
@@ -82,7 +70,6 @@ abbrev pub messageBytes : Proof → Bytes
 messageBytes (presence p) = messageField 1 (existence p)
 messageBytes (absence a) = messageField 2 (nonexistence a)
 
--- A message of a presence has at most 14,868 bytes, of an absence at most 29,999.
 abbrev pub mostBytes : Proof → ℕ
 mostBytes (presence p) = 14868
 mostBytes (absence a) = 29999
@@ -94,6 +81,5 @@ module _ (sha : Bytes → Bytes) where
 
   abbrev pub ownProof : Proof → Proof
   ownProof (presence p) = presence (ownPresence p)
-  ownProof (absence a) =
-      let own = Option·map ownPresence in
+  ownProof (absence a) = let own = Option·map ownPresence in
       absence (record { key = sha (a .key); leftward = own (a .leftward); rightward = own (a .rightward) })

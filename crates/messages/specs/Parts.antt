@@ -1,5 +1,4 @@
--- Document 02, request 2026-02: the raw keys and values that a message holds, and where in it they stand. Assumes
--- nothing.
+-- Document 02, 2026-02: the raw keys and values that a message holds, and where in it they stand. Assumes nothing.
 use Prim.Native.Nat.{ℕ, _+_, _≤_}
 use mathlib.Core.Path.{_≡_}
 use mathlib.Core.List.{List, [], _∷_, _++_}
@@ -17,7 +16,6 @@ pub record Part : Type 0 where
   pub most : ℕ
   pub bytes : Bytes
 
--- 1 to `most` bytes.
 pub record Raw (most : ℕ) (x : Bytes) : Type 0 where
   pub some-byte : 1 ≤ length x
   pub short : length x ≤ most
@@ -58,6 +56,5 @@ leavesIn (absence a) =
 abbrev pub twoLeaves : Proof → List Part
 twoLeaves q = take 4 (leavesIn q ++ replicate 4 (record { at = 0; most = 0; bytes = [] }))
 
--- It stands there in the message m.
 abbrev pub StandsIn : Bytes → Part → Type 0
 StandsIn m p = slice (p .at) (length (p .bytes)) m ≡ p .bytes

@@ -1,5 +1,4 @@
--- Protocol Buffers, 'Encoding', as far as document 02, 2026-02, needs it: shortest varints, fields by their numbers,
--- default values left out. Assumes nothing.
+-- Protocol Buffers, 'Encoding', as far as document 02, 2026-02, needs it; default values left out. Assumes nothing.
 use Prim.Native.Nat.{ℕ, zero, suc, _+_, _*_, _/_, _%_}
 use mathlib.Core.Bool.{cond}
 use mathlib.Core.List.{[], _∷_, _++_}
@@ -7,21 +6,15 @@ use lib.ListN.{length}
 use lib.Dec.{ltb, eqb}
 use Rattle.terms.specs.Bits.{Bytes}
 
--- A varint of at most n bytes more than one: seven bits in each byte, the lowest first, with 128 added where another
--- byte follows. None follows where nothing is left: the shortest.
+-- The shortest varint, of at most n + 1 bytes: seven bits in each, the lowest first, and 128 added where one follows.
 unfoldable pub varintIn : ℕ → ℕ → Bytes
 varintIn zero x = x ∷ []
 varintIn (suc n) x = cond (ltb x 128) (x ∷ []) ((128 + x % 128) ∷ varintIn n (x / 128))
 
--- A varint has at most ten bytes.
 unfoldable pub varint : ℕ → Bytes
 varint x = varintIn 9 x
 
--- Before a field stands its tag: its number, and 0 for a number or 2 for bytes and messages, which begin with their
--- length.
-unfoldable pub numberTag : ℕ → Bytes
-numberTag n = varint (8 * n)
-
+-- Before a field stands its tag: its number, and 0 for a number or 2 for bytes and messages, which begin with a length.
 unfoldable pub bytesTag : ℕ → Bytes
 bytesTag n = varint (8 * n + 2)
 
@@ -35,4 +28,4 @@ bytesField n x = cond (eqb (length x) 0) [] (messageField n x)
 
 -- Field n that holds a number or an operation code; 0, the default, is left out.
 unfoldable pub numberField : ℕ → ℕ → Bytes
-numberField n x = cond (eqb x 0) [] (numberTag n ++ varint x)
+numberField n x = cond (eqb x 0) [] (varint (8 * n) ++ varint x)

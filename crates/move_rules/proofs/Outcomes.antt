@@ -11,7 +11,7 @@ use Rattle.layout.specs.Sizes.{capacityAt, oldestAt, latestAt, roomOf}
 use Rattle.layout.specs.Headers.{Headed, refusal, header, headerOf, headerRight, sizeRight}
 use Rattle.layout.specs.Stores.{storeIn, storeBytes}
 use Rattle.move_rules.specs.Moves.{other, movedFrom, SameRoom, Moves, wrong-size, wrong-header, not-sound, moves}
-use Rattle.move_rules.specs.Claims.{SoundIn}
+use Rattle.promises.specs.Calls.{SoundIn}
 
 -- a header is refused or accepted
 pub not-headed : {A : Type 0} {h : Headed} {m c o l : ℕ} → h ≡ refusal m → h ≡ header c o l → A

@@ -33,7 +33,8 @@ use Rattle.layout.proofs.Headers.{Accepted, room-of, size-right-of}
 use Rattle.layout.proofs.Headers as headers
 use Rattle.layout.proofs.Stores.{store-accepted, store-said, store-size, store-room, slot-count, store-back, store-form}
 use Rattle.move_rules.specs.Moves.{other, movedFrom, SameRoom, Moves}
-use Rattle.move_rules.specs.Claims.{SoundIn, Alike, Moved}
+use Rattle.promises.specs.Calls.{SoundIn}
+use Rattle.move_rules.specs.Claims.{Alike, Moved}
 use Rattle.move_rules.proofs.Forms.{moved-form}
 use Rattle.move_rules.proofs.Outcomes.{sound-is-moved, moved-leaves, moved-was-sound}
 

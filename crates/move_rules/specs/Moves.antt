@@ -1,5 +1,4 @@
--- Document 02, request 2026-10: what a move answers for any bytes of a source and of a target, and what it leaves of
--- the target, whose former bytes don't matter. Assumes nothing.
+-- Document 02, 2026-10: what a move answers for any bytes of a source and a target, and what it leaves of the target.
 use Prim.Native.Nat.{ℕ}
 use mathlib.Core.Path.{_≡_}
 use mathlib.Core.Bool.{true}
@@ -31,8 +30,7 @@ pub record SameRoom (from to : Form) (s old : Bytes) : Type 0 where
   pub target : sizeRight to (length old) ≡ true
   pub equal : roomOf from (length s) ≡ roomOf to (length old)
 
--- Moving the source s of a form into a target that holds the bytes old gives this number, 0 where it is accepted, and
--- leaves these bytes of the target.
+-- Moving the source s of a form into a target with the bytes old gives this number, 0 if accepted, and leaves these.
 pub data Moves (from : Form) (s old : Bytes) : ℕ → Bytes → Type 0 where
   -- 1: a source or target of wrong size; nothing is written
   wrong-size : (SameRoom from (other from) s old → ⊥) → Moves from s old 1 old

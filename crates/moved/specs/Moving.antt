@@ -19,7 +19,6 @@ recounted g s = map (onRecord (λ r. used (counting (g r) r))) s
 unfoldable pub countsIn : List Slot → Record → Tally
 countsIn s r = countsOf (treeFrom (256 - length (r .place)) s (r .version) (r .place))
 
--- A store counted anew, in a form.
 abbrev pub recountedIn : Form → (Record → Tally) → Store → Store
 recountedIn f g st = record { form = f; oldest = st .oldest; latest = st .latest; slots = recounted g (st .slots) }
 

@@ -1,5 +1,4 @@
--- Document 02, request 2026-04: the proofs for a list of keys in one call, for every store. Order: 12, for the list
--- alone; then 1, 2; then 8; then what the single calls are refused with, in the order asked; then 9. Assumes nothing.
+-- Document 02, 2026-04: the proofs for a list of keys in one call. Order: 12; 1, 2; 8; what single calls give; 9.
 use Prim.Native.Nat.{ℕ, zero, suc, _+_, _/_, _%_}
 use mathlib.Core.Bool.{Bool, cond, _&&_}
 use mathlib.Core.List.{List, [], _∷_}
@@ -10,24 +9,17 @@ use Rattle.terms.specs.Records.{Proof, Store}
 use Rattle.meaning.specs.Calls.{Answer, refused, accepted, isKept}
 use Rattle.meaning.specs.Proving.{proof, proofLength}
 
--- A key is 32 bytes; a list has at most 256.
-abbrev pub keySize : ℕ
-keySize = 32
-
-abbrev pub mostKeys : ℕ
-mostKeys = 256
-
--- The list is 0 to 256 whole keys.
+-- The list is 0 to 256 whole keys of 32 bytes.
 unfoldable pub wholeKeys : Bytes → Bool
-wholeKeys list = eqb (length list % keySize) 0 && leb (length list / keySize) mostKeys
+wholeKeys list = eqb (length list % 32) 0 && leb (length list / 32) 256
 
 -- Its first n keys, and all of them.
 abbrev pub keysFrom : ℕ → Bytes → List Bytes
 keysFrom zero list = []
-keysFrom (suc n) list = take keySize list ∷ keysFrom n (drop keySize list)
+keysFrom (suc n) list = take 32 list ∷ keysFrom n (drop 32 list)
 
 unfoldable pub keysIn : Bytes → List Bytes
-keysIn list = keysFrom (length list / keySize) list
+keysIn list = keysFrom (length list / 32) list
 
 -- A proof and those after it; the first refusal is the answer.
 abbrev pub followed : Answer Proof → Answer (List Proof) → Answer (List Proof)
@@ -40,7 +32,6 @@ abbrev pub inTurn : (Bytes → Answer Proof) → List Bytes → Answer (List Pro
 inTurn single [] = accepted []
 inTurn single (k ∷ keys) = followed (single k) (inTurn single keys)
 
--- The length of all together.
 abbrev pub lengthTogether : List Proof → ℕ
 lengthTogether [] = 0
 lengthTogether (p ∷ ps) = proofLength p + lengthTogether ps
@@ -50,10 +41,16 @@ abbrev pub fittedTogether : ℕ → Answer (List Proof) → Answer (List Proof)
 fittedTogether room (refused n) = refused n
 fittedTogether room (accepted ps) = cond (ltb room (lengthTogether ps)) (refused 9) (accepted ps)
 
--- The proofs for the keys in a version into a buffer of `room` bytes: 8, also where there are no keys; then as the
--- single calls; then 9.
+-- The proofs for the keys in a version, into `room` bytes: 8, also where there are no keys; then as single calls; 9.
 abbrev pub paletteOf : (Bytes → Answer Proof) → Store → ℕ → List Bytes → ℕ → Answer (List Proof)
 paletteOf single st v keys room = cond (isKept st v) (fittedTogether room (inTurn single keys)) (refused 8)
 
+-- By scans, and the numbers by name, as the laws cite them.
 unfoldable pub palette : Store → ℕ → List Bytes → ℕ → Answer (List Proof)
 palette st v keys room = paletteOf (proof st v) st v keys room
+
+abbrev pub keySize : ℕ
+keySize = 32
+
+abbrev pub mostKeys : ℕ
+mostKeys = 256

@@ -1,5 +1,4 @@
--- Document 02, request 2026-02: our ProofSpec, and what a partner who is told it says of a message of ours. Assumes
--- nothing.
+-- Document 02, 2026-02: our ProofSpec, and what a partner who is told it says of a message of ours. Assumes nothing.
 use Prim.Native.Nat.{ℕ}
 use mathlib.Core.Bool.{Bool, true}
 use mathlib.Core.List.{[], _∷_, _++_}
@@ -10,8 +9,7 @@ use Rattle.meaning.specs.Reading.{Verdict, present, absent}
 use Rattle.messages.specs.Message.{ourLeaf, existenceOf}
 use Rattle.partner.specs.Verifying.{ProofSpec, existenceHolds, nonExistenceHolds}
 
--- Two children of 32 bytes, left then right, zeros for none, after a prefix of one byte, hashed by SHA-256; at most 256
--- steps; keys compared after hashing.
+-- Two children of 32 bytes, left then right, after a prefix of one byte, by SHA-256; keys are compared after hashing.
 abbrev pub ourSpec : ProofSpec
 ourSpec = record {
   leafSpec = ourLeaf;
@@ -30,9 +28,8 @@ module _ (sha : Bytes → Bytes) where
   -- Whether a partner accepts a message: the key with its value, or the key's absence; and what our check answers then.
   abbrev pub partnerAccepts : Bytes → Proof → Bool
   partnerAccepts root (presence p) = existenceHolds ourSpec sha root (existenceOf p) (p .key) (p .value)
-  partnerAccepts root (absence a) =
-      nonExistenceHolds ourSpec sha root (Option·map existenceOf (a .leftward)) (Option·map existenceOf (a .rightward))
-      (a .key)
+  partnerAccepts root (absence a) = let shown = Option·map existenceOf in
+      nonExistenceHolds ourSpec sha root (shown (a .leftward)) (shown (a .rightward)) (a .key)
 
   abbrev pub verdictOf : Proof → Verdict
   verdictOf (presence p) = present (sha (p .value))

@@ -1,8 +1,6 @@
--- ICS 23: what a verifier is told of a kind of proofs, its ProofSpec; ExistenceProof.Verify and
--- NonExistenceProof.Verify for any ProofSpec, in the order of its specification. Of hash operations it knows SHA-256
--- alone and of length operations NO_PREFIX: a proof with another is refused wherever the ProofSpec asks for these.
--- Where the published programs would read beyond the end of a path (IsLeftNeighbor on a path used up), this refuses.
--- Assumes nothing.
+-- ICS 23: ExistenceProof.Verify and NonExistenceProof.Verify for any ProofSpec. Of hash operations it knows SHA-256
+-- alone, of length operations NO_PREFIX: another is refused wherever the ProofSpec asks for these. Where the published
+-- programs would read beyond the end of a path (IsLeftNeighbor on a path used up), this refuses. Assumes nothing.
 use Prim.Native.Nat.{ℕ, zero, suc, _+_, _*_, _-_, _%_}
 use mathlib.Core.Bool.{Bool, true, false, cond, not, _&&_, _||_}
 use mathlib.Core.List.{List, [], _∷_, _++_, map, reverse}
@@ -26,16 +24,13 @@ pub record ProofSpec : Type 0 where
   pub minDepth : ℕ
   pub prehashKeyBeforeComparison : Bool
 
--- Bytes that begin with others.
 unfoldable pub startsWith : Bytes → Bytes → Bool
 startsWith p x = sameBytes (take (length p) x) p
 
--- Something is given and passes a test.
 abbrev pub passes : {A : Type 0} → (A → Bool) → Option A → Bool
 passes test none = false
 passes test (some x) = test x
 
--- Ops with equal prefixes and suffixes.
 unfoldable pub sameOp : InnerOp → InnerOp → Bool
 sameOp x y = sameBytes (x .prefix) (y .prefix) && sameBytes (x .suffix) (y .suffix)
 
@@ -54,43 +49,27 @@ module _ (spec : ProofSpec) where
 
   -- CheckAgainstSpec: of the leaf, of each inner op, and of a proof; a depth of 0 in the ProofSpec sets no bound.
   unfoldable pub leafRight : LeafOp → Bool
-  leafRight op =
-      allOf
-      (eqb (op .hash) (spec .leafSpec .hash)
-      ∷ eqb (op .prehashKey) (spec .leafSpec .prehashKey)
-      ∷ eqb (op .prehashValue) (spec .leafSpec .prehashValue)
-      ∷ eqb (op .lengthOp) (spec .leafSpec .lengthOp)
-      ∷ startsWith (spec .leafSpec .prefix) (op .prefix)
-      ∷ [])
+  leafRight op = let s = spec .leafSpec in
+      allOf (eqb (op .hash) (s .hash) ∷ eqb (op .prehashKey) (s .prehashKey) ∷ eqb (op .prehashValue) (s .prehashValue)
+      ∷ eqb (op .lengthOp) (s .lengthOp) ∷ startsWith (s .prefix) (op .prefix) ∷ [])
 
   unfoldable pub innerRight : InnerOp → Bool
-  innerRight op =
-      allOf
-      (eqb (op .hash) (spec .innerHash)
-      ∷ not (startsWith (spec .leafSpec .prefix) (op .prefix))
-      ∷ leb (spec .minPrefixLength) (length (op .prefix))
-      ∷ leb (length (op .prefix)) (spec .maxPrefixLength + last * size)
-      ∷ leb 1 size
-      ∷ eqb (length (op .suffix) % size) 0
-      ∷ [])
+  innerRight op = let long = length (op .prefix) in
+      allOf (eqb (op .hash) (spec .innerHash) ∷ not (startsWith (spec .leafSpec .prefix) (op .prefix))
+      ∷ leb (spec .minPrefixLength) long ∷ leb long (spec .maxPrefixLength + last * size)
+      ∷ leb 1 size ∷ eqb (length (op .suffix) % size) 0 ∷ [])
 
   unfoldable pub fits : Existence → Bool
   fits e =
-      allOf
-      (leafRight (e .leaf)
-      ∷ leb (spec .minDepth) (length (e .path))
-      ∷ (eqb (spec .maxDepth) 0 || leb (length (e .path)) (spec .maxDepth))
-      ∷ map innerRight (e .path))
+      allOf (leafRight (e .leaf) ∷ leb (spec .minDepth) (length (e .path))
+      ∷ (eqb (spec .maxDepth) 0 || leb (length (e .path)) (spec .maxDepth)) ∷ map innerRight (e .path))
 
   -- getPadding, hasPadding: how long prefix and suffix are for a branch.
   unfoldable pub hasPadding : InnerOp → ℕ → Bool
-  hasPadding op branch =
-      let i = position (spec .childOrder) branch in
-      allOf
-      (leb (i * size + spec .minPrefixLength) (length (op .prefix))
+  hasPadding op branch = let i = position (spec .childOrder) branch in
+      allOf (leb (i * size + spec .minPrefixLength) (length (op .prefix))
       ∷ leb (length (op .prefix)) (i * size + spec .maxPrefixLength)
-      ∷ eqb (length (op .suffix)) ((last - i) * size)
-      ∷ [])
+      ∷ eqb (length (op .suffix)) ((last - i) * size) ∷ [])
 
   -- orderFromPadding: the first branch whose padding an op has.
   abbrev pub firstBranch : InnerOp → ℕ → ℕ → Option ℕ
@@ -103,9 +82,8 @@ module _ (spec : ProofSpec) where
   -- The first n branches are empty, each found in x after the bytes before it.
   abbrev pub emptyBelow : ℕ → Bytes → ℕ → Bool
   emptyBelow start x zero = true
-  emptyBelow start x (suc n) =
-      let child = take size (drop (start + position (spec .childOrder) n * size) x) in
-      emptyBelow start x n && sameBytes child (spec .emptyChild)
+  emptyBelow start x (suc n) = emptyBelow start x n &&
+      sameBytes (take size (drop (start + position (spec .childOrder) n * size) x)) (spec .emptyChild)
 
   -- leftBranchesAreEmpty, rightBranchesAreEmpty: x ends with n branches, at least one, and they are empty.
   unfoldable pub endsEmpty : Bytes → ℕ → Bool
@@ -114,16 +92,14 @@ module _ (spec : ProofSpec) where
   unfoldable pub rightEmpty : InnerOp → ℕ → Bool
   rightEmpty op b = eqb (length (op .suffix)) ((last - b) * size) && endsEmpty (op .suffix) (last - b)
 
-  -- IsLeftMost, IsRightMost: each op has the padding of the first (last) branch, or the branches before (after) its
-  -- own are empty.
+  -- IsLeftMost, IsRightMost: each op has the padding of the first (last) branch, or those before (after) it are empty.
   abbrev pub isLeftMost : List InnerOp → Bool
   isLeftMost path = allOf (map (λ op. hasPadding op 0 || passes (endsEmpty (op .prefix)) (branchOf op)) path)
 
   abbrev pub isRightMost : List InnerOp → Bool
   isRightMost path = allOf (map (λ op. hasPadding op last || passes (rightEmpty op) (branchOf op)) path)
 
-  -- IsLeftNeighbor, from the tops, which are the last ops: equal ones are taken off; of the two that remain on top the
-  -- right one's branch is the next, and below them the left path is rightmost and the right path leftmost.
+  -- IsLeftNeighbor, from the tops, the last ops: equal ops, then branches side by side, then rightmost and leftmost.
   abbrev pub neighboursFromTop : List InnerOp → List InnerOp → Bool
   neighboursFromTop [] ys = false
   neighboursFromTop (x ∷ xs) [] = false
@@ -143,29 +119,25 @@ module _ (spec : ProofSpec) where
     unfoldable pub leafApplied : LeafOp → Bytes → Bytes → Option Bytes
     leafApplied op k v =
         cond (allOf (leb 1 (length k) ∷ leb 1 (length v) ∷ eqb (op .lengthOp) 0 ∷ []))
-        (bind (prehashed (op .prehashKey) k) λ a.
-        bind (prehashed (op .prehashValue) v) λ b.
-        hashed (op .hash) (op .prefix ++ (a ++ b)))
-        none
+        (bind (prehashed (op .prehashKey) k) λ a. bind (prehashed (op .prehashValue) v) λ b.
+        hashed (op .hash) (op .prefix ++ (a ++ b))) none
 
     -- InnerOp: prefix, the child's hash, not empty, suffix.
     unfoldable pub innerApplied : InnerOp → Bytes → Option Bytes
     innerApplied op h = cond (leb 1 (length h)) (hashed (op .hash) (op .prefix ++ (h ++ op .suffix))) none
 
-    -- No hash on the way is longer than a child, where children have 32 bytes or more.
+    -- Calculate: no hash on the way is longer than a child, where children have 32 bytes or more.
     abbrev pub pathApplied : Bytes → List InnerOp → Option Bytes
     pathApplied h [] = some h
     pathApplied h (op ∷ path) =
         bind (innerApplied op h) λ g. cond (leb (length g) size || ltb size 32) (pathApplied g path) none
 
-    -- Calculate.
     unfoldable pub calculated : Existence → Option Bytes
     calculated e = bind (leafApplied (e .leaf) (e .key) (e .value)) λ h. pathApplied h (e .path)
 
     -- ExistenceProof.Verify of a key with a value.
     unfoldable pub existenceHolds : Bytes → Existence → Bytes → Bytes → Bool
-    existenceHolds root e k v =
-        let led = passes (λ r. sameBytes r root) (calculated e) in
+    existenceHolds root e k v = let led = passes (λ r. sameBytes r root) (calculated e) in
         allOf (fits e ∷ sameBytes k (e .key) ∷ sameBytes v (e .value) ∷ led ∷ [])
 
     -- Keys are compared after hashing where the ProofSpec says so.
@@ -187,10 +159,5 @@ module _ (spec : ProofSpec) where
     nonExistenceHolds root none (some r) k =
         allOf (neighbourVerified root r ∷ keyBefore k (r .key) ∷ isLeftMost (r .path) ∷ [])
     nonExistenceHolds root (some l) (some r) k =
-        allOf
-        (neighbourVerified root l
-        ∷ neighbourVerified root r
-        ∷ keyBefore k (r .key)
-        ∷ keyBefore (l .key) k
-        ∷ neighboursFromTop (reverse (l .path)) (reverse (r .path))
-        ∷ [])
+        allOf (neighbourVerified root l ∷ neighbourVerified root r ∷ keyBefore k (r .key) ∷ keyBefore (l .key) k
+        ∷ neighboursFromTop (reverse (l .path)) (reverse (r .path)) ∷ [])

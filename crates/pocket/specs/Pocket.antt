@@ -10,12 +10,9 @@ use Rattle.terms.specs.Records.{Presence, Proof, presence, absence, Store}
 use Rattle.meaning.specs.Calls.{Answer, refused, accepted}
 use Rattle.meaning.specs.Proving.{proof, fitted}
 
-abbrev pub pocketSteps : ℕ
-pocketSteps = 32
-
 -- The path of a leaf has at most 32 steps.
 unfoldable pub shortPath : Presence → Bool
-shortPath p = leb (length (p .steps)) pocketSteps
+shortPath p = leb (length (p .steps)) 32
 
 abbrev pub shortNeighbour : Option Presence → Bool
 shortNeighbour none = true
@@ -37,3 +34,7 @@ inProfile (accepted p) = cond (small p) (accepted p) (refused 19)
 -- The pocket writer refuses as the full one does, with 19 before 9.
 unfoldable pub pocketProve : Store → ℕ → Bytes → ℕ → Answer Proof
 pocketProve st v k room = fitted room (inProfile (proof st v k))
+
+-- The number by name, as the laws cite it.
+abbrev pub pocketSteps : ℕ
+pocketSteps = 32

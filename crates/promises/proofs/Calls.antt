@@ -14,14 +14,15 @@ use Rattle.meaning.specs.Sound.{At, Sound}
 use Rattle.meaning.specs.Calls.{Answer, refused, accepted, Result}
 use Rattle.meaning.specs.Answers.{Exports, exports-refusal, exports-answer}
 use Rattle.nodehash.specs.Node.{leafHash, innerHash}
-use Rattle.layout.specs.Headers.{Headed, refusal, header, headerOf}
+use Rattle.layout.specs.Headers.{refusal, headerOf}
 use Rattle.layout.specs.Slots.{SlotForm}
 use Rattle.layout.specs.Stores.{storeIn, storeBytes, HeaderWithin, StoreForm}
 use Rattle.layout.proofs.Headers.{header-refused, accepted as header-accepted}
 use Rattle.layout.proofs.Stores.{store-back}
 use Rattle.promises.specs.Check.{Checked}
 use Rattle.promises.specs.Check as check
-use Rattle.promises.specs.Calls.{SoundBytes, Does, wrong-header, not-sound, refuses, accepts}
+use Rattle.promises.specs.Calls.{SoundBytes, Does, not-checked, refuses, accepts}
+use Rattle.promises.proofs.Check.{one-answer}
 
 -- a header is not refused with 0
 no-refusal : (s : Bytes) → headerOf counted s ≡ refusal 0 → ⊥
@@ -50,6 +51,13 @@ module _ {s : Bytes} where
   checked-sound (check.unsound c o l e g) z = absurd (omega arith)
   checked-sound (check.sound c o l e w) z = record { capacity = c; oldest = o; latest = l; headed = e; sound = w }
 
+  sound-checked : SoundBytes s → Checked counted s 0
+  sound-checked w = check.sound (w .capacity) (w .oldest) (w .latest) (w .headed) (w .sound)
+
+  -- a sound store is not refused by check
+  pub sound-passes : {A : Type 0} {r : ℕ} → SoundBytes s → Checked counted s r → (r ≡ 0 → ⊥) → A
+  sound-passes {r = r} w c f = absurd (f (one-answer s r 0 c (sound-checked w)))
+
   pub sound-long : SoundBytes s → HeaderWithin s
   sound-long w = omega (arith, header-accepted s (w .capacity) (w .oldest) (w .latest) (w .headed) .size)
 
@@ -57,44 +65,25 @@ module _ {s : Bytes} where
   pub sound-back : SoundBytes s → All Byte s → storeBytes (storeIn counted s) ≡ s
   sound-back w h = store-back s (w .capacity) (w .oldest) (w .latest) h (header-accepted s (w .capacity) (w .oldest) (w .latest) (w .headed))
 
--- a header is refused or accepted, an answer too
-not-headed : {A : Type 0} {h : Headed} {m c o l : ℕ} → h ≡ refusal m → h ≡ header c o l → A
-not-headed e f = let g = sym e ∙ f in let z : _≡_ {A = ℕ} 0 1 = cc in absurd (omega arith)
-
-same-refusal : {h : Headed} {m n : ℕ} → h ≡ refusal m → h ≡ refusal n → m ≡ n
-same-refusal e f = let g = sym e ∙ f in cc
-
+-- an answer is refused or accepted
 not-answered : {A B : Type 0} {a : Answer A} {m : ℕ} {k : A} → a ≡ refused m → a ≡ accepted k → B
 not-answered e f = let g = sym e ∙ f in let z : _≡_ {A = ℕ} 0 1 = cc in absurd (omega arith)
 
 module _ {A : Type 0} {call : Store → Result A} {s : Bytes} where
-  pub checked-refuses : {r : ℕ} → Checked counted s r → (r ≡ 0 → ⊥) → Does call s (refused r) s
-  checked-refuses (check.refused m e) f = wrong-header e
-  checked-refuses (check.unsound c o l e g) f = not-sound e g
-  checked-refuses (check.sound c o l e w) f = absurd (f refl)
-
   -- A refusal writes nothing.
   pub refused-writes-nothing : {m : ℕ} {t : Bytes} → Does call s (refused m) t → t ≡ s
-  refused-writes-nothing (wrong-header e) = refl
-  refused-writes-nothing (not-sound e f) = refl
+  refused-writes-nothing (not-checked c f) = refl
   refused-writes-nothing (refuses w e) = refl
 
   -- Two outcomes of the same call on the same bytes are equal.
   pub one-outcome : {a b : Answer A} {t u : Bytes} → Does call s a t → Does call s b u → (a ≡ b) × (t ≡ u)
-  one-outcome (wrong-header e) (wrong-header f) = (ap refused (same-refusal e f), refl)
-  one-outcome (wrong-header e) (not-sound f g) = not-headed e f
-  one-outcome (wrong-header e) (refuses w f) = not-headed e (w .headed)
-  one-outcome (wrong-header e) (accepts w f) = not-headed e (w .headed)
-  one-outcome (not-sound e g) (wrong-header f) = not-headed f e
-  one-outcome (not-sound e g) (not-sound f h) = (refl, refl)
-  one-outcome (not-sound e g) (refuses w f) = absurd (g (w .sound))
-  one-outcome (not-sound e g) (accepts w f) = absurd (g (w .sound))
-  one-outcome (refuses v e) (wrong-header f) = not-headed f (v .headed)
-  one-outcome (refuses v e) (not-sound f g) = absurd (g (v .sound))
+  one-outcome (not-checked {m} c f) (not-checked {m = n} d g) = (ap refused (one-answer s m n c d), refl)
+  one-outcome (not-checked c f) (refuses w e) = sound-passes w c f
+  one-outcome (not-checked c f) (accepts w e) = sound-passes w c f
+  one-outcome (refuses w e) (not-checked c f) = sound-passes w c f
   one-outcome (refuses v e) (refuses w f) = (sym e ∙ f, refl)
   one-outcome (refuses v e) (accepts w f) = not-answered e f
-  one-outcome (accepts v e) (wrong-header f) = not-headed f (v .headed)
-  one-outcome (accepts v e) (not-sound f g) = absurd (g (v .sound))
+  one-outcome (accepts w e) (not-checked c f) = sound-passes w c f
   one-outcome (accepts v e) (refuses w f) = not-answered f e
   one-outcome (accepts v e) (accepts w f) = (sym e ∙ f, refl)
 

@@ -15,7 +15,7 @@ use Rattle.terms.specs.Records.{Presence, Absence, Proof, presence, absence}
 use Rattle.terms.proofs.Tests.{and-left, and-right, is-false}
 use Rattle.terms.proofs.Lists.{all-drop}
 use Rattle.terms.proofs.Fields.{num-le, length-le, le-field, length-slice, all-slice, cuts, flat-cuts, all-of-tests, tests-all, Sized, cuts-flat, length-flat, drop-fields, slice-rest}
-use Rattle.proofrecords.specs.ProofBytes.{presenceBytes, stepsBytes, neighbourBytes, flagsOf, absenceBytes, proofBytes, stepCount, presenceTests, isPresence, presenceIn, leftLength, leftPart, rightPart, flags, neighboursFit, absenceTests, isAbsence, absenceIn, proofIn, PresenceForm, NeighbourForm, ProofForm, ProofIs, ProofSaid}
+use Rattle.proofrecords.specs.ProofBytes.{presenceBytes, stepsBytes, neighbourBytes, flagsOf, absenceBytes, proofBytes, stepCount, presenceTests, isPresence, presenceIn, leftLength, leftPart, rightPart, flags, neighboursFit, absenceTests, isAbsence, absenceIn, proofIn, PresenceForm, NeighbourForm, ProofForm, ProofIs, Which}
 use Rattle.proofrecords.proofs.Steps.{length-steps, steps-back, sides-written, steps-are, length-steps-in, steps-form}
 
 -- the last field is the rest
@@ -466,14 +466,14 @@ module _ (x : Bytes) where
       same e = cc
 
   -- and what they are said to be is what they are read as
-  pub said-as-read : All Byte x → ProofSaid x (proofIn x)
+  pub said-as-read : All Byte x → Which (ProofIs x) (proofIn x)
   said-as-read bytes = go (proofIn x) refl
     where
-      go : (o : Option Proof) → proofIn x ≡ o → ProofSaid x o
+      go : (o : Option Proof) → proofIn x ≡ o → Which (ProofIs x) o
       go none e = no-proof-is e
       go (some p) e = proof-is bytes p e
 
-  pub one-proof-said : (o u : Option Proof) → ProofSaid x o → ProofSaid x u → o ≡ u
+  pub one-proof-said : (o u : Option Proof) → Which (ProofIs x) o → Which (ProofIs x) u → o ≡ u
   one-proof-said none none h k = refl
   one-proof-said none (some q) h k = absurd (h q k)
   one-proof-said (some p) none h k = absurd (k p h)

@@ -10,7 +10,69 @@ use Rattle.terms.specs.Bits.{Bytes, Whole32, All, digit}
 use Rattle.terms.specs.Fields.{le, slice, field, flat, allOf}
 use Rattle.terms.specs.Records.{Step, Presence, Absence, Proof, presence, absence}
 
--- Kinds and sizes.
+-- A step is a side and the sibling's hash.
+abbrev pub stepsBytes : List Step → Bytes
+stepsBytes [] = []
+stepsBytes (s ∷ steps) = (digit (s .side) ∷ s .sibling) ++ stepsBytes steps
+
+-- Presence proof: length 72 + 33 s, kind 16, step count s, key, value, s steps from the leaf upwards.
+unfoldable pub presenceBytes : Presence → Bytes
+presenceBytes p =
+    flat
+    (le 4 (72 + 33 * length (p .steps)) ∷ le 2 16 ∷ le 2 (length (p .steps)) ∷ p .key ∷ p .value
+    ∷ stepsBytes (p .steps) ∷ [])
+
+abbrev pub neighbourBytes : Option Presence → Bytes
+neighbourBytes none = []
+neighbourBytes (some p) = presenceBytes p
+
+-- Flags: 1 left neighbour, 2 right, 3 both; 0, neither, is off form.
+abbrev pub flagsOf : Option Presence → Option Presence → ℕ
+flagsOf none none = 0
+flagsOf (some l) none = 1
+flagsOf none (some r) = 2
+flagsOf (some l) (some r) = 3
+
+-- Absence proof: its length, kind 17, flags, key, then the presence proofs of the neighbours, left first.
+unfoldable pub absenceBytes : Absence → Bytes
+absenceBytes a =
+    let l = neighbourBytes (a .leftward) in
+    let r = neighbourBytes (a .rightward) in
+    flat (le 4 (40 + length l + length r) ∷ le 2 17 ∷ le 2 (flagsOf (a .leftward) (a .rightward)) ∷ a .key ∷ l ∷ r ∷ [])
+
+abbrev pub proofBytes : Proof → Bytes
+proofBytes (presence p) = presenceBytes p
+proofBytes (absence a) = absenceBytes a
+
+-- Which proofs have a form in bytes.
+pub record PresenceForm (p : Presence) : Type 0 where
+  pub key32 : Whole32 (p .key)
+  pub value32 : Whole32 (p .value)
+  pub short : length (p .steps) ≤ 256
+  pub steps32 : All (λ s. Whole32 (s .sibling)) (p .steps)
+
+abbrev pub NeighbourForm : Option Presence → Type 0
+NeighbourForm none = Unit {0}
+NeighbourForm (some p) = PresenceForm p
+
+-- An absence proof has at least one neighbour.
+abbrev pub ProofForm : Proof → Type 0
+ProofForm (presence p) = PresenceForm p
+ProofForm (absence a) =
+    Whole32 (a .key) × NeighbourForm (a .leftward) × NeighbourForm (a .rightward) ×
+    (1 ≤ flagsOf (a .leftward) (a .rightward))
+
+-- The bytes are one whole proof in form, no byte over.
+pub record ProofIs (x : Bytes) (p : Proof) : Type 0 where
+  pub bytes : x ≡ proofBytes p
+  pub form : ProofForm p
+
+-- Which proof something holds of; none, where it holds of none.
+abbrev pub Which : (Proof → Type 0) → Option Proof → Type 0
+Which P none = (p : Proof) → P p → ⊥
+Which P (some p) = P p
+
+-- What bytes are read as, as the code reads them; no public promise reaches it. Kinds and sizes.
 abbrev pub presenceKind : ℕ
 presenceKind = 16
 
@@ -29,49 +91,8 @@ absenceHead = 40
 abbrev pub mostSteps : ℕ
 mostSteps = 256
 
--- A step is a side and the sibling's hash.
-abbrev pub stepsBytes : List Step → Bytes
-stepsBytes [] = []
-stepsBytes (s ∷ steps) = (digit (s .side) ∷ s .sibling) ++ stepsBytes steps
-
--- Presence proof: length 72 + 33 s, kind 16, step count s, key, value, s steps from the leaf upwards.
-unfoldable pub presenceBytes : Presence → Bytes
-presenceBytes p =
-    flat
-    (le 4 (presenceHead + stepSize * length (p .steps))
-    ∷ le 2 presenceKind
-    ∷ le 2 (length (p .steps))
-    ∷ p .key
-    ∷ p .value
-    ∷ stepsBytes (p .steps)
-    ∷ [])
-
-abbrev pub neighbourBytes : Option Presence → Bytes
-neighbourBytes none = []
-neighbourBytes (some p) = presenceBytes p
-
--- Flags: 1 left neighbour, 2 right, 3 both; 0, neither, is off form.
-abbrev pub flagsOf : Option Presence → Option Presence → ℕ
-flagsOf none none = 0
-flagsOf (some l) none = 1
-flagsOf none (some r) = 2
-flagsOf (some l) (some r) = 3
-
--- Absence proof: its length, kind 17, flags, key, then the presence proofs of the neighbours, left first.
-unfoldable pub absenceBytes : Absence → Bytes
-absenceBytes a =
-    flat
-    (le 4 (absenceHead + length (neighbourBytes (a .leftward)) + length (neighbourBytes (a .rightward)))
-    ∷ le 2 absenceKind
-    ∷ le 2 (flagsOf (a .leftward) (a .rightward))
-    ∷ a .key
-    ∷ neighbourBytes (a .leftward)
-    ∷ neighbourBytes (a .rightward)
-    ∷ [])
-
-abbrev pub proofBytes : Proof → Bytes
-proofBytes (presence p) = presenceBytes p
-proofBytes (absence a) = absenceBytes a
+abbrev pub StepForm : Step → Type 0
+StepForm s = Whole32 (s .sibling)
 
 -- The first n steps that bytes stand for, and whether each has side 0 or 1.
 abbrev pub stepsIn : ℕ → Bytes → List Step
@@ -154,34 +175,3 @@ absenceIn x = record {
 unfoldable pub proofIn : Bytes → Option Proof
 proofIn x =
     cond (isPresence x) (some (presence (presenceIn x))) (cond (isAbsence x) (some (absence (absenceIn x))) none)
-
--- Which proofs have a form in bytes.
-abbrev pub StepForm : Step → Type 0
-StepForm s = Whole32 (s .sibling)
-
-pub record PresenceForm (p : Presence) : Type 0 where
-  pub key32 : Whole32 (p .key)
-  pub value32 : Whole32 (p .value)
-  pub short : length (p .steps) ≤ mostSteps
-  pub steps32 : All StepForm (p .steps)
-
-abbrev pub NeighbourForm : Option Presence → Type 0
-NeighbourForm none = Unit {0}
-NeighbourForm (some p) = PresenceForm p
-
--- An absence proof has at least one neighbour.
-abbrev pub ProofForm : Proof → Type 0
-ProofForm (presence p) = PresenceForm p
-ProofForm (absence a) =
-    Whole32 (a .key) × NeighbourForm (a .leftward) × NeighbourForm (a .rightward) ×
-    (1 ≤ flagsOf (a .leftward) (a .rightward))
-
--- The bytes are one whole proof in form, no byte over.
-pub record ProofIs (x : Bytes) (p : Proof) : Type 0 where
-  pub bytes : x ≡ proofBytes p
-  pub form : ProofForm p
-
--- Which proof the bytes are; none, where they are none (10).
-abbrev pub ProofSaid : Bytes → Option Proof → Type 0
-ProofSaid x none = (p : Proof) → ProofIs x p → ⊥
-ProofSaid x (some p) = ProofIs x p

@@ -1,5 +1,4 @@
--- Document 02, request 2026-14: the figures of a range of 1 to 1,024 kept versions of a sound store, each a count over
--- the trees. Order: 8, 9; 1, 2 and 3 are refused before, as in the other calls that test soundness. Assumes nothing.
+-- Document 02, request 2026-14: the figures of a range of versions of a sound store, counted over the trees.
 use Prim.Native.Nat.{ℕ, zero, suc, _+_, _*_, _-_, max}
 use mathlib.Core.Bool.{Bool, true, false, cond, _&&_, _||_}
 use mathlib.Core.List.{List, [], _∷_, _++_, map}
@@ -12,8 +11,7 @@ use Rattle.meaning.specs.Tree.{VTree, vnone, vleaf, vinner}
 use Rattle.meaning.specs.Store.{treeAtVersion}
 use Rattle.meaning.specs.Calls.{Result, accepted, refuse, isKept}
 
--- A figure of a tree is what its nodes give, taken together: a leaf with n inner nodes above it gives `leaf n`, an
--- inner node gives `inner`.
+-- What a tree's nodes give, taken together: a leaf with n inner nodes above it `leaf n`, an inner node `inner`.
 abbrev pub figure : (ℕ → ℕ → ℕ) → (ℕ → ℕ) → ℕ → ℕ → VTree → ℕ
 figure together leaf inner n vnone = 0
 figure together leaf inner n (vleaf v g) = leaf n
@@ -35,11 +33,8 @@ unfoldable pub pathSum : VTree → ℕ
 pathSum t = figure _+_ (λ n. n) 0 0 t
 
 -- The four numbers of a version, 4 bytes each.
-pub record Figures : Type 0 where
-  pub leaves : ℕ
-  pub inners : ℕ
-  pub longest : ℕ
-  pub pathSum : ℕ
+abbrev pub Figures : Type 0
+Figures = record { leaves : ℕ; inners : ℕ; longest : ℕ; pathSum : ℕ }
 
 abbrev pub figuresOf : VTree → Figures
 figuresOf t = record { leaves = leaves t; inners = inners t; longest = longest t; pathSum = pathSum t }
@@ -47,15 +42,9 @@ figuresOf t = record { leaves = leaves t; inners = inners t; longest = longest t
 unfoldable pub figuresBytes : Figures → Bytes
 figuresBytes f = flat (le 4 (f .leaves) ∷ le 4 (f .inners) ∷ le 4 (f .longest) ∷ le 4 (f .pathSum) ∷ [])
 
-abbrev pub figuresSize : ℕ
-figuresSize = 16
-
 -- A range has 1 to 1,024 versions, all of them kept.
-abbrev pub mostVersions : ℕ
-mostVersions = 1024
-
 unfoldable pub rangeRight : Store → ℕ → ℕ → Bool
-rangeRight st first last = isKept st first && isKept st last && leb first last && ltb (last - first) mostVersions
+rangeRight st first last = isKept st first && isKept st last && leb first last && ltb (last - first) 1024
 
 -- The n versions from v on, and those of a range.
 abbrev pub versionsFrom : ℕ → ℕ → List ℕ
@@ -80,22 +69,19 @@ abbrev pub different : List (ℕ × Place) → ℕ
 different [] = 0
 different (n ∷ ns) = cond (among n ns) (different ns) (suc (different ns))
 
-module _ (st : Store) where
-  -- The nodes of the versions' trees, one tree after the other.
-  abbrev pub nodesOver : List ℕ → List (ℕ × Place)
-  nodesOver [] = []
-  nodesOver (v ∷ vs) = nodes [] (treeAtVersion st v) ++ nodesOver vs
+-- The nodes of the versions' trees, one tree after the other.
+abbrev pub nodesOver : Store → List ℕ → List (ℕ × Place)
+nodesOver st [] = []
+nodesOver st (v ∷ vs) = nodes [] (treeAtVersion st v) ++ nodesOver st vs
 
-  -- The records of each version, leaves and inner nodes, added up.
-  abbrev pub recordsOver : List ℕ → ℕ
-  recordsOver [] = 0
-  recordsOver (v ∷ vs) = leaves (treeAtVersion st v) + inners (treeAtVersion st v) + recordsOver vs
+-- The records of each version, leaves and inner nodes, added up.
+abbrev pub recordsOver : Store → List ℕ → ℕ
+recordsOver st [] = 0
+recordsOver st (v ∷ vs) = leaves (treeAtVersion st v) + inners (treeAtVersion st v) + recordsOver st vs
 
 -- The four numbers for each version; over the range distinct records, and the sum of records over versions.
-pub record Quarter : Type 0 where
-  pub each : List Figures
-  pub distinct : ℕ
-  pub records : ℕ
+abbrev pub Quarter : Type 0
+Quarter = record { each : List Figures; distinct : ℕ; records : ℕ }
 
 unfoldable pub quarterOf : Store → ℕ → ℕ → Quarter
 quarterOf st first last = record {
@@ -104,11 +90,17 @@ quarterOf st first last = record {
   records = recordsOver st (versions first last);
 }
 
--- 8 if the range isn't 1 to 1,024 kept versions, 9 if the numbers don't fit in the room; else the figures, and the
--- store stays as it is.
+-- 8 if the range isn't right, 9 if the numbers, 16 bytes a version, don't fit in the room; else the figures.
 unfoldable pub figures : ℕ → ℕ → ℕ → Store → Result Quarter
 figures first last room st =
     cond (rangeRight st first last)
-    (cond (ltb room (figuresSize * (suc last - first))) (refuse 9 st)
+    (cond (ltb room (16 * (suc last - first))) (refuse 9 st)
     (record { answer = accepted (quarterOf st first last); store = st }))
     (refuse 8 st)
+
+-- The numbers by name, as the laws cite them.
+abbrev pub figuresSize : ℕ
+figuresSize = 16
+
+abbrev pub mostVersions : ℕ
+mostVersions = 1024

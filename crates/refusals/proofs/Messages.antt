@@ -13,9 +13,9 @@ use Rattle.terms.specs.Bits.{Bytes}
 use Rattle.terms.specs.Records.{Proof}
 use Rattle.meaning.specs.Calls.{Answer, refused, accepted}
 use Rattle.meaning.specs.Answers.{numberOf}
-use Rattle.proofrecords.specs.ProofBytes.{ProofIs, ProofSaid}
+use Rattle.proofrecords.specs.ProofBytes.{ProofIs, Which}
 use Rattle.messages.specs.Message.{messageBytes}
-use Rattle.message_rules.specs.Contracts.{Encodes, recordOf, Lends, Which, fitted, written, read}
+use Rattle.message_rules.specs.Contracts.{Encodes, recordOf, Lends, fitted, written, read}
 use Rattle.message_rules.proofs.Ties.{one-lends, one-encoded}
 use Rattle.refusals.specs.Exactly.{Table}
 use Rattle.refusals.specs.Tables.{writeMessageRows, readMessageRows}
@@ -49,7 +49,7 @@ room-first P bytes room q h one = go (ltb (length room) (length (bytes q))) refl
         )
 
 -- writing
-pub write-first : (x asked : Bytes) (leaves : List Bytes) (room : Bytes) (said raw : Option Proof) → ProofSaid x said → Which (Lends x asked leaves) raw →
+pub write-first : (x asked : Bytes) (leaves : List Bytes) (room : Bytes) (said raw : Option Proof) → Which (ProofIs x) said → Which (Lends x asked leaves) raw →
     First (writeMessageRows x asked leaves room) (numberOf (written said raw room))
 write-first x asked leaves room none raw h k = inl (h, refl)
 write-first x asked leaves room (some p) none h k = inr (λ f. f p h, inl ((p, h, k), refl))

@@ -13,8 +13,7 @@ abbrev pub Listed : Table → ℕ → Type 0
 Listed [] r = r ≡ 0
 Listed (row ∷ rows) r = (r ≡ row .0) ⊎ Listed rows r
 
--- It is n exactly if row n holds and no row before it does, and 0 exactly if none does; `none` says that no row so far
--- does.
+-- It is n exactly if row n holds and no row before it does (`none` says that), and 0 exactly if none does.
 abbrev pub EachAfter : Type 0 → Table → ℕ → Type 0
 EachAfter none [] r = (r ≡ 0) ↔ none
 EachAfter none (row ∷ rows) r = ((r ≡ row .0) ↔ (none × row .1)) × EachAfter (none × (row .1 → ⊥)) rows r
@@ -28,8 +27,7 @@ abbrev pub NoneOf : Table → Type 0
 NoneOf [] = Unit {0}
 NoneOf (row ∷ rows) = (row .1 → ⊥) × NoneOf rows
 
--- A read's answer in 64 bits: the number of refusal in the low half, and in the high half a spoilt slot + 1, or 0
--- (2026-07).
+-- A read's answer in 64 bits (2026-07): the number of refusal in the low half; in the high one a spoilt slot + 1, or 0.
 unfoldable pub low : ℕ → ℕ
 low r = r % 4294967296
 

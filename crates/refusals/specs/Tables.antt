@@ -1,7 +1,5 @@
--- Document 01, 'Numbers of refusal', with document 02's: the table of each public call, each row a proposition in their
--- words. 'Order: 12; then 1, 2; apply 3, 4, 5, 6, 7; prune 3, 8; reads 8, 3, 9; the proof check 10, 11. Format
--- gives only 1.' By 2026-03 proving tests for 14 after 8; by 2026-13 apply tests for 18 where 6 was; by 2026-09 a
--- position is tested for 20 after the root's lookup. A hash is never refused. Assumes nothing.
+-- Document 01, 'Numbers of refusal', and document 02: the table of each public call, each row a proposition. 'Order:
+-- 12; then 1, 2; apply 3, 4, 5, 6, 7; prune 3, 8; reads 8, 3, 9; the proof check 10, 11.' A hash is never refused.
 use Prim.Native.Nat.{ℕ, _+_, _*_, _-_, _≤_, _<_}
 use mathlib.Core.Path.{_≡_}
 use mathlib.Core.Logic.{_⊎_}
@@ -21,15 +19,14 @@ use Rattle.meaning.specs.Sound.{Kept, Sound}
 use Rattle.meaning.specs.Calls.{accepted, ascending}
 use Rattle.meaning.specs.Reading.{Trouble, lostRecord, spoiltRecord, strayLeaf, Verdict}
 use Rattle.meaning.specs.Proving.{proof, proofLength}
-use Rattle.palette_rules.specs.Palette.{keySize, mostKeys, keysIn, lengthTogether}
+use Rattle.palette_rules.specs.Palette.{keysIn, lengthTogether}
 use Rattle.palette_rules.specs.Claims.{FirstAsked}
-use Rattle.changed.specs.Changes.{items, itemSize}
+use Rattle.changed.specs.Changes.{items}
 use Rattle.changed.specs.Compare.{changesOf, visitsOf}
 use Rattle.checker.specs.Holding.{Holds}
 use Rattle.ways.specs.Ways.{RootStopped, KeyStopped, ProofStopped, EmptyVersion}
 use Rattle.ways.specs.Positions.{Number, PositionStopped}
 use Rattle.rescue_bytes.specs.Rescues.{NoRun}
-use Rattle.quarter.specs.Figures.{figuresSize, mostVersions}
 use Rattle.pocket.specs.Pocket.{Outside}
 use Rattle.nodehash.specs.Node.{leafHash, innerHash}
 use Rattle.messages.specs.Message.{messageBytes}
@@ -43,11 +40,10 @@ use Rattle.batch.specs.Asked.{AskedBy, Asks}
 use Rattle.verify_rows.specs.Rows.{Pieces}
 use Rattle.refusals.specs.Exactly.{Table}
 
--- The bytes have the length of a store of n slots: 24 + 128n, in the plain form 24 + 120n.
+-- 1: for no n in 1 to 16,384 the lengths are those of a store of n slots, 24 + 128n, in the plain form 24 + 120n.
 abbrev pub HasSlots : Form → Bytes → ℕ → Type 0
 HasSlots f s n = length s ≡ headerSize + slotSize f * n
 
--- 1: for no n in 1 to 16,384 the lengths are right.
 abbrev pub WrongSize : (ℕ → Type 0) → Type 0
 WrongSize right = (n : ℕ) → 1 ≤ n → n ≤ mostSlots → right n → ⊥
 
@@ -60,35 +56,32 @@ pub record RightHeader (f : Form) (s : Bytes) : Type 0 where
   pub ordered : field oldestAt 4 s ≤ field latestAt 4 s
   pub four-zero : slice 20 4 s ≡ zeroBytes 4
 
--- Format: 1.
+-- Format tests 1, every other call on a store 1, 2; check, apply, prune and others go on with 3 by full soundness.
 abbrev pub formatRows : Bytes → Table
 formatRows s = (1, WrongSize (HasSlots counted s)) ∷ []
 
--- 1, 2.
 abbrev pub headerRows : Bytes → Table
-headerRows s = (1, WrongSize (HasSlots counted s)) ∷ (2, RightHeader counted s → ⊥) ∷ []
+headerRows s = formatRows s ++ (2, RightHeader counted s → ⊥) ∷ []
 
--- 1, 2; then 3 by full soundness: check, and what apply, prune and others test first.
 abbrev pub soundRows : Bytes → Table
 soundRows s = headerRows s ++ (3, Sound leafHash innerHash (storeOf s) → ⊥) ∷ []
 
--- Apply: 1, 2, 3; then 4, 5, 18, 7.
+-- Apply: 1, 2, 3; then 4, 5, 18 (2026-13); 7, fewer free slots than new records.
 abbrev pub applyRows : ℕ → Bytes → Bytes → Table
 applyRows number batch s =
     let latest = treeAtVersion (storeOf s) (storeOf s .latest) in
     let new : List Ask → List Record = λ as′. newRecords leafHash innerHash number (nextTree number latest as′) in
-    -- the batch isn't whole records in form, or has over 1,024
-    soundRows s ++ (4, Asks batch none) ∷
-    -- keys not strictly ascending, of a batch in form: 4 is tested before it
-    (5, (as′ : List Ask) × AskedBy batch as′ × (ascending as′ ≡ false)) ∷
-    -- the number given is not above latest (2026-13)
-    (18, number ≤ storeOf s .latest) ∷
-    -- fewer free slots than new records
+    soundRows s ++ (4, Asks batch none) ∷  -- the batch isn't whole records in form, or has over 1,024
+    (5, (as′ : List Ask) × AskedBy batch as′ × (ascending as′ ≡ false)) ∷  -- keys not strictly ascending
+    (18, number ≤ storeOf s .latest) ∷  -- the number given is not above latest
     (7, (as′ : List Ask) × AskedBy batch as′ × (freeSlots (storeOf s .slots) < length (new as′))) ∷ []
 
--- Prune: 1, 2, 3; then 8, the version isn't in oldest to latest.
+-- Prune: 1, 2, 3; then 8, the version isn't in oldest to latest. The reads begin with 1, 2, 8.
 abbrev pub pruneRows : ℕ → Bytes → Table
 pruneRows n s = soundRows s ++ (8, Kept (storeOf s) n → ⊥) ∷ []
+
+abbrev pub readRows : Bytes → ℕ → Table
+readRows s v = headerRows s ++ (8, Kept (storeOf s) v → ⊥) ∷ []
 
 -- 3 of the reads: a spoilt record, or a leaf whose key doesn't begin with its place, the first that is met.
 abbrev pub Unsound : (Trouble → Type 0) → Type 0
@@ -103,112 +96,94 @@ abbrev pub testsOf : Table → Table
 testsOf [] = []
 testsOf (row ∷ rows) = cond (eqb (row .0) 17 || eqb (row .0) 3) [] (row ∷ testsOf rows)
 
--- A root read, and the number of grants (2026-09): 1, 2, 8, 3.
-abbrev pub rootRows : Bytes → ℕ → Table
-rootRows s v = headerRows s ++ (8, Kept (storeOf s) v → ⊥) ∷ (3, Unsound (RootStopped (storeOf s) v)) ∷ []
-
 -- 12: a key or root handed in isn't 32 bytes.
 abbrev pub Not32 : List Bytes → Type 0
 Not32 handed = All (λ x. length x ≡ 32) handed → ⊥
 
--- A key read: 12; then 1, 2; then 8, 17 or 3.
-abbrev pub getRows : Bytes → ℕ → Bytes → Table
-getRows s v k =
-    (12, Not32 (k ∷ [])) ∷ headerRows s ++ (8, Kept (storeOf s) v → ⊥) ∷ stopRows (KeyStopped (storeOf s) v k)
+-- A root read, and the number of grants (2026-09): 1, 2, 8, 3. A key read: 12; then 1, 2; then 8, 17 or 3.
+abbrev pub rootRows : Bytes → ℕ → Table
+rootRows s v = readRows s v ++ (3, Unsound (RootStopped (storeOf s) v)) ∷ []
 
--- The grant at a position (2026-09): 1, 2, 8; 20, the root's lookup gives a number that isn't above the position, so
--- that a spoilt root's 3 is before it; then 17 or 3.
+abbrev pub getRows : Bytes → ℕ → Bytes → Table
+getRows s v k = (12, Not32 (k ∷ [])) ∷ readRows s v ++ stopRows (KeyStopped (storeOf s) v k)
+
+-- The grant at a position (2026-09): 1, 2, 8; 20, the number that the root's lookup gives isn't above it; 17 or 3.
 abbrev pub atRows : Bytes → ℕ → ℕ → Table
 atRows s v i =
-    headerRows s ++ (8, Kept (storeOf s) v → ⊥) ∷ (20, (n : ℕ) × Number (storeOf s) v (accepted n) × (n ≤ i)) ∷
+    readRows s v ++ (20, (n : ℕ) × Number (storeOf s) v (accepted n) × (n ≤ i)) ∷
     stopRows (PositionStopped (storeOf s) v i)
 
 -- Proving, before there is a proof: 12; then 1, 2; then 8; 14 in an empty version (2026-03); 17 or 3.
 abbrev pub proofRows : Bytes → ℕ → Bytes → Table
 proofRows s v k =
-    (12, Not32 (k ∷ [])) ∷ headerRows s ++ (8, Kept (storeOf s) v → ⊥) ∷ (14, EmptyVersion (storeOf s) v) ∷
-    stopRows (ProofStopped (storeOf s) v k)
+    (12, Not32 (k ∷ [])) ∷ readRows s v ++ (14, EmptyVersion (storeOf s) v) ∷ stopRows (ProofStopped (storeOf s) v k)
 
--- 9: the proof is longer than the buffer.
+-- Proving: these, then 9, the proof is longer than the buffer.
 abbrev pub TooLong : Bytes → ℕ → Bytes → Bytes → Type 0
 TooLong s v k room = (p : Proof) × (proof (storeOf s) v k ≡ accepted p) × (length room < proofLength p)
 
--- Proving: these, then 9.
 abbrev pub proveRows : Bytes → ℕ → Bytes → Bytes → Table
 proveRows s v k room = proofRows s v k ++ (9, TooLong s v k room) ∷ []
 
--- 10: the proof isn't one whole record in form, no byte over.
+-- The proof check: 12; then 10, it isn't one whole record in form, no byte over; 11, in form, but doesn't hold.
 abbrev pub ProofOffForm : Bytes → Type 0
 ProofOffForm x = (p : Proof) → ProofIs x p → ⊥
 
--- 11: in form, but doesn't hold.
 abbrev pub DoesNotHold : Bytes → Bytes → Bytes → Type 0
 DoesNotHold root k x = (p : Proof) × ProofIs x p × ((answer : Verdict) → Holds leafHash innerHash root k p answer → ⊥)
 
--- The proof check: 12; then 10, 11.
 abbrev pub verifyRows : Bytes → Bytes → Bytes → Table
 verifyRows root k x = (12, Not32 (root ∷ k ∷ [])) ∷ (10, ProofOffForm x) ∷ (11, DoesNotHold root k x) ∷ []
 
--- Document 02, 2026-01: 'Order: 1, 2, 3 by full soundness, 8, 13, 9.'
+-- Document 02, 2026-01: 'Order: 1, 2, 3 by full soundness, 8, 13, 9.' 9: the list is longer than the buffer.
 abbrev pub changesRows : Bytes → ℕ → ℕ → ℕ → Bytes → Table
 changesRows s first second limit room =
-    -- one of the two versions isn't in oldest to latest
-    soundRows s ++ (8, Kept (storeOf s) first × Kept (storeOf s) second → ⊥) ∷
-    -- the count of visits is above the limit
-    (13, limit < visitsOf (storeOf s) first second) ∷
-    -- the list is longer than the buffer
-    (9, length room < itemSize * length (items (changesOf (storeOf s) first second))) ∷ []
+    soundRows s ++ (8, Kept (storeOf s) first × Kept (storeOf s) second → ⊥) ∷  -- one isn't in oldest to latest
+    (13, limit < visitsOf (storeOf s) first second) ∷  -- the count of visits is above the limit
+    (9, length room < 72 * length (items (changesOf (storeOf s) first second))) ∷ []
 
--- Document 02, 2026-02: 'Writing tests 10, 15, 9, reading 10, 9.'
+-- Document 02, 2026-02: 'Writing tests 10, 15, 9, reading 10, 9.' 15, what is lent makes no message: a raw key or value
+-- has another length or doesn't hash to what the proof holds, or a leaf too many is lent; 9, the message is longer than
+-- the room, or our own record of what it says; 10 of reading, the bytes are the message of no proof.
 abbrev pub writeMessageRows : Bytes → Bytes → List Bytes → Bytes → Table
 writeMessageRows x asked leaves room =
-    (10, ProofOffForm x) ∷
-    -- what is lent makes no message: a raw key or value has another length or doesn't hash to what the proof holds, or
-    -- a leaf too many is lent
-    (15, (p : Proof) × ProofIs x p × ((q : Proof) → Lends x asked leaves q → ⊥)) ∷
-    -- the message is longer than the room
+    (10, ProofOffForm x) ∷ (15, (p : Proof) × ProofIs x p × ((q : Proof) → Lends x asked leaves q → ⊥)) ∷
     (9, (q : Proof) × Lends x asked leaves q × (length room < length (messageBytes q))) ∷ []
 
 abbrev pub readMessageRows : Bytes → Bytes → Table
 readMessageRows m room =
-    -- the bytes are the message of no proof
     (10, (q : Proof) → Encodes (recordOf q) m q → ⊥) ∷
-    -- our own record of what it says is longer than the room
     (9, (q : Proof) × Encodes (recordOf q) m q × (length room < length (recordOf q))) ∷ []
 
 -- 12 of a palette (document 02, 2026-04): the list isn't 0 to 256 whole keys.
 abbrev pub NotKeys : Bytes → Type 0
-NotKeys list = (keys : List Bytes) → All (λ k. length k ≡ keySize) keys → length keys ≤ mostKeys → list ≡ flat keys → ⊥
+NotKeys list = (keys : List Bytes) → All (λ k. length k ≡ 32) keys → length keys ≤ 256 → list ≡ flat keys → ⊥
 
 -- What stops a palette: what stops the proof for a key, where each key before it, in the order asked, has its proof.
 abbrev pub StopsPalette : Bytes → ℕ → List Bytes → Trouble → Type 0
 StopsPalette s v keys t = FirstAsked (proof (storeOf s) v) (λ k. ProofStopped (storeOf s) v k t) keys
 
--- A palette: 12, for the list alone; then 1, 2; then 8; 14, a key is asked for, in an empty version; 17 or 3 of the
--- first key refused; 9, all together don't fit.
+-- A palette: 12; 1, 2, 8; 14, a key, in an empty version; 17 or 3 of the first key refused; 9, all together don't fit.
 abbrev pub paletteRows : Bytes → ℕ → Bytes → Bytes → Table
 paletteRows s v list room =
     let keys = keysIn list in
-    (12, NotKeys list) ∷ headerRows s ++ (8, Kept (storeOf s) v → ⊥) ∷
-    (14, EmptyVersion (storeOf s) v × (keys ≡ [] → ⊥)) ∷ stopRows (StopsPalette s v keys) ++
+    (12, NotKeys list) ∷ readRows s v ++ (14, EmptyVersion (storeOf s) v × (keys ≡ [] → ⊥)) ∷
+    stopRows (StopsPalette s v keys) ++
     (9, (ps : List Proof) × (map (proof (storeOf s) v) keys ≡ map accepted ps) × (length room < lengthTogether ps)) ∷ []
 
--- Many proofs at once: 12; 10, the bytes aren't a piece for each key one after the other, none over; 9, fewer than 34
--- bytes for each answer.
+-- Many proofs at once: 12; 10, the bytes aren't a piece for each key, none over; 9, fewer than 34 bytes an answer.
 abbrev pub verifyManyRows : Bytes → Bytes → Bytes → Bytes → Table
 verifyManyRows root list row room =
     (12, Not32 (root ∷ []) ⊎ NotKeys list) ∷ (10, (xs : List Bytes) → Pieces (length (keysIn list)) row xs → ⊥) ∷
     (9, length room < 34 * length (keysIn list)) ∷ []
 
--- A rescue (document 02, 2026-08): 1, a size that is wrong or not equal; 2, oldest above latest; 3, no version, for no
--- run ends at latest.
+-- A rescue (2026-08): 1, a size that is wrong or not equal; 2, oldest above latest; 3, no version: no run ends there.
 abbrev pub rescueRows : Bytes → Bytes → ℕ → ℕ → Table
 rescueRows s old oldest latest =
     (1, WrongSize (λ n. HasSlots counted s n × HasSlots counted old n)) ∷ (2, latest < oldest) ∷
     (3, NoRun s oldest latest) ∷ []
 
--- A move (document 02, 2026-10): 1, a source or target of wrong size, each of its own form, for the same capacity; 2, a
--- wrong header of the source; 3, the source isn't sound.
+-- A move (2026-10): 1, a wrong size of source or target, each of its own form, for one capacity; 2 and 3 of the source.
 abbrev pub moveRows : Form → Bytes → Bytes → Table
 moveRows from s old =
     (1, WrongSize (λ n. HasSlots from s n × HasSlots (other from) old n)) ∷ (2, RightHeader from s → ⊥) ∷
@@ -218,39 +193,33 @@ moveRows from s old =
 abbrev pub rootOfVersion : Bytes → ℕ → Bytes
 rootOfVersion s v = hash leafHash innerHash (unversioned (treeAtVersion (storeOf s) v))
 
--- What is found of a proof (document 02, 2026-12): 12; then 1, 2, 3 by full soundness; then 8; 14, the version holds no
--- grant; 10, 11 against its root.
+-- What is found of a proof (2026-12): 12; 1, 2, 3, 8; 14, the version holds no grant; 10, 11 against its root.
 abbrev pub findingRows : Bytes → ℕ → Bytes → Bytes → Table
 findingRows s v k x =
     (12, Not32 (k ∷ [])) ∷ soundRows s ++ (8, Kept (storeOf s) v → ⊥) ∷
     (14, grantsIn (treeAtVersion (storeOf s) v) ≡ []) ∷
     (10, ProofOffForm x) ∷ (11, DoesNotHold (rootOfVersion s v) k x) ∷ []
 
--- A range of 1 to 1,024 kept versions (document 02, 2026-14).
+-- The figures of 1 to 1,024 kept versions (2026-14): 1, 2, 3; 8, any other range; 9, 16 bytes for each don't fit.
 abbrev pub KeptRange : Bytes → ℕ → ℕ → Type 0
-KeptRange s first last =
-    Kept (storeOf s) first × Kept (storeOf s) last × (first ≤ last) × (last < first + mostVersions)
+KeptRange s first last = Kept (storeOf s) first × Kept (storeOf s) last × (first ≤ last) × (last < first + 1024)
 
--- The figures: 1, 2, 3 by full soundness; then 8, any other range; 9, 16 bytes for each version don't fit.
 abbrev pub figuresRows : Bytes → ℕ → ℕ → Bytes → Table
 figuresRows s first last room =
-    soundRows s ++ (8, KeptRange s first last → ⊥) ∷ (9, length room < figuresSize * (last - first + 1)) ∷ []
+    soundRows s ++ (8, KeptRange s first last → ⊥) ∷ (9, length room < 16 * (last - first + 1)) ∷ []
 
--- 19 (document 02, 2026-14), of the pocket check: the bytes are a proof in form, and a leaf that it shows has more than
--- 32 steps;
+-- 19 (2026-14): a leaf shown has more than 32 steps, by the proof that the bytes are, or by the one there is of a key.
 abbrev pub OutsidePocket : Bytes → Type 0
 OutsidePocket x = (p : Proof) × ProofIs x p × Outside p
 
--- and of the pocket prover: so it is with the proof there is.
 abbrev pub ProvedOutside : Bytes → ℕ → Bytes → Type 0
 ProvedOutside s v k = (p : Proof) × (proof (storeOf s) v k ≡ accepted p) × Outside p
 
--- The pocket check: 12; then 10, 19, 11.
+-- The pocket check: 12; then 10, 19, 11. The pocket prover: as proving, with 19 before 9.
 abbrev pub pocketVerifyRows : Bytes → Bytes → Bytes → Table
 pocketVerifyRows root k x =
     (12, Not32 (root ∷ k ∷ [])) ∷ (10, ProofOffForm x) ∷ (19, OutsidePocket x) ∷ (11, DoesNotHold root k x) ∷ []
 
--- The pocket prover: those of proving before there is a proof; then 19, 9.
 abbrev pub pocketProveRows : Bytes → ℕ → Bytes → Bytes → Table
 pocketProveRows s v k room = proofRows s v k ++ (19, ProvedOutside s v k) ∷ (9, TooLong s v k room) ∷ []
 

@@ -18,6 +18,7 @@ use Rattle.rescue_laws.proofs.Runs.{Readable}
 use Rattle.rescue_laws.proofs.Coming.{no-root-no-run, broken-no-run, low-no-run}
 use Rattle.rescue_bytes.specs.Rescues.{slotsIn, SameSize, NoRun, Report, Rescues, wrong-size, out-of-order, no-version, rescues}
 use Rattle.rescue_bytes.proofs.Readable.{readable}
+use Rattle.rescue_bytes.proofs.Worth.{numbers-kept}
 use Rattle.rescue_step.specs.Step.{joinsTop, floorTop, Stops, rootless, apart, above, Joins}
 use Rattle.rescue_fill.specs.Fill.{Fillable, Filled}
 
@@ -56,8 +57,9 @@ module _ (oldest latest : ℕ) (s old : Bytes) where
               low-no-run leafHash innerHash (slotsIn s) oldest latest z (rootVersion (slotsIn s) latest) refl
               (no-less (newestChild 256 (slotsIn s) (rootVersion (slotsIn s) latest) 0 []) latest l) f m e run
 
-      pub kept : {first : ℕ} {t : Bytes} {n : Counts} → Filled s oldest latest first t → n ≡ counts (slotsIn s) (slotsIn t) →
+      pub kept : {first : ℕ} {t : Bytes} {n : Counts} → All Byte s → latest ≤ top32 → Filled s oldest latest first t → n ≡ counts (slotsIn s) (slotsIn t) →
           Rescues oldest latest s old (accepted (record { first = first; numbers = n })) t
-      kept {first} {t} h e =
-          subst (λ n. Rescues oldest latest s old (accepted (record { first = first; numbers = n })) t) (sym e)
+      kept {first} {t} bytes number h e =
+          subst (λ n. Rescues oldest latest s old (accepted (record { first = first; numbers = n })) t)
+          (numbers-kept s t bytes number size (h .longest) (h .bytes) ∙ sym e)
           (rescues same-size ordered (h .longest) (h .bytes))

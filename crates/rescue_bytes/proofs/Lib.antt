@@ -1,5 +1,6 @@
 pub mod Readable
 pub mod Outcomes
+pub mod Numbers
 pub mod Worth
 pub mod Again
 pub mod Ledger

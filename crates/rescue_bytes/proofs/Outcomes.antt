@@ -13,7 +13,7 @@ use Rattle.layout.specs.Headers.{sizeRight}
 use Rattle.layout.specs.Stores.{storeBytes}
 use Rattle.rescue_rules.specs.Rescue.{rescued}
 use Rattle.rescue_laws.proofs.Decides.{one-longest}
-use Rattle.rescue_bytes.specs.Rescues.{slotsIn, SameSize, Report, reportOf, Rescues, wrong-size, out-of-order, no-version, rescues, reportBytes, RescueExports}
+use Rattle.rescue_bytes.specs.Rescues.{slotsIn, SameSize, Report, Rescues, wrong-size, out-of-order, no-version, rescues, reportBytes, RescueExports}
 
 -- an answer is a refusal or a report
 not-both : {A : Type 0} {n : ℕ} {r : Report} → refused n ≡ accepted r → A
@@ -52,7 +52,7 @@ module _ {oldest latest : ℕ} {s old : Bytes} where
   one-rescue (rescues {f = k} {m = m} {t = t} w f g h) (rescues {f = i} {m = n} {t = u} x y z j) =
       let (a, b) = one-longest leafHash innerHash (slotsIn s) oldest latest k m i n g z in
       let same : t ≡ u = h ∙ ap₂ (λ x y. storeBytes (rescued (slotsIn s) x y)) a b ∙ sym j in
-      (ap₂ (λ x v. accepted (reportOf s x v)) a same, same)
+      (cc, same)
 
   pub refused-export-leaves : {f : Bytes} {n : ℕ} {t g : Bytes} → RescueExports oldest latest s old f n t g → (n ≡ 0 → ⊥) → (t ≡ old) × (g ≡ f)
   refused-export-leaves (exports-refusal w) z = (refused-leaves w, refl)

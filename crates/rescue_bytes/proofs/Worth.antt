@@ -33,9 +33,11 @@ use Rattle.rescue_laws.proofs.Steps.{slots-kept}
 use Rattle.rescue_laws.proofs.Counts.{counts-add-up, same-is-same}
 use Rattle.rescue_laws.proofs.Coming.{slots-of}
 use Rattle.rescue_laws.proofs.Again.{bounds, rescued-sound, rescued-tree, rescued-rooted}
+use Rattle.rescue_bytes.specs.Numbers.{numbersOf}
 use Rattle.rescue_bytes.specs.Rescues.{slotsIn, Report, Rescues, rescues}
 use Rattle.rescue_bytes.specs.Claims.{Worth}
 use Rattle.rescue_bytes.proofs.Readable.{readable}
+use Rattle.rescue_bytes.proofs.Numbers.{EachFrom, taken-from, numbers-are}
 
 -- a sound store is in form
 pub sound-form : (st : Store) → st .form ≡ counted → Sound leafHash innerHash st → StoreForm st
@@ -73,6 +75,22 @@ module _ (oldest latest : ℕ) (s : List Slot) (z : Readable s latest) (f m : �
         r ∙ ap₂ (fresh s f m) (sym (ap (λ y. y .version) d)) (sym (ap (λ y. y .place) d)),
       )
 
+  -- the numbers of the two buffers compared are those of their slots
+  numbers-of : (x : Bytes) → All Byte x → sizeRight counted (length x) ≡ true → slotsIn x ≡ s → numbersOf x (storeBytes (rescued s f m)) ≡ counts s (rescued s f m .slots)
+  unfolding rescued runStore
+  numbers-of x h size e =
+      let ts = taken (inRun s f m) (fresh s f m) s in
+      numbers-are x f (f + m) ts h size (sound-form (rescued s f m) (rescued-form s f m) (rescued-sound leafHash innerHash s oldest latest f m z l) .each)
+      (length-taken (inRun s f m) (fresh s f m) s ∙ ap length (sym e)) (subst (λ y. EachFrom y ts) (sym e) (taken-from (inRun s f m) (fresh s f m) s))
+      ∙ ap (λ y. counts y ts) e
+
+pub numbers-kept : {oldest latest f m : ℕ} (s t : Bytes) → All Byte s → latest ≤ top32 → sizeRight counted (length s) ≡ true → Longest leafHash innerHash (slotsIn s) oldest latest f m →
+    t ≡ storeBytes (rescued (slotsIn s) f m) → numbersOf s t ≡ counts (slotsIn s) (slotsIn t)
+numbers-kept {oldest} {latest} {f} {m} s t h n size l e =
+    let z = readable s h size latest n in
+    ap (numbersOf s) e ∙ numbers-of oldest latest (slotsIn s) z f m l s h size refl
+    ∙ sym (ap (λ y. counts (slotsIn s) (y .slots)) (ap storeOf e ∙ target-is oldest latest (slotsIn s) z f m l))
+
 -- a slot of the store is one of the bytes
 inside : (s : Bytes) (i : ℕ) → i < length (slotsIn s) → i < roomOf counted (length s)
 unfolding slotsAs
@@ -97,6 +115,7 @@ worth {oldest} {latest} {s} h n (rescues {f = f} {m = m} {t = t} size o l e) =
     let b = bounds (slotsIn s) f m in
     let slots : slotsIn t ≡ taken (inRun (slotsIn s) f m) (fresh (slotsIn s) f m) (slotsIn s) = ap (λ y. y .slots) said ∙ slots-of (slotsIn s) f m in
     let numbers = counts-add-up (inRun (slotsIn s) f m) (fresh (slotsIn s) f m) (slotsIn s) in
+    let compared = numbers-kept s t h n (size .source) l e in
     let ok : Sound leafHash innerHash (storeOf t) = subst (Sound leafHash innerHash) (sym said) (rescued-sound leafHash innerHash (slotsIn s) oldest latest f m z l) in
     let slot-now : (i : ℕ) (q : Record) → At (storeOf t) i q → slotIn counted i t ≡ slotBytes counted (used q) =
     λ i q a. ap (slotIn counted i) (e ∙ ap storeBytes (sym said)) ∙ slot-in (storeOf t) (sound-form (storeOf t) refl ok) i (a .0) ∙ ap (slotBytes counted) (a .1) in
@@ -122,6 +141,6 @@ worth {oldest} {latest} {s} h n (rescues {f = f} {m = m} {t = t} size o l e) =
             λ same. ap (λ r. r .retired) (used-eq x q (sym (b .1) ∙ slot-at counted s i (inside s i (b .0)) ∙ ap slotOf same
                 ∙ sym (slot-at counted t i (inside t i (a .0))) ∙ a .1)),
           );
-      adds-up = rw slots (numbers .0);
-      kept-adds-up = rw slots (numbers .1);
+      adds-up = subst (λ c. c .same + c .other + c .out + freeSlots (slotsIn s) ≡ length (slotsIn s)) (sym compared) (rw slots (numbers .0));
+      kept-adds-up = subst (λ c. c .same + c .other + freeSlots (slotsIn t) ≡ length (slotsIn s)) (sym compared) (rw slots (numbers .1));
     }

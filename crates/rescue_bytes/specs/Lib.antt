@@ -1,2 +1,3 @@
 pub mod Rescues
+pub mod Numbers
 pub mod Claims

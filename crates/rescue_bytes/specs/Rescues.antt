@@ -1,5 +1,4 @@
--- Document 02, request 2026-08: what a rescue answers for any bytes of a source and of a target, and what it leaves of
--- the target. Of the source its slots alone are looked at. Assumes nothing.
+-- Document 02, request 2026-08: a rescue, over any bytes of a source and of a target. Assumes nothing.
 use Prim.Native.Nat.{ℕ, _+_, _≤_, _<_}
 use mathlib.Core.Path.{_≡_}
 use mathlib.Core.Bool.{true}
@@ -14,7 +13,8 @@ use Rattle.meaning.specs.Answers.{Exports}
 use Rattle.nodehash.specs.Node.{leafHash, innerHash}
 use Rattle.layout.specs.Headers.{sizeRight}
 use Rattle.layout.specs.Stores.{storeOf, storeBytes}
-use Rattle.rescue_rules.specs.Rescue.{rescued, Counts, counts, Run, Longest}
+use Rattle.rescue_rules.specs.Rescue.{rescued, Counts, Run, Longest}
+use Rattle.rescue_bytes.specs.Numbers.{numbersOf}
 
 -- The slots that bytes hold.
 abbrev pub slotsIn : Bytes → List Slot
@@ -31,17 +31,10 @@ abbrev pub NoRun : Bytes → ℕ → ℕ → Type 0
 NoRun s oldest latest = (f m : ℕ) → f + m ≡ latest → oldest ≤ f → Run leafHash innerHash (slotsIn s) f m → ⊥
 
 -- What is reported: the run's first version and the three numbers.
-pub record Report : Type 0 where
-  pub first : ℕ
-  pub numbers : Counts
+abbrev pub Report : Type 0
+Report = record { first : ℕ; numbers : Counts }
 
--- Of the source s and a target left as t, with a run that begins at f: the numbers are those of the two buffers
--- compared.
-abbrev pub reportOf : Bytes → ℕ → Bytes → Report
-reportOf s f t = record { first = f; numbers = counts (slotsIn s) (slotsIn t) }
-
--- Rescuing the source s, with oldest and latest given by the caller, into a target that holds the bytes old gives this
--- answer and leaves these bytes of the target.
+-- Rescuing the source s into a target that holds the bytes old gives this answer and leaves these bytes of the target.
 pub data Rescues (oldest latest : ℕ) (s old : Bytes) : Answer Report → Bytes → Type 0 where
   -- 1: a size that is wrong or not equal; nothing is written
   wrong-size : (SameSize s old → ⊥) → Rescues oldest latest s old (refused 1) old
@@ -49,14 +42,12 @@ pub data Rescues (oldest latest : ℕ) (s old : Bytes) : Answer Report → Bytes
   out-of-order : SameSize s old → latest < oldest → Rescues oldest latest s old (refused 2) old
   -- 3: no version; nothing is written
   no-version : SameSize s old → oldest ≤ latest → NoRun s oldest latest → Rescues oldest latest s old (refused 3) old
-  -- else the bytes are those of the rescued store of the longest run
+  -- else the bytes are those of the rescued store of the longest run, and the two buffers are compared
   rescues : {f m : ℕ} {t : Bytes} → SameSize s old → oldest ≤ latest →
-      Longest leafHash innerHash (slotsIn s) oldest latest f m →
-      t ≡ storeBytes (rescued (slotsIn s) f m) →
-      Rescues oldest latest s old (accepted (reportOf s f t)) t
+      Longest leafHash innerHash (slotsIn s) oldest latest f m → t ≡ storeBytes (rescued (slotsIn s) f m) →
+      Rescues oldest latest s old (accepted (record { first = f; numbers = numbersOf s t })) t
 
--- What is told in C: the first version, then the records kept as they were, those with another retired-since, the used
--- slots left out, 4 bytes each.
+-- What is told in C: the first version, and the three numbers in their order.
 unfoldable pub reportBytes : Report → Bytes
 reportBytes r = le 4 (r .first) ++ (le 4 (r .numbers .same) ++ (le 4 (r .numbers .other) ++ le 4 (r .numbers .out)))
 

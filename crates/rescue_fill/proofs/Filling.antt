@@ -69,7 +69,6 @@ module _ (s t : Bytes) (size : sizeRight counted (length s) ≡ true) (equal : l
   t-size = subst (λ n. sizeRight counted n ≡ true) (sym equal) size
 
   is-formatted : u ≡ storeBytes (formatted (roomOf counted (length t)))
-  unfolding formatBytes
   is-formatted = e ∙ rw t-size
 
   its-form : StoreForm (formatted (roomOf counted (length t)))

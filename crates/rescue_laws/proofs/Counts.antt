@@ -3,15 +3,11 @@
 use Prim.Native.Nat.{ℕ, suc, _+_}
 use native.Mathlib.Omega.{arith}
 use mathlib.Core.Path.{_≡_, refl, sym}
-use mathlib.Core.Logic.{inl, inr}
 use mathlib.Core.Bool.{Bool, true, false, cond}
 use mathlib.Core.List.{List, [], _∷_}
 use lib.ListN.{length}
 use lib.Dec.{eqb}
-use borrow.Author.Tests.{eq-eqb}
-use Rattle.terms.specs.Bits.{Bytes}
 use Rattle.terms.specs.Records.{Record, Slot, free, used, spoiled}
-use Rattle.terms.proofs.Members.{In}
 use Rattle.meaning.specs.Store.{freeSlots, marked}
 use Rattle.rescue_rules.specs.Rescue.{without, taken, Counts, compared, counts}
 use Rattle.rescue_laws.proofs.Taken.{Nodes, Setting, after, onFrom}
@@ -45,10 +41,3 @@ counts-add-up nodes set (spoiled x ∷ s) = let h = counts-add-up nodes set s in
 pub same-is-same : (r : Record) (n : ℕ) → r .retired ≡ n → marked n r ≡ r
 unfolding marked
 same-is-same r n e = λ j. record { place = r .place; version = r .version; retired = sym e j; body = r .body; counts = r .counts }
-
--- slots without damage compared with themselves: nothing changed and nothing left out
-pub counts-same : (s : List Slot) → ((x : Bytes) → In (spoiled x) s → ⊥) → (counts s s .other ≡ 0) × (counts s s .out ≡ 0)
-counts-same [] f = (refl, refl)
-counts-same (free ∷ s) f = counts-same s (λ x h. f x (inr h))
-counts-same (used r ∷ s) f = rw (eq-eqb (r .retired) (r .retired) refl) (counts-same s (λ x h. f x (inr h)))
-counts-same (spoiled x ∷ s) f = absurd (f x (inl refl))

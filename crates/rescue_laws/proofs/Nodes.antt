@@ -5,7 +5,7 @@ use mathlib.Core.Path.{_≡_, refl, sym, _∙_, subst}
 use mathlib.Core.Logic.{inl, inr}
 use mathlib.Core.Bool.{Bool, true, false, cond, _||_, or-true, true≢false, false≢true}
 use mathlib.Core.List.{List, []}
-use mathlib.Core.Option.{Option, none, some}
+use mathlib.Core.Option.{Option, none, some, orElse}
 use borrow.Author.Tests.{eqb-true, eq-eqb}
 use lib.Dec.{eqb, leb}
 use borrow.Author.Tests.{leb-true, leb-false}
@@ -14,7 +14,7 @@ use Rattle.terms.specs.Records.{Slot}
 use Rattle.terms.proofs.Tests.{and-left, and-right, or-cases, same-place, place-same}
 use Rattle.meaning.specs.Tree.{VTree, vnone, vleaf, vinner}
 use Rattle.meaning.specs.Sound.{NodeOf}
-use Rattle.rescue_rules.specs.Rescue.{sourceTree, sameNode, standsIn, ifIn, orElse, newest, isThere, inRun}
+use Rattle.rescue_rules.specs.Rescue.{sourceTree, sameNode, standsIn, ifIn, newest, isThere, inRun}
 
 pub same-is : (v : ℕ) (q : Place) (w : ℕ) (p : Place) → sameNode v q w p ≡ true → (w ≡ v) × (p ≡ q)
 unfolding sameNode
@@ -60,6 +60,7 @@ one s f w q = go _ refl
 
 longer-run : (s : List Slot) (f n w : ℕ) (q : Place) (o i : Option ℕ) → Newest s (suc f) n w q o → Newest s f 0 w q i →
     Newest s f (suc n) w q (orElse o i)
+unfolding orElse
 longer-run s f n w q none none (nowhere g) (nowhere h) = nowhere (λ v a b m. go v a b m _ refl)
   where
     go : (v : ℕ) → f ≤ v → v ≤ f + suc n → NodeOf w q (sourceTree s v) [] → (c : Bool) → leb v f ≡ c → ⊥

@@ -5,7 +5,7 @@ use native.Mathlib.Omega.{arith}
 use mathlib.Core.Path.{_≡_, refl, ap, sym}
 use mathlib.Core.Bool.{Bool, true, false, cond, true≢false, false≢true}
 use mathlib.Core.List.{List, [], _∷_}
-use mathlib.Core.Option.{Option, none, some}
+use mathlib.Core.Option.{Option, none, some, orElse}
 use lib.ListN.{getD}
 use borrow.Author.Tests.{ne-eqb}
 use Rattle.terms.specs.Bits.{Bytes, Place}
@@ -13,7 +13,7 @@ use Rattle.terms.specs.Records.{Record, Slot, free, used, spoiled}
 use Rattle.meaning.specs.Store.{marked}
 use Rattle.meaning.specs.Sound.{NodeOf}
 use Rattle.meaning.proofs.Finding.{free-used, used-eq}
-use Rattle.rescue_rules.specs.Rescue.{sourceTree, ifIn, orElse, newest, isThere, inRun, since, fresh, without, taken}
+use Rattle.rescue_rules.specs.Rescue.{sourceTree, ifIn, newest, isThere, inRun, since, fresh, without, taken}
 use Rattle.rescue_rules.specs.Joining.{Chain}
 use Rattle.rescue_laws.proofs.Taken.{Nodes, Setting, after, onFrom}
 use Rattle.rescue_laws.proofs.Nodes.{Newest, last, newest-is, node-stands}
@@ -44,7 +44,7 @@ slots-kept nodes set (spoiled x ∷ s) (suc i) r e = slots-kept nodes set s i r 
 module _ (s : List Slot) (u n w : ℕ) (q : Place) where
   -- what was taken before keeps its retired-since
   pub taken-before : inRun s (suc u) n w q ≡ true → (inRun s u (suc n) w q ≡ true) × (fresh s u (suc n) w q ≡ fresh s (suc u) n w q)
-  unfolding inRun fresh
+  unfolding inRun fresh orElse
   taken-before h = go (newest s (suc u) n w q) h
     where
       l : u + suc n ≡ suc u + n
@@ -58,7 +58,7 @@ module _ (s : List Slot) (u n w : ℕ) (q : Place) where
   -- what u's tree has beyond that is retired since u + 1
   pub taken-now : inRun s (suc u) n w q ≡ false → NodeOf w q (sourceTree s u) [] →
       (inRun s u (suc n) w q ≡ true) × (fresh s u (suc n) w q ≡ suc u)
-  unfolding inRun fresh ifIn
+  unfolding inRun fresh ifIn orElse
   taken-now h m = go (newest s (suc u) n w q) h _ (node-stands w q (sourceTree s u) [] m)
     where
       go : (o : Option ℕ) → isThere o ≡ false → (b : Bool) → b ≡ true →

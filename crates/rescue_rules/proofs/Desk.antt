@@ -5,7 +5,7 @@ use Prim.Native.Nat.{ℕ, suc, _-_}
 use mathlib.Core.Path.{_≡_, refl}
 use mathlib.Core.Bool.{Bool, true, false}
 use mathlib.Core.List.{List, [], _∷_, _++_}
-use mathlib.Core.Option.{none, some}
+use mathlib.Core.Option.{none, some, orElse}
 use lib.ListN.{getD, replicate, set}
 use Rattle.terms.specs.declared.Form.the-variants.{Counted as counted}
 use Rattle.terms.specs.Bits.{Bytes, Place, All}
@@ -155,7 +155,7 @@ trees =
 pub desk-rescued : All RowHolds table
 unfolding computed endsBefore allOf isSame holders lifeTest childTest names keptLife isParent lifeAbove apart rootApart lifeCovered whole32Test
     childFormTest formTest headTest linkTest countsTest recordTest slotsTest localTest
-    rootUpTo sourceRoot sourceTree sameNode ifIn inRun fresh without runStore rescued newer rootVersion joinsNext firstOfRun
+    rootUpTo sourceRoot sourceTree sameNode ifIn orElse inRun fresh without runStore rescued newer rootVersion joinsNext firstOfRun
 desk-rescued = (
   (refl, refl, refl, refl),
   (
@@ -179,14 +179,14 @@ desk-rescued = (
 pub between-rescued : All RowHolds between
 unfolding computed endsBefore allOf isSame holders lifeTest childTest names keptLife isParent lifeAbove apart rootApart lifeCovered whole32Test
     childFormTest formTest headTest linkTest countsTest recordTest slotsTest localTest
-    rootUpTo sourceRoot sourceTree sameNode ifIn inRun fresh without runStore rescued newer rootVersion joinsNext firstOfRun
+    rootUpTo sourceRoot sourceTree sameNode ifIn orElse inRun fresh without runStore rescued newer rootVersion joinsNext firstOfRun
 between-rescued =
     ((refl, refl, refl, refl), ((refl, refl, refl, refl), ((refl, refl, refl, refl), (refl, ((refl, refl, refl, refl), ((refl, refl, refl, refl), tt))))))
 
 pub trees-rescued : All RowHolds trees
 unfolding computed endsBefore allOf isSame holders lifeTest childTest names keptLife isParent lifeAbove apart rootApart lifeCovered whole32Test
     childFormTest formTest headTest linkTest countsTest recordTest slotsTest localTest
-    rootUpTo sourceRoot sourceTree sameNode ifIn inRun fresh without runStore rescued newer rootVersion joinsNext firstOfRun
+    rootUpTo sourceRoot sourceTree sameNode ifIn orElse inRun fresh without runStore rescued newer rootVersion joinsNext firstOfRun
 trees-rescued = ((refl, refl, refl, refl), (refl, (refl, (refl, ((refl, refl, refl, refl), tt)))))
 
 -- one version more is not sound with the fresh setting: the root of version 3 lost, the leaf lost, the newer child
@@ -194,5 +194,5 @@ pub one-more-fails : All (λ st. sound st ≡ false)
     (rescued (set five 10 free) 3 2 ∷ rescued (set five 2 (spoiled [])) 3 2 ∷ rescued steepSource 2 3 ∷ [])
 unfolding computed endsBefore allOf isSame holders lifeTest childTest names keptLife isParent lifeAbove apart rootApart lifeCovered whole32Test
     childFormTest formTest headTest linkTest countsTest recordTest slotsTest localTest
-    rootUpTo sourceRoot sourceTree sameNode ifIn inRun fresh without runStore rescued newer rootVersion joinsNext firstOfRun
+    rootUpTo sourceRoot sourceTree sameNode ifIn orElse inRun fresh without runStore rescued newer rootVersion joinsNext firstOfRun
 one-more-fails = (refl, (refl, (refl, tt)))

@@ -1,5 +1,4 @@
--- SHA-256 after FIPS 180-4 from section 4.2.2 on, in its order and its names, for a message of whole bytes. What comes
--- before, sums, rotations and the six functions, is in `sha256_words`. Assumes nothing.
+-- SHA-256 of whole bytes after FIPS 180-4 from 4.2.2 on, in its order and names; `sha256_words` has what is before.
 use Prim.Native.Nat.{ℕ, zero, suc, _+_, _*_, _-_, _/_, _%_, _^_}
 use mathlib.Core.Bool.{cond}
 use mathlib.Core.List.{List, [], _∷_, _++_}
@@ -20,16 +19,13 @@ K =
     0x27b70a85 ∷ 0x2e1b2138 ∷ 0x4d2c6dfc ∷ 0x53380d13 ∷ 0x650a7354 ∷ 0x766a0abb ∷ 0x81c2c92e ∷ 0x92722c85 ∷
     0xa2bfe8a1 ∷ 0xa81a664b ∷ 0xc24b8b70 ∷ 0xc76c51a3 ∷ 0xd192e819 ∷ 0xd6990624 ∷ 0xf40e3585 ∷ 0x106aa070 ∷
     0x19a4c116 ∷ 0x1e376c08 ∷ 0x2748774c ∷ 0x34b0bcb5 ∷ 0x391c0cb3 ∷ 0x4ed8aa4a ∷ 0x5b9cca4f ∷ 0x682e6ff3 ∷
-    0x748f82ee ∷ 0x78a5636f ∷ 0x84c87814 ∷ 0x8cc70208 ∷ 0x90befffa ∷ 0xa4506ceb ∷ 0xbef9a3f7 ∷ 0xc67178f2 ∷
-    []
+    0x748f82ee ∷ 0x78a5636f ∷ 0x84c87814 ∷ 0x8cc70208 ∷ 0x90befffa ∷ 0xa4506ceb ∷ 0xbef9a3f7 ∷ 0xc67178f2 ∷ []
 
--- 5.1.1: the bit 1, which begins the byte 128, and as few zero bytes as bring the message to 56 bytes beyond whole
--- blocks of 64.
+-- 5.1.1: the bit 1, which begins the byte 128, and zero bytes, as few as reach 56 beyond whole blocks of 64.
 abbrev pub marked : Bytes → Bytes
 marked m = m ++ (128 ∷ replicate ((119 - length m % 64) % 64) 0)
 
--- 5.1.1: the padded message ends with the message's number of bits in 64 bits. FIPS hashes no message of 2 ^ 64 bits or
--- more; of such a message, which no machine holds, this takes the number modulo 2 ^ 64.
+-- 5.1.1: then the message's number of bits in 64 bits, modulo 2 ^ 64: no longer message is hashed, nor can one be held.
 unfoldable pub padded : Bytes → Bytes
 padded m = marked m ++ big 8 (length m * 8)
 
@@ -37,19 +33,13 @@ padded m = marked m ++ big 8 (length m * 8)
 abbrev pub M : Bytes → ℕ → ℕ → ℕ
 M l i t = wordAt l (i * 64 + t * 4)
 
--- 5.3.3: the initial hash value H(0). Its words H0 to H7 have the names of the working variables.
+-- The eight words of a hash value, with the names of the working variables.
+abbrev pub state : ℕ → ℕ → ℕ → ℕ → ℕ → ℕ → ℕ → ℕ → State
+state a b c d e f g h = record { a = a; b = b; c = c; d = d; e = e; f = f; g = g; h = h }
+
+-- 5.3.3: the initial hash value H(0).
 abbrev pub H0 : State
-H0 =
-    record {
-      a = 0x6a09e667;
-      b = 0xbb67ae85;
-      c = 0x3c6ef372;
-      d = 0xa54ff53a;
-      e = 0x510e527f;
-      f = 0x9b05688c;
-      g = 0x1f83d9ab;
-      h = 0x5be0cd19;
-    }
+H0 = state 0x6a09e667 0xbb67ae85 0x3c6ef372 0xa54ff53a 0x510e527f 0x9b05688c 0x1f83d9ab 0x5be0cd19
 
 -- 6.2.2, 1: W(t) from W(t - 2), W(t - 7), W(t - 15) and W(t - 16).
 unfoldable pub scheduled : ℕ → ℕ → ℕ → ℕ → ℕ
@@ -71,17 +61,7 @@ abbrev pub T₂ : State → ℕ
 T₂ s = Σ₀ (s .a) ⊞ Maj (s .a) (s .b) (s .c)
 
 unfoldable pub round : State → ℕ → ℕ → State
-round s k w =
-    record {
-      a = T₁ s k w ⊞ T₂ s;
-      b = s .a;
-      c = s .b;
-      d = s .c;
-      e = s .d ⊞ T₁ s k w;
-      f = s .e;
-      g = s .f;
-      h = s .g;
-    }
+round s k w = state (T₁ s k w ⊞ T₂ s) (s .a) (s .b) (s .c) (s .d ⊞ T₁ s k w) (s .e) (s .f) (s .g)
 
 -- 6.2.2, 2 and 3: the working variables after t rounds, from the hash value s and the message schedule w.
 abbrev pub rounds : List ℕ → State → ℕ → State
@@ -91,16 +71,8 @@ rounds w s (suc t) = round (rounds w s t) (getD K t 0) (getD w t 0)
 -- 6.2.2, 4: the working variables x added to the hash value s.
 unfoldable pub added : State → State → State
 added x s =
-    record {
-      a = x .a ⊞ s .a;
-      b = x .b ⊞ s .b;
-      c = x .c ⊞ s .c;
-      d = x .d ⊞ s .d;
-      e = x .e ⊞ s .e;
-      f = x .f ⊞ s .f;
-      g = x .g ⊞ s .g;
-      h = x .h ⊞ s .h;
-    }
+    state (x .a ⊞ s .a) (x .b ⊞ s .b) (x .c ⊞ s .c) (x .d ⊞ s .d) (x .e ⊞ s .e) (x .f ⊞ s .f) (x .g ⊞ s .g)
+    (x .h ⊞ s .h)
 
 unfoldable pub compressed : State → (ℕ → ℕ) → State
 compressed s m = added (rounds (W m 64) s 64) s

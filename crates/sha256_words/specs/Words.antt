@@ -1,5 +1,4 @@
--- The words of SHA-256 after FIPS 180-4, sections 2.2.2 to 4.1.2, in its order and its names. A word of 32 bits is a
--- number below 2 ^ 32. `sha256` goes on with 4.2.2. Assumes nothing.
+-- SHA-256's words of 32 bits, numbers below 2 ^ 32, after FIPS 180-4, 2.2.2 to 4.1.2, in its order and names.
 use Prim.Native.Nat.{ℕ, _+_, _*_, _-_, _/_, _%_, _^_}
 use lib.Bits.{bitAnd, bitOr, bitXor}
 

@@ -1,5 +1,4 @@
--- Shelves: what a shelf holds, by the grants of its parts, and what its list then holds. A shelf of b bits has a part
--- for each string of b bits: the grants whose keys begin with it. Assumes nothing.
+-- What a shelf of b bits holds, by the grants of its parts, one for each string of b bits, and what its list holds.
 use Prim.Native.Nat.{ℕ, zero, suc}
 use mathlib.Core.Path.{_≡_}
 use mathlib.Core.Logic.{_⊎_}
@@ -19,11 +18,9 @@ abbrev pub gathered : ℕ → Place → Parts → List Grant
 gathered zero p parts = parts p
 gathered (suc n) p parts = gathered n (longer left p) parts ++ gathered n (longer right p) parts
 
--- The grants of all parts of a shelf of b bits.
 abbrev pub allGrants : ℕ → Parts → List Grant
 allGrants b parts = gathered b [] parts
 
--- A part is among some.
 abbrev pub Among : Place → List Place → Type 0
 Among p [] = ⊥
 Among p (q ∷ qs) = (q ≡ p) ⊎ Among p qs
@@ -33,7 +30,6 @@ abbrev pub InPlace : ℕ → Parts → Type 0
 InPlace b parts = (p : Place) → length p ≡ b → All (λ g. begins p (g .key) ≡ true) (parts p)
 
 module _ (leafHash innerHash : Bytes → Bytes → Bytes) where
-  -- The root of a set of grants.
   abbrev pub rootOf : List Grant → Bytes
   rootOf gs = hash leafHash innerHash (treeOf gs)
 
@@ -42,7 +38,6 @@ module _ (leafHash innerHash : Bytes → Bytes → Bytes) where
   listed p [] = []
   listed p (g ∷ gs) = grant (pack 32 p) (rootOf (g ∷ gs)) ∷ []
 
-  -- The grants of the list.
   abbrev pub listGrants : ℕ → Parts → List Grant
   listGrants b parts = allGrants b (λ p. listed p (parts p))
 

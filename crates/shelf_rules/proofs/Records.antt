@@ -16,8 +16,8 @@ use Rattle.terms.proofs.Fields.{all-of-tests}
 use Rattle.terms.proofs.Lists.{all-take, all-drop}
 use Rattle.proofrecords.specs.ProofBytes.{neighbourBytes, proofBytes, presenceTests, isPresence, presenceIn, absenceTests, isAbsence, absenceIn, proofIn, PresenceForm, NeighbourForm, ProofForm}
 use Rattle.proofrecords.proofs.Proofs.{length-presence, length-absence, proof-back, proof-bytes}
-use Rattle.shelf_rules.specs.Shelf.{ShelfProof, noPart, inPart, shelfBytes, ShelfForm}
-use Rattle.shelf_rules.specs.Reading.{listRecord, partRecord, bySecond, byEnd, byFirst, shelfIn}
+use Rattle.shelf_rules.specs.Shelf.{ShelfProof, noPart, inPart}
+use Rattle.shelf_rules.specs.Reading.{shelfBytes, ShelfForm, listRecord, partRecord, bySecond, byEnd, byFirst, shelfIn}
 
 -- what a record in form says of its length
 abbrev Says : Bytes → Type 0

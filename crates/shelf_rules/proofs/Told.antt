@@ -2,9 +2,10 @@
 -- read as it, and it holds exactly if it is accepted. Assumes nothing.
 use Prim.Native.Nat.{ℕ, _≤_, _<_}
 use native.Mathlib.Omega.{arith}
-use mathlib.Core.Path.{_≡_, refl, ap, sym, _∙_, subst}
+use mathlib.Core.Path.{_≡_, refl, ap, ap₂, sym, _∙_, subst}
 use mathlib.Core.Logic.{_↔_}
 use mathlib.Core.Bool.{Bool, true, false, cond, _&&_}
+use mathlib.Core.List.{_++_}
 use mathlib.Core.Option.{Option, none, some}
 use lib.ListN.{length}
 use lib.Dec.{eqb, leb}
@@ -15,21 +16,31 @@ use Rattle.meaning.specs.Reading.{Verdict}
 use Rattle.meaning.specs.Answers.{foundBytes, Exported}
 use Rattle.meaning.proofs.Told.{exports}
 use Rattle.verify_rules.specs.Verify.{Sizes32}
-use Rattle.shelf_rules.specs.Shelf.{ShelfProof, ShelfIs, ShelfHolds, ShelfTold, not-32-bytes, too-many-bits, not-in-form, not-holding, holding, ShelfVerifies}
-use Rattle.shelf_rules.specs.Reading.{shelfIn, shelfChecked, shelfJudged, shelfVerified}
+use Rattle.shelf_rules.specs.Shelf.{ShelfProof, noPart, inPart, ShelfIs, alone, both, ShelfHolds, ShelfTold, not-32-bytes, too-many-bits, not-in-form, not-holding, holding, ShelfVerifies}
+use Rattle.shelf_rules.specs.Reading.{shelfBytes, ShelfForm, shelfIn, shelfChecked, shelfJudged, shelfVerified}
 use Rattle.shelf_rules.proofs.Records.{shelf-back, shelf-bytes}
 use Rattle.shelf_rules.proofs.Theorems.{shelf-accepted-exactly-if-holds, shelf-refused-with-11}
 
 not-both : {A : Type 0} {n : ℕ} {v : Verdict} → _≡_ {A = Answer Verdict} (refused n) (accepted v) → A
 not-both e = let z : _≡_ {A = ℕ} 0 1 = cc in absurd (omega arith)
 
--- bytes are a proof exactly if they are read as it, and one at most
+-- bytes are a proof exactly if they are the bytes of one in form,
+pub shelf-in-form : {x : Bytes} {p : ShelfProof} → ShelfIs x p → (x ≡ shelfBytes p) × ShelfForm p
+shelf-in-form (alone h) = (h .bytes, h .form)
+shelf-in-form (both h i) = (ap₂ _++_ (h .bytes) (i .bytes), (h .form, i .form))
+
+pub in-form-shelf : {x : Bytes} (p : ShelfProof) → x ≡ shelfBytes p → ShelfForm p → ShelfIs x p
+in-form-shelf (noPart a) e h = alone (record { bytes = e; form = h })
+in-form-shelf (inPart p q) e (h, i) =
+    subst (λ z. ShelfIs z (inPart p q)) (sym e) (both (record { bytes = refl; form = h }) (record { bytes = refl; form = i }))
+
+-- which is exactly if they are read as it, and one at most
 module _ (x : Bytes) where
   shelf-read-as : (p : ShelfProof) → ShelfIs x p → shelfIn x ≡ some p
-  shelf-read-as p w = ap shelfIn (w .bytes) ∙ shelf-back p (w .form)
+  shelf-read-as p w = let u = shelf-in-form w in ap shelfIn (u .0) ∙ shelf-back p (u .1)
 
   shelf-is : All Byte x → (p : ShelfProof) → shelfIn x ≡ some p → ShelfIs x p
-  shelf-is bytes p e = let w = shelf-bytes x bytes p e in record { bytes = sym (w .1); form = w .0 }
+  shelf-is bytes p e = let w = shelf-bytes x bytes p e in in-form-shelf p (sym (w .1)) (w .0)
 
   no-shelf-is : shelfIn x ≡ none → (p : ShelfProof) → ShelfIs x p → ⊥
   no-shelf-is e p w = none-some (sym e ∙ shelf-read-as p w)

@@ -2,7 +2,7 @@
 -- promise reaches this file. Assumes nothing.
 use Prim.Native.Nat.{ℕ}
 use mathlib.Core.Bool.{cond, _&&_}
-use mathlib.Core.List.{[], _∷_}
+use mathlib.Core.List.{[], _∷_, _++_}
 use mathlib.Core.Option.{Option, none, some}
 use lib.ListN.{length, take, drop}
 use lib.Dec.{eqb, leb}
@@ -13,8 +13,18 @@ use Rattle.meaning.specs.Calls.{Answer, refused, accepted}
 use Rattle.meaning.specs.Reading.{Verdict, present, absent}
 use Rattle.meaning.specs.Checking.{checked}
 use Rattle.nodehash.specs.Node.{leafHash, innerHash}
-use Rattle.proofrecords.specs.ProofBytes.{proofIn}
+use Rattle.proofrecords.specs.ProofBytes.{proofBytes, proofIn, ProofForm}
 use Rattle.shelf_rules.specs.Shelf.{mostBits, partKey, ShelfProof, noPart, inPart}
+
+-- The bytes of a shelf's proof: the list's record, then the part's.
+abbrev pub shelfBytes : ShelfProof → Bytes
+shelfBytes (noPart a) = proofBytes (absence a)
+shelfBytes (inPart p q) = proofBytes (presence p) ++ proofBytes q
+
+-- Which have a form in bytes.
+abbrev pub ShelfForm : ShelfProof → Type 0
+ShelfForm (noPart a) = ProofForm (absence a)
+ShelfForm (inPart p q) = ProofForm (presence p) × ProofForm q
 
 -- The first record's own length says where it ends.
 unfoldable pub listRecord : Bytes → Bytes

@@ -1,6 +1,5 @@
 -- A shelf is a list of stores under one root: grants whose keys begin with the same bits are in one store, its part;
--- the list is a store too, with the root of each part that has a grant. Here: the proof of a key of a shelf, when it
--- holds, and what its check answers to any bytes. Order: 12, 21, 10, 11. Assumes nothing.
+-- the list is a store too, with the root of each part that has a grant. Here: the proof of a key, and its check.
 use Prim.Native.Nat.{ℕ, _≤_, _<_}
 use mathlib.Core.Path.{_≡_}
 use mathlib.Core.List.{_++_}
@@ -12,7 +11,7 @@ use Rattle.meaning.specs.Reading.{Verdict, present, absent}
 use Rattle.meaning.specs.Answers.{foundBytes, Exports}
 use Rattle.checker.specs.Holding.{Holds}
 use Rattle.nodehash.specs.Node.{leafHash, innerHash}
-use Rattle.proofrecords.specs.ProofBytes.{proofBytes, ProofForm}
+use Rattle.proofrecords.specs.ProofBytes.{ProofIs}
 use Rattle.verify_rules.specs.Verify.{Sizes32}
 
 -- A shelf has 0 to 12 bits.
@@ -28,24 +27,12 @@ pub data ShelfProof : Type 0 where
   noPart : Absence → ShelfProof
   inPart : Presence → Proof → ShelfProof
 
--- Its bytes: the list's record, then the part's.
-abbrev pub shelfBytes : ShelfProof → Bytes
-shelfBytes (noPart a) = proofBytes (absence a)
-shelfBytes (inPart p q) = proofBytes (presence p) ++ proofBytes q
+-- The bytes are one whole proof of a shelf in form, no byte over: the list's record, then the part's.
+pub data ShelfIs : Bytes → ShelfProof → Type 0 where
+  alone : {x : Bytes} {a : Absence} → ProofIs x (absence a) → ShelfIs x (noPart a)
+  both : {x y : Bytes} {p : Presence} {q : Proof} → ProofIs x (presence p) → ProofIs y q → ShelfIs (x ++ y) (inPart p q)
 
--- Which have a form in bytes.
-abbrev pub ShelfForm : ShelfProof → Type 0
-ShelfForm (noPart a) = ProofForm (absence a)
-ShelfForm (inPart p q) = ProofForm (presence p) × ProofForm q
-
--- The bytes are one whole proof of a shelf in form, no byte over: the list's record, and the part's exactly if the
--- list's shows a presence.
-pub record ShelfIs (x : Bytes) (p : ShelfProof) : Type 0 where
-  pub bytes : x ≡ shelfBytes p
-  pub form : ShelfForm p
-
--- It holds, with this answer: the list's record shows that there is no part, and the key is absent; or it shows a part
--- with its root, and the second record holds for the key against that root.
+-- It holds, with this answer: the list shows no part, so absent; or a part's root, and the second holds against that.
 pub data ShelfHolds (root : Bytes) (b : ℕ) (k : Bytes) : ShelfProof → Verdict → Type 0 where
   no-part : {a : Absence} → Holds leafHash innerHash root (partKey b k) (absence a) absent →
       ShelfHolds root b k (noPart a) absent
@@ -53,7 +40,7 @@ pub data ShelfHolds (root : Bytes) (b : ℕ) (k : Bytes) : ShelfProof → Verdic
       Holds leafHash innerHash root (partKey b k) (presence p) (present part) →
       Holds leafHash innerHash part k q answer → ShelfHolds root b k (inPart p q) answer
 
--- What is said of the bytes x as a proof of the key k of a shelf of b bits, against the list's root.
+-- What is said of the bytes x as a proof of the key k of a shelf of b bits, against the list's root; rows in order.
 pub data ShelfTold (root : Bytes) (b : ℕ) (k x : Bytes) : Answer Verdict → Type 0 where
   -- 12: the root or the key isn't 32 bytes
   not-32-bytes : (Sizes32 root k → ⊥) → ShelfTold root b k x (refused 12)
@@ -68,7 +55,6 @@ pub data ShelfTold (root : Bytes) (b : ℕ) (k x : Bytes) : Answer Verdict → T
   holding : {p : ShelfProof} {v : Verdict} → Sizes32 root k → b ≤ mostBits → ShelfIs x p → ShelfHolds root b k p v →
       ShelfTold root b k x (accepted v)
 
--- Checking the bytes x as a proof of the key k of a shelf of b bits against the list's root answers r; the array f for
--- what is found is left as g.
+-- Checking the bytes x so, with the array f for what is found, answers r and leaves the array as g.
 abbrev pub ShelfVerifies : Bytes → ℕ → Bytes → Bytes → Bytes → ℕ → Bytes → Type 0
 ShelfVerifies root b k x f r g = Exports (ShelfTold root b k x) foundBytes f r g

@@ -26,7 +26,6 @@ use Rattle.layout.specs.Sizes.{roomOf}
 use Rattle.layout.specs.Headers.{sizeRight}
 use Rattle.layout.specs.Stores.{storeOf, storeBytes}
 use Rattle.layout.proofs.Headers.{size-says}
-use Rattle.contracts.specs.Format.{formatAnswer, formatBytes}
 use Rattle.batch.proofs.Batches.{asked-one}
 use Rattle.meaning.specs.Answers.{exports-refusal, exports-answer}
 use Rattle.promises.specs.Calls.{SoundBytes, accepts}
@@ -123,11 +122,11 @@ module _ {b n : ℕ} {x y : Shelf} (w : Standing b x) (act : Publishes b n x y) 
   abbrev top : ℕ
   top = latestOf (x .list)
 
-  list-next : NextVersion n (act .batch) (x .list) (y .list) (act .g)
-  list-next = accepted-batch-makes-next-version n (act .batch) (act .number) (act .applied)
+  list-next : NextVersion n (act .batch) (x .list) (y .list) (act .applied .1)
+  list-next = accepted-batch-makes-next-version n (act .batch) (act .number) (act .applied .2)
 
-  run-next : (p : Place) (r : Run n p (x .part p) (y .part p)) → NextVersion n (r .batch) (x .part p) (y .part p) (r .g)
-  run-next p r = accepted-batch-makes-next-version n (r .batch) (act .number) (r .applied)
+  run-next : (p : Place) (r : Run n p (x .part p) (y .part p)) → NextVersion n (r .batch) (x .part p) (y .part p) (r .applied .1)
+  run-next p r = accepted-batch-makes-next-version n (r .batch) (act .number) (r .applied .2)
 
   -- at the top of the list a part is at its own latest
   at-top : (p : Place) → length p ≡ b → earlier top (latestOf (x .part p)) ≡ latestOf (x .part p)
@@ -318,7 +317,7 @@ record Fresh (t : Bytes) : Type 0 where
   pub empty : (v : ℕ) → grantsOfVersion t v ≡ []
 
 fresh-store : {s t : Bytes} → Formats s 0 t → Fresh t
-unfolding formatAnswer formatBytes formatted
+unfolding formatted
 fresh-store {s} {t} w = go (sizeRight counted (length s)) refl (w .answer) (w .bytes)
   where
     go : (c : Bool) → sizeRight counted (length s) ≡ c → _≡_ {A = ℕ} 0 (cond c 0 1) → t ≡ cond c (storeBytes (formatted (roomOf counted (length s)))) s → Fresh t

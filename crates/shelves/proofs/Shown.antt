@@ -32,9 +32,10 @@ use Rattle.proofrecords.specs.ProofBytes.{presenceKind, absenceKind, proofBytes
 use Rattle.layout.specs.Stores.{storeOf}
 use Rattle.promises.specs.Calls.{SoundBytes}
 use Rattle.promises.proofs.Calls.{sound-form}
-use Rattle.shelf_rules.specs.Shelf.{partKey, ShelfProof, noPart, inPart, shelfBytes, ShelfForm, ShelfHolds, no-part as by-list-alone, in-part, ShelfTold, holding}
+use Rattle.shelf_rules.specs.Reading.{shelfBytes, ShelfForm}
+use Rattle.shelf_rules.specs.Shelf.{partKey, ShelfProof, noPart, inPart, ShelfHolds, no-part as by-list-alone, in-part, ShelfTold, holding}
 use Rattle.shelf_rules.proofs.Records.{shelf-proofs-have-25600-bytes}
-use Rattle.shelf_rules.proofs.Told.{one-shelf-told}
+use Rattle.shelf_rules.proofs.Told.{in-form-shelf, one-shelf-told}
 use Rattle.shelf_grants.specs.Contents.{Parts, allGrants, InPlace, rootOf, listGrants}
 use Rattle.shelf_grants.proofs.Gathered.{front-prefix, answer-of-part}
 use Rattle.shelf_grants.proofs.Listed.{said, answer-in-list}
@@ -210,7 +211,7 @@ module _ {b : ℕ} {x : Shelf} {v : ℕ} (w : StandsAt b x v) (k : Bytes) (whole
         let u = given y₁ in
         let same = a .1 ∙ version-root (w .list-sound) (w .list-kept) in
         let t : ShelfTold root b k y (accepted (answerOf k (shelfGrants b x v))) =
-        holding (root-whole, whole .0) (w .few) (record { bytes = u .1; form = u .2 }) (u .3) in
+        holding (root-whole, whole .0) (w .few) (in-form-shelf (u .0) (u .1) (u .2)) (u .3) in
         let c = shelf-left z (subst (λ h. ShelfTold h b k y (accepted (answerOf k (shelfGrants b x v)))) (sym same) t) in
         (a .0, c .0, c .1);
     short = λ y. let u = given y in omega (arith, ap length (u .1), shelf-proofs-have-25600-bytes (u .0) (u .2));

@@ -14,7 +14,9 @@ use Rattle.meaning.proofs.Told.{seen}
 use Rattle.checker.specs.Holding.{Holds, shown, only-left, only-right, both}
 use Rattle.nodehash.specs.Node.{leafHash, innerHash}
 use Rattle.proofrecords.specs.ProofBytes.{proofBytes, ProofForm}
-use Rattle.shelf_rules.specs.Shelf.{partKey, ShelfProof, shelfBytes, ShelfForm, ShelfIs, ShelfHolds, no-part, in-part, ShelfTold, not-32-bytes, too-many-bits, not-in-form, not-holding, holding}
+use Rattle.shelf_rules.specs.Reading.{shelfBytes, ShelfForm}
+use Rattle.shelf_rules.proofs.Told.{shelf-in-form}
+use Rattle.shelf_rules.specs.Shelf.{partKey, ShelfProof, ShelfIs, ShelfHolds, no-part, in-part, ShelfTold, not-32-bytes, too-many-bits, not-in-form, not-holding, holding}
 use Rattle.verify_rules.specs.Verify.{holding as holding-alone, in-form}
 use Rattle.contracts.specs.Contracts.{Verifies, ShelfVerifies}
 use Rattle.shelves.specs.Shelf.{BySingleChecks, list-alone, both-records}
@@ -65,9 +67,9 @@ value-32 _ _ h (both e l r o) v q = no-presence q
 pub only-what-single-checks-accept : {root k y f g : Bytes} {b : ℕ} → ShelfVerifies root b k y f 0 g → BySingleChecks root b k y g
 only-what-single-checks-accept {root} {k} {y} {f} {g} {b} w =
     let a = what-was-accepted w in
-    let u = a .is-proof in
+    let u = shelf-in-form (a .is-proof) in
     subst (BySingleChecks root b k y) (sym (a .told))
-    (subst (λ z. BySingleChecks root b k z (foundBytes (a .answer))) (sym (u .bytes)) (go (a .root32) (a .key32) (u .form) (a .holds)))
+    (subst (λ z. BySingleChecks root b k z (foundBytes (a .answer))) (sym (u .0)) (go (a .root32) (a .key32) (u .1) (a .holds)))
   where
     go : {p : ShelfProof} {v : Verdict} → length root ≡ 32 → length k ≡ 32 → ShelfForm p → ShelfHolds root b k p v → BySingleChecks root b k (shelfBytes p) (foundBytes v)
     go r l h (no-part {a} i) = list-alone (accepted-alone root (partKey b k) (absence a) absent f r (key-32 b k) h i)

@@ -1,5 +1,4 @@
--- Document 01, 'Bytes' and the first lines of 'The tree of a set of grants': byte strings, keys, places, and the order
--- of keys. Assumes nothing.
+-- Document 01, 'Bytes', 'The tree of a set of grants': byte strings, keys, places, the order of keys. Assumes nothing.
 use Prim.Native.Nat.{ℕ, zero, suc, _+_, _*_, _<_, _/_, _%_}
 use mathlib.Core.Path.{_≡_}
 use mathlib.Core.Bool.{Bool, true, false, cond, not, _&&_, _||_, Bool·beq}
@@ -69,8 +68,8 @@ digit true = 1
 -- The byte of eight bits, the top bit first; missing ones are 0.
 unfoldable pub packed : List Side → ℕ
 packed b =
-    128 * digit (getD b 0 left) + 64 * digit (getD b 1 left) + 32 * digit (getD b 2 left) + 16 * digit (getD b 3 left)
-    + 8 * digit (getD b 4 left) + 4 * digit (getD b 5 left) + 2 * digit (getD b 6 left) + digit (getD b 7 left)
+    let d : ℕ → ℕ = λ i. digit (getD b i left) in
+    128 * d 0 + 64 * d 1 + 32 * d 2 + 16 * d 3 + 8 * d 4 + 4 * d 5 + 2 * d 6 + d 7
 
 -- A string of bits in n bytes, unused bits zero.
 unfoldable pub pack : ℕ → List Side → Bytes

@@ -1,5 +1,4 @@
--- Document 01, 'Bytes': which records have a form in bytes. A number has four bytes; a child's version 0 means no
--- child, and its hash is then zero; at least one child is present. A count has four bytes (2026-09). Assumes nothing.
+-- Document 01, 'Bytes', and 2026-09: which records have a form in bytes; numbers and counts have four. Assumes nothing.
 use Prim.Native.Nat.{ℕ, _≤_}
 use mathlib.Core.Path.{_≡_}
 use lib.ListN.{length}
@@ -35,6 +34,7 @@ abbrev pub placeLimit : Body → ℕ
 placeLimit (leafBody k x) = 256
 placeLimit (innerBody l r) = 255
 
+-- A child's version 0 means no child, and its hash is then zero; an inner record has a child.
 pub record ChildForm (c : Child) : Type 0 where
   pub number : c .version ≤ top32
   pub hash32 : Whole32 (c .hash)

@@ -1,13 +1,11 @@
--- Document 01, 'Bytes': what the records say, apart from their bytes. Grants, what a batch asks for, slots and stores,
--- and proofs. Assumes nothing.
+-- Document 01, 'Bytes': what grants, batches, slots, stores and proofs say, apart from their bytes. Assumes nothing.
 use Prim.Native.Nat.{ℕ}
 use mathlib.Core.Bool.{true, false}
 use mathlib.Core.List.{List}
 use mathlib.Core.Option.{Option}
 use lib.ListN.{replicate}
 use Rattle.terms.specs.Bits.{Bytes, Side, Place}
--- The form of a store is the code's own type: the plain one of document 01, whose records hold no counts, or the
--- counted one of 2026-09.
+-- The form of a store: the plain one of document 01, whose records hold no counts, or the counted one of 2026-09.
 pub use Rattle.terms.specs.declared.Form.{Form}
 pub use Rattle.terms.specs.declared.Form.the-variants.{Plain as plain, Counted as counted}
 
@@ -40,14 +38,12 @@ pub record Child : Type 0 where
 abbrev pub child : ℕ → Bytes → Child
 child v h = record { version = v; hash = h }
 
--- What a record holds beside its node (version, place): a leaf its key and value, an inner node its left and right
--- child.
+-- What a record holds beside its node (version, place): a leaf its key and value, an inner node its children.
 pub data Body : Type 0 where
   leafBody : Bytes → Bytes → Body
   innerBody : Child → Child → Body
 
--- What an inner record says of the numbers of leaves below its left and its right child (2026-09). They stand beside
--- the body: no hash covers them, and no tree is read by them.
+-- The numbers of leaves below a left and a right child (2026-09): no hash covers them, and no tree is read by them.
 pub record Tally : Type 0 where
   pub leftward : ℕ
   pub rightward : ℕ
@@ -72,6 +68,9 @@ pub record Record : Type 0 where
   pub body : Body
   pub counts : Tally
 
+abbrev pub recordOf : Place → ℕ → ℕ → Body → Tally → Record
+recordOf p v n b c = record { place = p; version = v; retired = n; body = b; counts = c }
+
 -- A slot is free, or a record in form, or neither: then its bytes are all that can be said of it.
 pub data Slot : Type 0 where
   free : Slot
@@ -84,6 +83,9 @@ pub record Store : Type 0 where
   pub oldest : ℕ
   pub latest : ℕ
   pub slots : List Slot
+
+abbrev pub storeFrom : Form → ℕ → ℕ → List Slot → Store
+storeFrom f old new s = record { form = f; oldest = old; latest = new; slots = s }
 
 -- A step of a proof: on which side the node stands, and its sibling's hash.
 pub record Step : Type 0 where

@@ -1,5 +1,4 @@
--- Many proofs checked in one call, beyond document 02: a row of pieces, one for each key of a list, and the answers of
--- single checks in their order. Whether a piece is a proof in form is its own number. Assumes nothing.
+-- Many proofs checked in one call, beyond document 02: a row of pieces, one for each key of a list. Assumes nothing.
 use Prim.Native.Nat.{ℕ, _*_, _≤_, _<_}
 use mathlib.Core.Path.{_≡_}
 use mathlib.Core.Bool.{true}
@@ -23,9 +22,6 @@ pub record Pieces (n : ℕ) (row : Bytes) (xs : List Bytes) : Type 0 where
   pub many : length xs ≡ n
   pub bytes : row ≡ flat xs
 
-abbrev pub answerSize : ℕ
-answerSize = 34
-
 -- The answer of a single check in 34 bytes: its number, then what it leaves in 33 bytes of zeros.
 unfoldable pub answerBytes : Answer Verdict → Bytes
 answerBytes a = numberOf a ∷ toldOf foundBytes a (zeroBytes 33)
@@ -40,19 +36,21 @@ pub data Answers (root : Bytes) : List Bytes → List Bytes → Bytes → Type 0
 abbrev pub RootAndKeys : Bytes → Bytes → Type 0
 RootAndKeys root list = (length root ≡ 32) × (wholeKeys list ≡ true)
 
--- What is said of a row: 12 if the root isn't 32 bytes or the list isn't 0 to 256 whole keys; 10 if the bytes aren't
--- exactly as many pieces as keys; 9 if there are fewer than 34 bytes a key for the answers; else the answers.
+-- Else 12; 10 if the bytes aren't exactly as many pieces as keys; 9 where 34 bytes a key don't fit; else the answers.
 pub data ToldOfRow (root list row : Bytes) (room : ℕ) : Answer Bytes → Type 0 where
   not-whole : (RootAndKeys root list → ⊥) → ToldOfRow root list row room (refused 12)
   not-pieces : RootAndKeys root list → ((xs : List Bytes) → Pieces (length (keysIn list)) row xs → ⊥) →
       ToldOfRow root list row room (refused 10)
   no-room : {xs : List Bytes} → RootAndKeys root list → Pieces (length (keysIn list)) row xs →
-      room < answerSize * length (keysIn list) → ToldOfRow root list row room (refused 9)
+      room < 34 * length (keysIn list) → ToldOfRow root list row room (refused 9)
   answered : {xs : List Bytes} {b : Bytes} → RootAndKeys root list → Pieces (length (keysIn list)) row xs →
-      answerSize * length (keysIn list) ≤ room → Answers root (keysIn list) xs b →
-      ToldOfRow root list row room (accepted b)
+      34 * length (keysIn list) ≤ room → Answers root (keysIn list) xs b → ToldOfRow root list row room (accepted b)
 
 -- Checking many proofs answers r; the buffer is left as new: the answers at its front, and what is behind them stays.
 abbrev pub VerifiesMany : Bytes → Bytes → Bytes → Bytes → ℕ → Bytes → Type 0
 VerifiesMany root list row old r new =
     Exports (ToldOfRow root list row (length old)) (λ (b : Bytes). b ++ drop (length b) old) old r new
+
+-- The size of an answer by name, as the laws cite it.
+abbrev pub answerSize : ℕ
+answerSize = 34

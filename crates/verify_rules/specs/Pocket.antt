@@ -13,7 +13,6 @@ pub data PocketJudged (root k : Bytes) (p : Proof) : Answer Verdict → Type 0 w
   outside : Outside p → PocketJudged root k p (refused 19)
   inside : {a : Answer Verdict} → (Outside p → ⊥) → Judged root k p a → PocketJudged root k p a
 
--- Checking the bytes x as a proof of the profile for the key k against a root answers r; the array f for what is found
--- is left as g.
+-- Checking the bytes x as a proof of the profile answers r; the array f for what is found is left as g.
 abbrev pub PocketVerifies : Bytes → Bytes → Bytes → Bytes → ℕ → Bytes → Type 0
 PocketVerifies root k x f r g = Exports (Told PocketJudged root k x) foundBytes f r g

@@ -20,13 +20,11 @@ pub data Judged (root k : Bytes) (p : Proof) : Answer Verdict → Type 0 where
 abbrev pub Sizes32 : Bytes → Bytes → Type 0
 Sizes32 root k = (length root ≡ 32) × (length k ≡ 32)
 
--- What is said of the bytes x, given what is said of a proof: 12 if the root or the key isn't 32 bytes, 10 if x is no
--- proof in form, else what is said of the proof that x is.
-pub data Told (judged : Bytes → Bytes → Proof → Answer Verdict → Type 0) (root k x : Bytes) : Answer Verdict →
-    Type 0 where
-  not-32-bytes : (Sizes32 root k → ⊥) → Told judged root k x (refused 12)
-  not-in-form : Sizes32 root k → ((p : Proof) → ProofIs x p → ⊥) → Told judged root k x (refused 10)
-  in-form : {p : Proof} {a : Answer Verdict} → Sizes32 root k → ProofIs x p → judged root k p a → Told judged root k x a
+-- What is said of the bytes x: 12 for other sizes, 10 if x is no proof in form, else what is said of the proof.
+pub data Told (say : Bytes → Bytes → Proof → Answer Verdict → Type 0) (root k x : Bytes) : Answer Verdict → Type 0 where
+  not-32-bytes : (Sizes32 root k → ⊥) → Told say root k x (refused 12)
+  not-in-form : Sizes32 root k → ((p : Proof) → ProofIs x p → ⊥) → Told say root k x (refused 10)
+  in-form : {p : Proof} {a : Answer Verdict} → Sizes32 root k → ProofIs x p → say root k p a → Told say root k x a
 
 -- Checking the bytes x as a proof of the key k against a root answers r; the array f for what is found is left as g.
 abbrev pub Verifies : Bytes → Bytes → Bytes → Bytes → ℕ → Bytes → Type 0

@@ -1,6 +1,4 @@
--- Document 02, 2026-09, in its words, over the slots of any store. 'The number is the root's counts summed in 64 bits
--- (1 for a leaf, 0 for no root), and a position not below it gives 20, after 8 and the root lookup. A descent by counts
--- gives 3 also where it meets a missing child, or a leaf with a position left over.' Assumes nothing.
+-- Document 02, 2026-09, over the slots of any store: how many grants a version has, and which one a position has.
 use Prim.Native.Nat.{ℕ, _+_, _-_, _<_, _≤_}
 use mathlib.Core.Path.{_≡_}
 use mathlib.Core.Logic.{_⊎_}
@@ -18,17 +16,14 @@ pub data Turn (r : Record) (i : ℕ) : Side → ℕ → Type 0 where
   to-left : i < r .counts .leftward → Turn r i left i
   to-right : r .counts .leftward ≤ i → Turn r i right (i - r .counts .leftward)
 
--- The descent from what is met at the place p, with position i, ends so.
+-- The descent from what is met at p with position i ends so: 3 also at a missing child, or with a position left over.
 pub data Lands (st : Store) : Place → Met → ℕ → Answer Grant → Type 0 where
   no-child : {p : Place} {i : ℕ} → Lands st p (stop missing) i (refused 3)
   stopped : {p : Place} {i : ℕ} {t : Trouble} → Lands st p (stop (stoppedBy t)) i (refused (refusalOf t))
-  -- a leaf whose key doesn't begin with its place, or with a position left over
   not-there : {p : Place} {r : Record} {i : ℕ} (k x : Bytes) → r .body ≡ leafBody k x →
       (begins p k ≡ false) ⊎ (1 ≤ i) → Lands st p (found r) i (refused 3)
-  -- the leaf asked for
   at-leaf : {p : Place} {r : Record} {i : ℕ} (k x : Bytes) → r .body ≡ leafBody k x → begins p k ≡ true → i ≡ 0 →
       Lands st p (found r) i (accepted (grant k x))
-  -- an inner record, and on from there
   onward : {p : Place} {r : Record} {i : ℕ} (l m : Child) (b : Side) (j : ℕ) {met : Met} {a : Answer Grant} →
       r .body ≡ innerBody l m → Turn r i b j → AtChild st (longer b p) (childOn b l m) met →
       Lands st (longer b p) met j a → Lands st p (found r) i a
@@ -44,13 +39,12 @@ pub data Number (st : Store) (v : ℕ) : Answer ℕ → Type 0 where
   root-lost : {t : Trouble} → AtRoot st v (stop (stoppedBy t)) → Number st v (refused (refusalOf t))
   of-root : {r : Record} {n : ℕ} → AtRoot st v (found r) → Says r n → Number st v (accepted n)
 
--- The grant at position i of a kept version.
+-- The grant at position i of a kept version, and what stops its read.
 pub data Position (st : Store) (v i : ℕ) : Answer Grant → Type 0 where
   root-lost : {t : Trouble} → AtRoot st v (stop (stoppedBy t)) → Position st v i (refused (refusalOf t))
   not-below : (n : ℕ) → Number st v (accepted n) → n ≤ i → Position st v i (refused 20)
   from-root : {r : Record} {n : ℕ} {a : Answer Grant} → AtRoot st v (found r) → Says r n → i < n →
       Lands st [] (found r) i a → Position st v i a
 
--- The read of a position is stopped by t.
 abbrev pub PositionStopped : Store → ℕ → ℕ → Trouble → Type 0
 PositionStopped st v i t = Position st v i (refused (refusalOf t))

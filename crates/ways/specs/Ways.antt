@@ -1,8 +1,5 @@
--- Document 01, 'Reading and proving', and document 02, 2026-07, in their words, over the slots of any store. 'The walk
--- follows the key's bits; a present child not found, or a found leaf whose key doesn't begin with its place, gives 3.
--- It ends at a leaf or at a missing child. The descent to a neighbour gives 3 for the same two causes.' 'In reads, a
--- present child of the second kind now gives 17 and the third stays 3, with the slot number beside it. A root lookup of
--- the third kind also gives 3. The first met is given: walk, left descent, right descent.' Assumes nothing.
+-- Document 01, 'Reading and proving', and 2026-07, over the slots of any store: what stops a read. 'A present child of
+-- the second kind now gives 17 and the third stays 3. The first met is given: walk, left descent, right descent.'
 use Prim.Native.Nat.{ℕ, _<_, _≤_}
 use mathlib.Core.Path.{_≡_}
 use mathlib.Core.Logic.{_⊎_}
@@ -46,16 +43,21 @@ pub data Met : Type 0 where
   stop : Stop → Met
   found : Record → Met
 
--- The three kinds of 2026-07: a slot in form matches, with its record; none does and none off form agrees, where the
--- way ends as given; none does, but the fields of slots off form agree, the lowest of which is slot i.
+-- The three kinds of 2026-07: a slot in form matches; none does and none off form agrees; slot i off form agrees.
 pub data Meets (st : Store) (match : Option Record) (agree : Bytes → Type 0) (end : Stop) : Met → Type 0 where
   first : {r : Record} → match ≡ some r → Meets st match agree end (found r)
   second : match ≡ none → ((i : ℕ) → SpoiltIn st agree i → ⊥) → Meets st match agree end (stop end)
   third : {i : ℕ} → match ≡ none → SpoiltIn st agree i → Meets st match agree end (stop (stoppedBy (spoiltRecord i)))
 
--- What is met at the root of version v. No root found means an empty version, unless one is spoilt.
+-- What is met at the root of version v: none found means an empty version, unless one is spoilt, which stops the read.
 abbrev pub AtRoot : Store → ℕ → Met → Type 0
 AtRoot st v m = Meets st (rootOf st v) (AgreesRoot v) missing m
+
+abbrev pub EmptyVersion : Store → ℕ → Type 0
+EmptyVersion st v = AtRoot st v (stop missing)
+
+abbrev pub RootStopped : Store → ℕ → Trouble → Type 0
+RootStopped st v t = AtRoot st v (stop (stoppedBy t))
 
 -- What is met at the place p for the child c: a missing child, or a present one of the three kinds.
 pub data AtChild (st : Store) (p : Place) (c : Child) : Met → Type 0 where
@@ -63,11 +65,7 @@ pub data AtChild (st : Store) (p : Place) (c : Child) : Met → Type 0 where
   child : {m : Met} → (c .version ≡ 0 → ⊥) →
       Meets st (find (c .version) p (st .slots)) (Agrees (c .version) p) (stoppedBy lostRecord) m → AtChild st p c m
 
--- Which way to go below an inner record, by its place and its children: the walk follows the key's bits.
-abbrev pub byKey : Bytes → Place → Child → Child → Side
-byKey k p l r = bit (length p) k
-
--- The descent goes to side b where there is a child on side b, else to the other.
+-- Which way a descent goes below an inner record: to side b where there is a child, else to the other.
 abbrev pub to : Side → Place → Child → Child → Side
 to b p l r = cond (eqb (childOn b l r .version) 0) (not b) b
 
@@ -78,41 +76,38 @@ pub record Inner : Type 0 where
   pub right : Child
 
 -- The way from what is met at the place p, before which some inner records were passed, ends so; in the end these have
--- been passed, the deepest first.
+-- been passed, the deepest first. A found leaf whose key doesn't begin with its place is misplaced.
 pub data Way (st : Store) (rule : Place → Child → Child → Side) :
     List Inner → Place → Met → List Inner → Stop → Type 0 where
   ended : {before : List Inner} {p : Place} {end : Stop} → Way st rule before p (stop end) before end
-  -- a found leaf whose key doesn't begin with its place
   misplaced : {before : List Inner} {p : Place} {r : Record} (k x : Bytes) → r .body ≡ leafBody k x →
       begins p k ≡ false → Way st rule before p (found r) before (stoppedBy strayLeaf)
-  -- a found leaf whose key does
   at-leaf : {before : List Inner} {p : Place} {r : Record} (k x : Bytes) → r .body ≡ leafBody k x →
       begins p k ≡ true → Way st rule before p (found r) before (leaf k x)
-  -- a found inner record, and on from there
   onward : {before : List Inner} {p : Place} {r : Record} (l m : Child) {met : Met} {passed : List Inner} {end : Stop} →
       r .body ≡ innerBody l m → AtChild st (longer (rule p l m) p) (childOn (rule p l m) l m) met →
       Way st rule (record { place = p; left = l; right = m } ∷ before) (longer (rule p l m) p) met passed end →
       Way st rule before p (found r) passed end
 
--- The walk by key k from the root of version v.
+-- The walk from the root of version v follows the key's bits; where it is stopped by t, so is a key read.
 abbrev pub Walk : Store → ℕ → Bytes → List Inner → Stop → Type 0
-Walk st v k passed end = (met : Met) × AtRoot st v met × Way st (byKey k) [] [] met passed end
+Walk st v k passed end = (met : Met) × AtRoot st v met × Way st (λ p l r. bit (length p) k) [] [] met passed end
+
+abbrev pub KeyStopped : Store → ℕ → Bytes → Trouble → Type 0
+KeyStopped st v k t = (passed : List Inner) × Walk st v k passed (stoppedBy t)
 
 -- Where the walk turned away from side b (or wanted to), and a child is present there.
 abbrev pub TurnedAway : Side → Bytes → Inner → Type 0
 TurnedAway b k i = (bit (length (i .place)) k ≡ not b) × (childOn b (i .left) (i .right) .version ≡ 0 → ⊥)
 
--- The descent to the neighbour on side b is stopped: from the deepest such record, into that child, then to the other
--- side where there is a child.
+-- The descent to the neighbour on side b is stopped: from the deepest such record into that child, then away from b.
 pub record DescentLost (st : Store) (k : Bytes) (passed : List Inner) (b : Side) (t : Trouble) : Type 0 where
-  -- such a record, and none deeper
   pub deeper : List Inner
   pub at : Inner
   pub above : List Inner
   pub passed-are : passed ≡ deeper ++ at ∷ above
   pub fork : TurnedAway b k at
   pub deepest : All (λ i. TurnedAway b k i → ⊥) deeper
-  -- the way from its child on side b
   pub met : Met
   pub child : AtChild st (longer b (at .place)) (childOn b (at .left) (at .right)) met
   pub descended : List Inner
@@ -127,16 +122,7 @@ pub record SideStopped (st : Store) (k : Bytes) (passed : List Inner) (end : Sto
   pub other : (l x : Bytes) → end ≡ leaf l x → beyond b l k ≡ false
   pub descent : DescentLost st k passed b t
 
--- A root read is stopped by t: the root's lookup is.
-abbrev pub RootStopped : Store → ℕ → Trouble → Type 0
-RootStopped st v t = AtRoot st v (stop (stoppedBy t))
-
--- A key read is stopped by t: the walk is.
-abbrev pub KeyStopped : Store → ℕ → Bytes → Trouble → Type 0
-KeyStopped st v k t = (passed : List Inner) × Walk st v k passed (stoppedBy t)
-
--- Proving is stopped by t, the first that is met: the walk's; else, if it doesn't end at the key, the left descent's;
--- else the right one's.
+-- Proving is stopped by t: the walk's; else, if it doesn't end at the key, the left descent's; else the right one's.
 pub data ProofStopped (st : Store) (v : ℕ) (k : Bytes) (t : Trouble) : Type 0 where
   walk-stopped : KeyStopped st v k t → ProofStopped st v k t
   left-stopped : {passed : List Inner} {end : Stop} → Walk st v k passed end → SideStopped st k passed end left t →
@@ -145,6 +131,6 @@ pub data ProofStopped (st : Store) (v : ℕ) (k : Bytes) (t : Trouble) : Type 0 
       ((u : Trouble) → SideStopped st k passed end left u → ⊥) → SideStopped st k passed end right t →
       ProofStopped st v k t
 
--- An empty version: no slot matches a root for it, and none that is spoilt agrees.
-abbrev pub EmptyVersion : Store → ℕ → Type 0
-EmptyVersion st v = AtRoot st v (stop missing)
+-- The rule of the walk: it follows the key's bits.
+abbrev pub byKey : Bytes → Place → Child → Child → Side
+byKey k p l r = bit (length p) k

@@ -1,7 +1,8 @@
 -- `apply::apply` meets its contract: it is refused by check, or the store is sound. Assumes nothing.
 use borrow.Author.Needs.{needs}
 use Rattle.apply_answer.specs.Answers.{appliedSays}
-use Rattle.promises.proofs.Calls.{checked-refuses, checked-sound}
+use Rattle.promises.specs.Calls.{not-checked}
+use Rattle.promises.proofs.Calls.{checked-sound}
 use Rattle.apply.proofs.apply.Statement.{statement}
 use Rattle.apply.proofs.apply.Tie as tie
 
@@ -13,7 +14,7 @@ same-length c = search needs
 
 returns : tie.Need-returns
 unfolding appliedSays
-returns c = checked-refuses (c .before .check .ensures) (c .if1 .taken)
+returns c = not-checked (c .before .check .ensures) (c .if1 .taken)
 
 apply-sound-requires : tie.Need-apply-sound-requires
 apply-sound-requires c κs = checked-sound (c .before .before .check .ensures) (c .before .if1 .left)

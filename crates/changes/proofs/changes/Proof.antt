@@ -1,6 +1,7 @@
 -- `changes::changes` meets its contract: it is refused by check, or the store is sound. Assumes nothing.
 use mathlib.Core.Path.{refl}
-use Rattle.promises.proofs.Calls.{checked-refuses, checked-sound}
+use Rattle.promises.specs.Calls.{not-checked}
+use Rattle.promises.proofs.Calls.{checked-sound}
 use Rattle.changes.proofs.Opening.{refused-by-check}
 use borrow.Author.Needs.{needs}
 use Rattle.changes.proofs.changes.Statement.{statement}
@@ -10,7 +11,7 @@ check-with-requires : tie.Need-check-with-requires
 check-with-requires c κs = search needs
 
 returns : tie.Need-returns
-returns c = refused-by-check (checked-refuses (c .before .check-with .ensures) (c .if1 .taken))
+returns c = refused-by-check (not-checked (c .before .check-with .ensures) (c .if1 .taken))
 
 changes-sound-requires : tie.Need-changes-sound-requires
 changes-sound-requires c κs =

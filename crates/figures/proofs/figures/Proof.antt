@@ -1,5 +1,6 @@
 -- `figures::figures` meets its contract: it is refused by check, or the store is sound. Assumes nothing.
-use Rattle.promises.proofs.Calls.{checked-refuses, checked-sound}
+use Rattle.promises.specs.Calls.{not-checked}
+use Rattle.promises.proofs.Calls.{checked-sound}
 use Rattle.figures_sound.proofs.Answers.{refused-by-check}
 use borrow.Author.Needs.{needs}
 use Rattle.figures.proofs.figures.Statement.{statement}
@@ -9,7 +10,7 @@ check-requires : tie.Need-check-requires
 check-requires c κs = search needs
 
 returns : tie.Need-returns
-returns c = refused-by-check (checked-refuses (c .before .check .ensures) (c .if1 .taken))
+returns c = refused-by-check (not-checked (c .before .check .ensures) (c .if1 .taken))
 
 figures-sound-requires : tie.Need-figures-sound-requires
 figures-sound-requires c κs = checked-sound (c .before .before .check .ensures) (c .before .if1 .left)

@@ -11,7 +11,6 @@ use Rattle.meaning.specs.Store.{formatted}
 use Rattle.layout.specs.Headers.{sizeRight}
 use Rattle.layout.proofs.Headers.{size-says, size-least}
 use Rattle.layout.proofs.Stores.{fresh-bytes}
-use Rattle.contracts.specs.Format.{formatAnswer, formatBytes}
 use Rattle.format.proofs.format.Statement.{statement}
 use Rattle.format.proofs.format.Tie as tie
 
@@ -19,7 +18,6 @@ size-right-requires : tie.Need-size-right-requires
 size-right-requires c κs = search needs
 
 returns : tie.Need-returns
-unfolding formatAnswer formatBytes
 returns c = let e = sym (c .before .size-right .ensures) ∙ not-true _ (c .if1 .taken) in (rw e, rw e)
 
 abbrev store : tie.Else1 → Bytes
@@ -47,7 +45,7 @@ same-length : tie.Need-same-length
 same-length c = search needs
 
 returns-2 : tie.Need-returns-2
-unfolding formatAnswer formatBytes formatted
+unfolding formatted
 returns-2 c =
     let written = c .before .before in
     let cleared = written .before .before .before .before in

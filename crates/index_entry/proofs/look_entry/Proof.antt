@@ -2,7 +2,7 @@
 use native.Mathlib.Omega.{arith}
 use mathlib.Core.Path.{_≡_, ap, sym, _∙_}
 use Rattle.terms.specs.declared.Form.the-variants.{Counted as counted}
-use Rattle.indexed.specs.Index.{inForm, named, lookAt}
+use Rattle.indexed.specs.Index.{lookAt}
 use Rattle.place.specs.Place.{placeOf}
 use Rattle.layout.specs.Stores.{storeOf, slotNo}
 use Rattle.store.proofs.Slots.{slots-many}
@@ -30,10 +30,9 @@ look-root-requires c κs =
     record { size = start .pre .0; inside = omega (arith, start .pre .1, c .before .if1 .left) }
 
 returns-2 : tie.Need-returns-2
-unfolding named
 returns-2 c = let a = start-from-else1 (c .before .before) .args in
     c .look-root .ensures
-    ∙ ap (λ b. lookSays (lookAt (lookFor b (a .version) (placeOf (a .place))) (inForm (slotNo counted (a .entry) (a .store .now))))) (sym (c .before .if2 .taken))
+    ∙ ap (λ b. lookSays (lookAt (lookFor b (a .version) (placeOf (a .place))) (slotNo counted (a .entry) (a .store .now)))) (sym (c .before .if2 .taken))
 
 look-node-requires : tie.Need-look-node-requires
 look-node-requires c κs =
@@ -41,10 +40,9 @@ look-node-requires c κs =
     (record { size = start .pre .0; inside = omega (arith, start .pre .1, c .before .if1 .left) }, start .pre .2)
 
 returns-3 : tie.Need-returns-3
-unfolding named
 returns-3 c = let a = start-from-else1 (c .before .before) .args in
     c .look-node .ensures
-    ∙ ap (λ b. lookSays (lookAt (lookFor b (a .version) (placeOf (a .place))) (inForm (slotNo counted (a .entry) (a .store .now))))) (sym (c .before .if2 .left))
+    ∙ ap (λ b. lookSays (lookAt (lookFor b (a .version) (placeOf (a .place))) (slotNo counted (a .entry) (a .store .now)))) (sym (c .before .if2 .left))
 
 pub look-entry-spec : {M : Type 1} → statement M
 look-entry-spec = tie.close (tie.spec returns look-root-requires returns-2 look-node-requires returns-3)

@@ -1,7 +1,8 @@
 -- `prune::prune` meets its contract: it is refused by check, or the store is sound. Assumes nothing.
 use borrow.Author.Needs.{needs}
 use Rattle.prune_sound.specs.Prune.{prunedSays}
-use Rattle.promises.proofs.Calls.{checked-refuses, checked-sound}
+use Rattle.promises.specs.Calls.{not-checked}
+use Rattle.promises.proofs.Calls.{checked-sound}
 use Rattle.prune.proofs.prune.Statement.{statement}
 use Rattle.prune.proofs.prune.Tie as tie
 
@@ -13,7 +14,7 @@ same-length c = search needs
 
 returns : tie.Need-returns
 unfolding prunedSays
-returns c = checked-refuses (c .before .check .ensures) (c .if1 .taken)
+returns c = not-checked (c .before .check .ensures) (c .if1 .taken)
 
 prune-sound-requires : tie.Need-prune-sound-requires
 prune-sound-requires c κs = checked-sound (c .before .before .check .ensures) (c .before .if1 .left)

@@ -118,7 +118,7 @@ returns-5 c =
     let after-guide = after-tested .before .before .before .before in
     let start = start-from-guide after-guide in
     kept (start .args .oldest) (start .args .latest) (start .args .source .now) (start .args .target .now) (sym (size-right-from-guide after-guide .size-right .ensures) ∙ not-false _ (else1-from-guide after-guide .if1 .left)) (else2-from-guide after-guide .if2 .left) (else3-from-guide after-guide .if3 .left)
-    (after-fill .fill .ensures) (c .count .ensures)
+    (all-of Byte (start .args .source .now) 0 (λ i _. omega (arith, shared-slice-known-from-guide after-guide .shared-slice-known .given i))) (omega arith) (after-fill .fill .ensures) (c .count .ensures)
 
 pub rescue-spec : {M : Type 1} → statement M
 rescue-spec =
