@@ -13,7 +13,8 @@ use Rattle.meaning.specs.Tree.{smaller, greater, withAsk, withBatch}
 use Rattle.meaning.specs.Reading.{Verdict, present, absent, answerOf}
 use Rattle.meaning.proofs.Runs.{Ascending, Ahead, ascending-batch}
 use Rattle.changed.specs.Changes.{Change, added, removed, another, changeKey, between, changed, undone, itemsOf, items, askOf}
-use Rattle.changed.proofs.Parts.{InOrder, part, same-parts, part-after, answer-filter, answer-after, before-other, after-other, part-changed, changed-order}
+use Rattle.changed.specs.Claims.{KeyOrder}
+use Rattle.changed.proofs.Parts.{part, same-parts, part-after, answer-filter, answer-after, before-other, after-other, part-changed, changed-order}
 
 -- equal grants, no change
 none-between : (k : Bytes) (v : Verdict) → between k v v ≡ []
@@ -63,7 +64,7 @@ undone-all : (P : Bytes → Type 0) (cs : List Change) → All (λ c. P (changeK
 undone-all P [] a = tt
 undone-all P (c ∷ cs) a = (subst P (sym (undone-key c)) (a .0), undone-all P cs (a .1))
 
-undone-order : (cs : List Change) → InOrder changeKey cs → InOrder changeKey (map undone cs)
+undone-order : (cs : List Change) → KeyOrder changeKey cs → KeyOrder changeKey (map undone cs)
 undone-order [] s = tt
 undone-order (c ∷ cs) s = (
   subst (λ k. All (λ d. before k (changeKey d) ≡ true) (map undone cs)) (sym (undone-key c)) (undone-all (λ k. before (changeKey c) k ≡ true) cs (s .0)),
@@ -84,7 +85,7 @@ abbrev here : Bytes → Verdict → List Grant
 here k absent = []
 here k (present x) = grant k x ∷ []
 
-grants-order : (gs : List Grant) → Ascending gs → InOrder (λ (g : Grant). g .key) gs
+pub grants-order : (gs : List Grant) → Ascending gs → KeyOrder (λ (g : Grant). g .key) gs
 grants-order [] s = tt
 grants-order (g ∷ gs) s = (s .0, grants-order gs (s .1))
 

@@ -13,6 +13,7 @@ use Rattle.terms.proofs.Order.{before-trans, before-irrefl, before-asym, before
 use Rattle.meaning.specs.Tree.{smaller, greater}
 use Rattle.meaning.specs.Reading.{Verdict, present, absent, answerOf}
 use Rattle.meaning.proofs.Runs.{Ascending, Ahead, ascending-filter}
+use Rattle.changed.specs.Claims.{KeyOrder}
 use Rattle.changed.specs.Changes.{Change, added, removed, another, changeKey, between, changed}
 
 -- a key before another is not the same
@@ -23,26 +24,21 @@ pub after-other : (k j : Bytes) → before j k ≡ true → sameBytes k j ≡ fa
 after-other k j l = is-false (sameBytes k j) (λ e. before-irrefl j (subst (λ i. before j i ≡ true) (same-bytes k j e) l))
 
 module _ {A : Type 0} (key : A → Bytes) where
-  -- each key before all that follow
-  abbrev pub InOrder : List A → Type 0
-  InOrder [] = Unit {0}
-  InOrder (x ∷ xs) = All (λ y. before (key x) (key y) ≡ true) xs × InOrder xs
-
   -- what a list says of a key
   abbrev pub part : Bytes → List A → List A
   part k xs = filter (λ x. sameBytes k (key x)) xs
 
-  pub order-append : (xs ys : List A) → InOrder xs → InOrder ys → All (λ x. All (λ y. before (key x) (key y) ≡ true) ys) xs → InOrder (xs ++ ys)
+  pub order-append : (xs ys : List A) → KeyOrder key xs → KeyOrder key ys → All (λ x. All (λ y. before (key x) (key y) ≡ true) ys) xs → KeyOrder key (xs ++ ys)
   order-append [] ys s t a = t
   order-append (x ∷ xs) ys s t a = (all-append _ xs ys (s .0) (a .0), order-append xs ys (s .1) t (a .1))
 
   pub part-after : (k : Bytes) (xs : List A) → All (λ x. before k (key x) ≡ true) xs → part k xs ≡ []
   part-after k xs a = filter-none (λ x. sameBytes k (key x)) xs (all-map _ _ xs (λ x l. before-other k (key x) l) a)
 
-  part-head : (x : A) (xs : List A) → InOrder (x ∷ xs) → part (key x) (x ∷ xs) ≡ x ∷ []
+  part-head : (x : A) (xs : List A) → KeyOrder key (x ∷ xs) → part (key x) (x ∷ xs) ≡ x ∷ []
   part-head x xs s = rw (bytes-same (key x)) (ap (x ∷_) (part-after (key x) xs (s .0)))
 
-  part-first : (k : Bytes) (x : A) (xs : List A) → before k (key x) ≡ true → InOrder (x ∷ xs) → part k (x ∷ xs) ≡ []
+  part-first : (k : Bytes) (x : A) (xs : List A) → before k (key x) ≡ true → KeyOrder key (x ∷ xs) → part k (x ∷ xs) ≡ []
   part-first k x xs l s = part-after k (x ∷ xs) (l, all-map _ _ xs (λ y m. before-trans k (key x) (key y) l m) (s .0))
 
   part-rest : (k : Bytes) (x : A) (xs ys : List A) → part k (x ∷ xs) ≡ part k (x ∷ ys) → part k xs ≡ part k ys
@@ -53,7 +49,7 @@ module _ {A : Type 0} (key : A → Bytes) where
       go false f = f
 
   -- lists in order that say the same of each key are one
-  pub same-parts : (xs ys : List A) → InOrder xs → InOrder ys → ((k : Bytes) → part k xs ≡ part k ys) → xs ≡ ys
+  pub same-parts : (xs ys : List A) → KeyOrder key xs → KeyOrder key ys → ((k : Bytes) → part k xs ≡ part k ys) → xs ≡ ys
   same-parts [] [] s t f = refl
   same-parts [] (y ∷ ys) s t f = absurd (nil≢cons (f (key y) ∙ part-head y ys t))
   same-parts (x ∷ xs) [] s t f = absurd (cons≢nil (sym (part-head x xs s) ∙ f (key x)))
@@ -182,18 +178,18 @@ module _ (P : Bytes → Type 0) where
       (all-changed gs (greater (g .key) b) (h .1) (all-filter Key (λ x. before (g .key) (x .key)) b k)))
 
 -- in key order, each once
-added-order : (gs : List Grant) → Ascending gs → InOrder changeKey (map added gs)
+added-order : (gs : List Grant) → Ascending gs → KeyOrder changeKey (map added gs)
 added-order [] s = tt
 added-order (g ∷ gs) s = (all-added (λ k. before (g .key) k ≡ true) gs (s .0), added-order gs (s .1))
 
-between-order : (j : Bytes) (v w : Verdict) → InOrder changeKey (between j v w)
+between-order : (j : Bytes) (v w : Verdict) → KeyOrder changeKey (between j v w)
 between-order j absent absent = tt
 between-order j absent (present y) = (tt, tt)
 between-order j (present x) absent = (tt, tt)
 between-order j (present x) (present y) =
-    elim (sameBytes x y) as (λ b. InOrder changeKey (cond b [] (another j x y ∷ []))) [ true ↦ tt | false ↦ (tt, tt) ]
+    elim (sameBytes x y) as (λ b. KeyOrder changeKey (cond b [] (another j x y ∷ []))) [ true ↦ tt | false ↦ (tt, tt) ]
 
-pub changed-order : (a b : List Grant) → Ascending a → Ascending b → InOrder changeKey (changed a b)
+pub changed-order : (a b : List Grant) → Ascending a → Ascending b → KeyOrder changeKey (changed a b)
 unfolding smaller greater
 changed-order [] b s t = added-order b t
 changed-order (g ∷ gs) b s t =

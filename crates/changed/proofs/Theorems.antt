@@ -18,16 +18,12 @@ use Rattle.histories.proofs.Whole.{sound-whole}
 use Rattle.changed.specs.Changes.{Change, changeKey, changed, undone, items}
 use Rattle.changed.specs.Visits.{visits}
 use Rattle.changed.specs.Compare.{changesOf, visitsOf}
-use Rattle.changed.specs.Claims.{KeyOrder, WhatChanged}
-use Rattle.changed.proofs.Parts.{InOrder, part-changed, changed-order}
+use Rattle.changed.specs.Claims.{WhatChanged}
+use Rattle.changed.proofs.Parts.{part-changed, changed-order}
 use Rattle.changed.proofs.Lists.{changed-same, changed-undone, changed-applied}
 use Rattle.changed.proofs.Visits.{beyond, visits-comm, visits-same, visits-by-slots, at-most-all}
 use Rattle.changed.proofs.Walk.{stands-sits, listed-changed}
 use Rattle.changed.proofs.Few.{listed-counted}
-
-key-order : (cs : List Change) → InOrder changeKey cs → KeyOrder changeKey cs
-key-order [] s = tt
-key-order (c ∷ cs) s = (s .0, key-order cs (s .1))
 
 at-most : {n k : ℕ} → n ≤ 1 + 2 * k → k ≤ 16384 → n ≤ 32769
 at-most h l = omega arith
@@ -67,7 +63,7 @@ module _ (leafHash innerHash : Bytes → Bytes → Bytes) (st : Store) (sound : 
         let y = grantsIn (treeAtVersion st second) in
         record {
           exact = λ k. part-changed k x y (ascends first a) (ascends second b);
-          ordered = key-order (changed x y) (changed-order x y (ascends first a) (ascends second b));
+          ordered = changed-order x y (ascends first a) (ascends second b);
           applied = changed-applied x y (ascends first a) (ascends second b);
         }
 

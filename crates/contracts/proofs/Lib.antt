@@ -1,3 +1,4 @@
+pub mod Heading
 pub mod Refusing
 pub mod Granted
 pub mod Reading

@@ -13,10 +13,10 @@ use Rattle.indexed.specs.Index.{byTable}
 use Rattle.palette_rules.specs.Palette.{wholeKeys}
 use Rattle.nodehash.specs.Node.{leafHash, innerHash}
 use Rattle.layout.specs.Stores.{storeOf}
-use Rattle.promises.proofs.Heading.{not-as-many}
 use Rattle.promises.specs.Headed.{asMany}
 use Rattle.contracts.specs.Reads.{rootAnswer, keyAnswer}
 use Rattle.contracts.specs.Palettes.{paletteAnswer}
+use Rattle.contracts.proofs.Heading.{not-as-many}
 
 -- A key of another length is refused with 12, whatever the store is.
 pub key-not-32 : (s : Bytes) (by : Option (List ℕ)) (v : ℕ) (k : Bytes) → (length k ≡ 32 → ⊥) → refused 12 ≡ keyAnswer s by v k

@@ -12,6 +12,7 @@ use Rattle.terms.specs.Bits.{Bytes, All, before, sameBytes, filter}
 use Rattle.terms.specs.Fields.{le, num, field, slice, zeroBytes, flat}
 use Rattle.terms.specs.Form.{GrantForm}
 use Rattle.terms.specs.Records.{Grant, grant}
+use Rattle.terms.proofs.Lists.{all-append, all-map, all-at}
 use Rattle.terms.proofs.Fields.{cuts, cuts-flat, num-le, length-le, length-zero-bytes}
 use Rattle.terms.proofs.Members.{In, filter-in, all-in}
 use Rattle.terms.proofs.Tests.{bytes-same}
@@ -52,13 +53,9 @@ module _ (a b : List Grant) where
       go : (t : Bool) → In c (cond t [] (another k x y ∷ [])) → All Carries (itemsOf c)
       go false (inl r) = subst (λ d. All Carries (itemsOf d)) r (e, (f, tt))
 
-  all-append : (xs ys : List Item) → All Carries xs → All Carries ys → All Carries (xs ++ ys)
-  all-append [] ys h k = k
-  all-append (x ∷ xs) ys h k = (h .0, all-append xs ys (h .1) k)
-
   of-changes : (cs : List Change) → All (λ c. All Carries (itemsOf c)) cs → All Carries (items cs)
   of-changes [] h = tt
-  of-changes (c ∷ cs) h = all-append (itemsOf c) (items cs) (h .0) (of-changes cs (h .1))
+  of-changes (c ∷ cs) h = all-append Carries (itemsOf c) (items cs) (h .0) (of-changes cs (h .1))
 
   pub all-carry : (cs : List Change) → WhatChanged a b cs → All Carries (items cs)
   all-carry cs w = of-changes cs (all-in (λ c. All Carries (itemsOf c)) cs (λ c h.
@@ -100,15 +97,6 @@ turn-at [] d i l h = absurd (omega arith)
 turn-at (x ∷ []) d i l h = absurd (omega arith)
 turn-at (x ∷ y ∷ xs) d zero l h = h .0
 turn-at (x ∷ y ∷ xs) d (suc i) l h = turn-at (y ∷ xs) d i (omega arith) (h .1)
-
-member : (P : Item → Type 0) (xs : List Item) → All P xs → (x : Item) → In x xs → P x
-member P (y ∷ xs) h x (inl e) = subst P e (h .0)
-member P (y ∷ xs) h x (inr k) = member P xs (h .1) x k
-
-all-at : (P : Item → Type 0) (xs : List Item) (d : Item) (i : ℕ) → i < length xs → All P xs → P (getD xs i d)
-all-at P [] d i l h = absurd (omega arith)
-all-at P (x ∷ xs) d zero l h = h .0
-all-at P (x ∷ xs) d (suc i) l h = all-at P xs d i (omega arith) (h .1)
 
 -- record i of the list's bytes
 piece : (xs : List Item) (rest : Bytes) (d : Item) → All (λ x. length (itemBytes x) ≡ 72) xs → (i : ℕ) → i < length xs →
@@ -200,7 +188,7 @@ module _ {first second limit : ℕ} {s room f t g : Bytes} (w : Changes first se
   dummy = deletes (grant [] [])
 
   long : All (λ x. Long32 (of x)) xs
-  long = all-in (λ x. Long32 (of x)) xs (λ x h. carried-long a b (forms first (lists .kept .0)) (forms second (lists .kept .1)) x (member (Carries a b) xs carry x h))
+  long = all-map (Carries a b) (λ x. Long32 (of x)) xs (carried-long a b (forms first (lists .kept .0)) (forms second (lists .kept .1))) carry
 
   many : num g ≡ length xs
   many = ap num (lists .told) ∙ num-le 4 (length xs) (omega (arith, lists .short))
@@ -208,11 +196,10 @@ module _ {first second limit : ℕ} {s room f t g : Bytes} (w : Changes first se
   record-is : (i : ℕ) → i < num g → slice (72 * i) 72 t ≡ itemBytes (getD xs i dummy)
   record-is i l =
       ap (slice (72 * i) 72) (lists .room-holds)
-      ∙ piece xs (drop (length (listBytes xs)) room) dummy (all-in (λ x. length (itemBytes x) ≡ 72) xs (λ x h. item-72 x (member (λ y. Long32 (of y)) xs long x h))) i
-      (omega (arith, many))
+      ∙ piece xs (drop (length (listBytes xs)) room) dummy (all-map (λ x. Long32 (of x)) (λ x. length (itemBytes x) ≡ 72) xs item-72 long) i (omega (arith, many))
 
   long-at : (i : ℕ) → i < num g → Long32 (of (getD xs i dummy))
-  long-at i l = all-at (λ x. Long32 (of x)) xs dummy i (omega (arith, many)) long
+  long-at i l = all-at (λ x. Long32 (of x)) xs dummy i long (omega (arith, many))
 
   -- Each has length 72; a delete carries the value that the first version has for its key, an insert the one that the second has.
   pub listed-record-says : (i : ℕ) → i < num g → (field 0 4 (slice (72 * i) 72 t) ≡ 72) × (
@@ -220,7 +207,7 @@ module _ {first second limit : ℕ} {s room f t g : Bytes} (w : Changes first se
       ⊎ ((field 4 2 (slice (72 * i) 72 t) ≡ 1) × (answerOf (slice 8 32 (slice (72 * i) 72 t)) (grantsOfVersion s second) ≡ present (slice 40 32 (slice (72 * i) 72 t)))))
   listed-record-says i l = subst (λ x. (field 0 4 x ≡ 72) × (
       ((field 4 2 x ≡ 2) × (answerOf (slice 8 32 x) a ≡ present (slice 40 32 x))) ⊎ ((field 4 2 x ≡ 1) × (answerOf (slice 8 32 x) b ≡ present (slice 40 32 x)))))
-      (sym (record-is i l)) (go (getD xs i dummy) (long-at i l) (all-at (Carries a b) xs dummy i (omega (arith, many)) carry))
+      (sym (record-is i l)) (go (getD xs i dummy) (long-at i l) (all-at (Carries a b) xs dummy i carry (omega (arith, many))))
     where
       go : (x : Item) → Long32 (of x) → Carries a b x → (field 0 4 (itemBytes x) ≡ 72) × (
           ((field 4 2 (itemBytes x) ≡ 2) × (answerOf (slice 8 32 (itemBytes x)) a ≡ present (slice 40 32 (itemBytes x))))

@@ -14,8 +14,7 @@ use Rattle.meaning.specs.Sound.{Kept}
 use Rattle.meaning.specs.Counting.{grantAt}
 use Rattle.meaning.specs.Answers.{numberOf, toldOf}
 use Rattle.meaning.proofs.Told.{exported-left, exported-as}
-use Rattle.meaning.proofs.Runs.{Ascending}
-use Rattle.changed.specs.Claims.{KeyOrder}
+use Rattle.changed.proofs.Lists.{grants-order}
 use Rattle.histories.proofs.Theorems.{sound-tree-of-grants}
 use Rattle.nodehash.specs.Node.{leafHash, innerHash}
 use Rattle.layout.specs.Stores.{storeOf}
@@ -44,18 +43,13 @@ no-grants-zeros : (gs : List Grant) → gs ≡ [] → hash leafHash innerHash (t
 unfolding treeOf grantsAt
 no-grants-zeros gs e = ap (λ x. hash leafHash innerHash (treeOf x)) e
 
--- grants that ascend are in key order
-key-order : (gs : List Grant) → Ascending gs → KeyOrder (λ (g : Grant). g .key) gs
-key-order [] h = tt
-key-order (g ∷ gs) h = (h .0, key-order gs (h .1))
-
 -- What is read and shown of a kept version of a sound store are its grants.
 pub sound-reads-for : {s : Bytes} → SoundBytes s → (v : ℕ) → Kept (storeOf s) v → ReadsFor s v (grantsOfVersion s v)
 sound-reads-for {s} w v kept = record {
   root = root;
   key = λ whole x. key-of-grants w kept whole x;
   number = number;
-  ordered = key-order (grantsOfVersion s v) (sound-tree-of-grants leafHash innerHash (storeOf s) (w .sound) v kept .1);
+  ordered = grants-order (grantsOfVersion s v) (sound-tree-of-grants leafHash innerHash (storeOf s) (w .sound) v kept .1);
   position = position;
   below = λ x. let e = position x .0 in let z = at-zero (grantsOfVersion s v) _ in (λ a. z .0 (sym e ∙ a), λ a. e ∙ z .1 a);
   past = λ x. let e = position x .0 in let z = at-twenty (grantsOfVersion s v) _ in (λ a. z .0 (sym e ∙ a), λ a. e ∙ z .1 a);

@@ -29,7 +29,7 @@ use Rattle.palette_rules.proofs.Turns.{in-turn-same}
 use Rattle.prove.specs.declared.Proved as declared
 use Rattle.prove.specs.declared.Proved.the-variants.{Refused}
 use Rattle.contracts.specs.Palettes.{paletteAnswer}
-use Rattle.promises.proofs.Heading.{as-many, not-as-many}
+use Rattle.contracts.proofs.Heading.{as-many, not-as-many}
 use Rattle.palette_give.specs.Together.{plannedFor, plannedIn, Gives}
 use Rattle.palette_give.proofs.Giving.{gives-refusal, gives-as}
 use Rattle.palette.specs.Answer.{paletteAnswerBy}

@@ -28,7 +28,7 @@ use Rattle.prove_plan.proofs.Ending.{by-searches}
 use Rattle.meaning.specs.Answers.{roomAfter}
 use Rattle.proofrecords.specs.ProofBytes.{proofBytes}
 use Rattle.contracts.specs.Proves.{proveAnswer}
-use Rattle.promises.proofs.Heading.{as-many, not-as-many}
+use Rattle.contracts.proofs.Heading.{as-many, not-as-many}
 use Rattle.prove.specs.Parts.{proveAnswerBy, Gives, lengthAnswer, provedSays}
 use Rattle.prove.specs.declared.Proved as declared
 use Rattle.prove.specs.declared.Proved.the-variants.{Refused}

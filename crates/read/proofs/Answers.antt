@@ -28,7 +28,7 @@ use Rattle.read_root.specs.declared.RootRead as declared-root
 use Rattle.read_root.specs.declared.RootRead.the-variants as root
 use Rattle.promises.specs.Headed.{byHeader, asMany}
 use Rattle.contracts.specs.Reads.{rootAnswer, keyAnswer}
-use Rattle.promises.proofs.Heading.{as-many}
+use Rattle.contracts.proofs.Heading.{as-many}
 use Rattle.read.specs.Parts.{rootAnswerBy, keyAnswerBy}
 
 -- what was tested first

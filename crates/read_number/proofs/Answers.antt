@@ -26,7 +26,7 @@ use Rattle.read_open.specs.declared.Opened.the-variants.{Refused, Kept}
 use Rattle.read_open.proofs.Opening as opening
 use Rattle.read_number.specs.Numbers.{numberSays, numberAnswerBy}
 use Rattle.contracts.specs.Numbers.{numberAnswer}
-use Rattle.promises.proofs.Heading.{as-many, not-as-many}
+use Rattle.contracts.proofs.Heading.{as-many, not-as-many}
 use Rattle.read_number.specs.declared.NumberRead as declared
 use Rattle.read_number.specs.declared.NumberRead.the-variants as number
 

@@ -32,7 +32,7 @@ use Rattle.read_step.specs.Walk.{bodyIn}
 use Rattle.read_step.proofs.Seeing.{body-is, inside}
 use Rattle.read_position.specs.Positions.{positionAnswerBy}
 use Rattle.contracts.specs.Numbers.{positionAnswer}
-use Rattle.promises.proofs.Heading.{as-many, not-as-many}
+use Rattle.contracts.proofs.Heading.{as-many, not-as-many}
 use Rattle.read_descent.specs.Parts.{positionSays, kidsFrom, bodyAt}
 use Rattle.read_descent.specs.declared.PositionRead as declared
 use Rattle.read_descent.specs.declared.PositionRead.the-variants as position

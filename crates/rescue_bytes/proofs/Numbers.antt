@@ -3,7 +3,7 @@
 use Prim.Native.Nat.{ℕ, zero, suc, _*_, _≤_}
 use native.Mathlib.Omega.{arith}
 use mathlib.Core.Path.{_≡_, refl, ap, ap₂, sym, _∙_, subst}
-use mathlib.Core.Bool.{Bool, true, false, cond, true≢false}
+use mathlib.Core.Bool.{Bool, true, false, true≢false}
 use mathlib.Core.List.{List, [], _∷_, _++_}
 use lib.ListN.{length, take, drop, length-drop}
 use lib.Seq.{take-at, drop-at, length-take-le}
@@ -115,18 +115,16 @@ module _ (fm : Form) where
       (all-take Byte (slotSize fm) s h) (form .0) (slotOf (take (slotSize fm) s)) refl (k .0))
 
 -- bytes compared with themselves: nothing changed and nothing left out
+same-bytes-same : (x : Bytes) (c : Counts) → (c .other ≡ 0) × (c .out ≡ 0) → (comparedBytes x x c .other ≡ 0) × (comparedBytes x x c .out ≡ 0)
+same-bytes-same x c h = go (allZero x) refl
+  where
+    go : (b : Bool) → allZero x ≡ b → (comparedBytes x x c .other ≡ 0) × (comparedBytes x x c .out ≡ 0)
+    go true e = rw e h
+    go false e = rw (e, bytes-same x) h
+
 same-slots : (size n : ℕ) (s : Bytes) → (comparedSlots size n s s .other ≡ 0) × (comparedSlots size n s s .out ≡ 0)
 same-slots size zero s = (refl, refl)
-same-slots size (suc n) s = go (allZero (take size s)) (same-slots size n (drop size s))
-  where
-    c : Counts
-    c = comparedSlots size n (drop size s) (drop size s)
-
-    go : (b : Bool) → (c .other ≡ 0) × (c .out ≡ 0) →
-        (cond b c (cond b (record { same = c .same; other = c .other; out = suc (c .out) }) (cond (sameBytes (take size s) (take size s)) (record { same = suc (c .same); other = c .other; out = c .out }) (record { same = c .same; other = suc (c .other); out = c .out }))) .other ≡ 0)
-        × (cond b c (cond b (record { same = c .same; other = c .other; out = suc (c .out) }) (cond (sameBytes (take size s) (take size s)) (record { same = suc (c .same); other = c .other; out = c .out }) (record { same = c .same; other = suc (c .other); out = c .out }))) .out ≡ 0)
-    go true h = h
-    go false h = rw (bytes-same (take size s)) h
+same-slots size (suc n) s = same-bytes-same (take size s) (comparedSlots size n (drop size s) (drop size s)) (same-slots size n (drop size s))
 
 pub nothing-changed : (s : Bytes) → (numbersOf s s .other ≡ 0) × (numbersOf s s .out ≡ 0)
 unfolding numbersOf
