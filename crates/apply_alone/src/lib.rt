@@ -8,7 +8,7 @@ use apply_place::Node;
 use hash::{Hash, same_hash};
 
 // What a run asks for a key.
-#[derive(Drop)]
+#[derive(Clone, Copy)]
 pub enum Own {
     Nothing,
     Insert { value: Hash },

@@ -9,7 +9,7 @@ use hash::Hash;
 use refusal_numbers::{FEW_SLOTS, NOT_ABOVE};
 
 // A number of refusal, or the new version, its root, and the count of new records.
-#[derive(Drop)]
+#[derive(Clone, Copy)]
 pub enum Applied {
     Refused(u32),
     Made {

@@ -17,7 +17,7 @@ use store_put::put_retired_at;
 use terms::Form;
 
 // What remains above two children: nothing, a lone leaf, or more.
-#[derive(Drop)]
+#[derive(Clone, Copy)]
 pub enum Remains {
     Nothing,
     Leaf { key: Hash, value: Hash },

@@ -14,14 +14,14 @@ use hash::{Hash, hash_at, put_hash};
 use place::{Place, begins};
 
 // The leaf that stays, by its grant.
-#[derive(Drop)]
+#[derive(Clone, Copy)]
 pub enum Stays {
     Nothing,
     Grant { key: Hash, value: Hash },
 }
 
 // The grants of a subtree that grows: none, one, or two or more.
-#[derive(Drop)]
+#[derive(Clone, Copy)]
 pub enum Few {
     Nothing,
     One { key: Hash, value: Hash },

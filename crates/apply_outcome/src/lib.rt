@@ -11,7 +11,7 @@ use nodehash::{grant_hash, inner_hash};
 use place::Place;
 use slots::Child;
 
-#[derive(Drop)]
+#[derive(Clone, Copy)]
 pub enum Change {
     Updated,
     Deleted,
@@ -19,7 +19,7 @@ pub enum Change {
 }
 
 // The node itself is for its parent to place; the reach is that of the new records strictly below it.
-#[derive(Drop)]
+#[derive(Clone, Copy)]
 pub struct Outcome {
     pub change: Change,
     pub node: Node,

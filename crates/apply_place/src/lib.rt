@@ -20,7 +20,7 @@ use store_put::{put_inner_at, put_leaf_at};
 use terms::Form;
 
 // The node that stands at a place: a leaf with its grant, an inner node with its children and how many leaves are below each.
-#[derive(Drop)]
+#[derive(Clone, Copy)]
 pub enum Node {
     Nothing,
     Leaf {

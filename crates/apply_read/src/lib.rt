@@ -58,7 +58,7 @@ pub fn node_in(store: &[u8], i: usize) -> Node
 }
 
 // Where the steps go on to from what was found: the slot of an inner node and the versions of its children.
-#[derive(Drop)]
+#[derive(Clone, Copy)]
 pub enum Onward {
     End,
     Inner { slot: usize, left: u32, right: u32 },

@@ -13,7 +13,7 @@ use place::Place;
 use refusal_numbers::{NO_ROOM, TOO_MANY_VISITS};
 
 // A number of refusal, or how many records the list has.
-#[derive(Drop)]
+#[derive(Clone, Copy)]
 pub enum Compared {
     Refused(u32),
     Listed(u32),

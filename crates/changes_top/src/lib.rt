@@ -18,7 +18,7 @@ use slots_form::is_leaf;
 use store::{child_version_at, slot_of, version_at};
 use terms::Form;
 
-#[derive(Drop)]
+#[derive(Clone, Copy)]
 pub enum Top {
     Nothing,
     // The slot of a leaf.

@@ -6,7 +6,7 @@ use changes_top::{Top, below, no_deeper};
 use place::Place;
 
 // How a walk ended.
-#[derive(Drop)]
+#[derive(Clone, Copy)]
 pub enum Walked {
     // There were more visits than the budget.
     Passed,

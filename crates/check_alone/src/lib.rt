@@ -12,7 +12,7 @@ use place::Place;
 use terms::Form;
 
 // A record but for its body.
-#[derive(Drop)]
+#[derive(Clone, Copy)]
 pub struct Head {
     pub place: Place,
     pub version: u32,

@@ -21,7 +21,7 @@ use terms::Form;
 
 // What a parent says of each of its children: where it stands itself, its first kept version, the end of its life, and how many kept versions
 // it lives at.
-#[derive(Drop)]
+#[derive(Clone, Copy)]
 pub struct Parent {
     pub up: Place,
     pub first: u32,
@@ -31,7 +31,7 @@ pub struct Parent {
 
 // The link to a child on one side: its number, the child's version and stored hash, the version of the other child, and the leaves
 // that are counted there.
-#[derive(Drop)]
+#[derive(Clone, Copy)]
 pub struct Link {
     pub right: bool,
     pub number: u16,

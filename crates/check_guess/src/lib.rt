@@ -11,7 +11,7 @@ use store::{child_version_at, count_at, kind_at, slot_of, version_at, wide};
 use terms::Form;
 
 // A node to look for: the bit count and the bits of its place, and its version.
-#[derive(Drop)]
+#[derive(Clone, Copy)]
 struct Node {
     count: u16,
     bits: Hash,

@@ -3,7 +3,7 @@ ghost use Rattle.std.specs.Prelude.{◌≡◌, ◌-◌, ◌≤◌, max};
 ghost use Rattle.check_kin.specs.Kin.{ends_at};
 
 // The kept versions of a store.
-#[derive(Drop)]
+#[derive(Clone, Copy)]
 pub struct Kept {
     pub oldest: u32,
     pub latest: u32,

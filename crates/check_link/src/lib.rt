@@ -9,7 +9,7 @@ use place::Place;
 use slots::Child;
 
 // A record below the root, as its parents are asked about it: it stands one bit below `up`, on the left or the right.
-#[derive(Drop)]
+#[derive(Clone, Copy)]
 pub struct Below {
     pub up: Place,
     pub right: bool,
@@ -20,7 +20,7 @@ pub struct Below {
 }
 
 // What a slot says of a record below it.
-#[derive(Drop)]
+#[derive(Clone, Copy)]
 pub enum Said {
     // How many kept versions it lives at as a parent; it is none, or all that it says is right.
     Lived(u64),

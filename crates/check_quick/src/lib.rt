@@ -20,7 +20,7 @@ use check_tie::tie_all;
 use store::{slot_count, wide};
 use terms::Form;
 
-#[derive(Drop)]
+#[derive(Clone, Copy)]
 pub enum Look {
     // Each slot passes.
     Fine,

@@ -12,7 +12,7 @@ use terms::Form;
 const MORE_VERSIONS: u32 = 31;
 
 // A block of versions: the numbers of what lives at each of them, and how many slots are listed for what lives at some.
-#[derive(Drop)]
+#[derive(Clone, Copy)]
 pub struct Block {
     pub first: u32,
     pub last: u32,

@@ -9,7 +9,7 @@ use store::{count_at, kind_at, retired_at, slot_count, version_at};
 use terms::Form;
 
 // The four numbers of a version.
-#[derive(Drop)]
+#[derive(Clone, Copy)]
 pub struct Figures {
     pub leaves: u32,
     pub inners: u32,

@@ -7,7 +7,7 @@ use figures_write::{FIGURES_SIZE, range_right, write_each};
 use refusal_numbers::{NO_ROOM, NOT_KEPT};
 
 // A number of refusal, or the distinct records of the range and the sum of records over versions.
-#[derive(Drop)]
+#[derive(Clone, Copy)]
 pub enum Figured {
     Refused(u32),
     Told { distinct: u32, records: u32 },

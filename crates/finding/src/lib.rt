@@ -30,7 +30,7 @@ use terms::Form;
 use verify::{Checked, verify};
 
 // A number of refusal, or what is found: nothing where the proof tells the truth.
-#[derive(Drop)]
+#[derive(Clone, Copy)]
 pub enum Found {
     Refused(u32),
     Of(Named),

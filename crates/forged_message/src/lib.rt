@@ -11,7 +11,7 @@ use hash::{Hash, is_zero, same_hash};
 use nodehash::{grant_hash, inner_hash};
 
 // Of a leaf its key and value; of an inner node the hashes of its left and right child.
-#[derive(Drop)]
+#[derive(Clone, Copy)]
 pub struct Message {
     pub leaf: bool,
     pub first: Hash,

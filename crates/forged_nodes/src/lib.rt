@@ -14,7 +14,7 @@ use store::{slot_count, slot_of};
 use terms::Form;
 
 // What was found: nothing, two different messages with equal hash, or one whose hash is zero.
-#[derive(Drop)]
+#[derive(Clone, Copy)]
 pub enum Named {
     Nothing,
     Two { node: Message, checked: Message },

@@ -6,7 +6,7 @@ ghost use Rattle.hash.specs.BigEndian.{big, number, word_at};
 ghost use Rattle.hash.specs.Hash.{hash_bytes, hash_of};
 
 // Thirty-two bytes, eight to a number, the top byte first.
-#[derive(Drop)]
+#[derive(Clone, Copy)]
 pub struct Hash {
     pub a: u64,
     pub b: u64,

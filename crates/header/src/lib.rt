@@ -12,7 +12,7 @@ use refusal_numbers::{WRONG_HEADER, WRONG_SIZE};
 use terms::Form;
 
 // What reading a header answers.
-#[derive(Drop)]
+#[derive(Clone, Copy)]
 pub enum Header {
     Refused(u32),
     Accepted {

@@ -12,7 +12,7 @@ use store::{count_at, slot_of, version_at};
 use terms::Form;
 
 // What a look at an entry says.
-#[derive(Drop)]
+#[derive(Clone, Copy)]
 pub enum Look {
     Small,
     Great,

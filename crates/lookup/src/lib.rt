@@ -24,7 +24,7 @@ pub fn holds_record(s: &[u8]) -> bool
     is_inner(s)
 }
 
-#[derive(Drop)]
+#[derive(Clone, Copy)]
 pub enum Found {
     // The number of the slot.
     At(usize),

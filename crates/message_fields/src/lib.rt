@@ -7,7 +7,7 @@ use message_varint::varint;
 use place::same;
 
 // A field of bytes or of a message: where its bytes begin and end.
-#[derive(Drop)]
+#[derive(Clone, Copy)]
 pub struct Part {
     pub found: bool,
     pub from: usize,
@@ -15,7 +15,7 @@ pub struct Part {
 }
 
 // On which side of its parent an inner op puts a node.
-#[derive(Drop)]
+#[derive(Clone, Copy)]
 pub enum Inner {
     Left,
     Right,

@@ -6,7 +6,7 @@ use message_fields::field;
 use message_leaf::{MOST_KEY, Shown, existence, length_right, no_shown};
 
 // A neighbour, where the next field is its: whether it is in form, whether it is there, and where the bytes after it begin.
-#[derive(Drop)]
+#[derive(Clone, Copy)]
 pub struct Neighbour {
     pub found: bool,
     pub there: bool,
@@ -15,7 +15,7 @@ pub struct Neighbour {
 }
 
 // A non-existence proof: where its key begins and ends, where the left neighbour ends, and the neighbours.
-#[derive(Drop)]
+#[derive(Clone, Copy)]
 pub struct Absent {
     pub found: bool,
     pub key: usize,
@@ -26,7 +26,7 @@ pub struct Absent {
 }
 
 // What a message says.
-#[derive(Drop)]
+#[derive(Clone, Copy)]
 pub enum Said {
     Nothing,
     Presence(Shown),

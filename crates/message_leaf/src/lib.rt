@@ -14,14 +14,14 @@ pub const MOST_KEY: usize = 256;
 pub const MOST_VALUE: usize = 4096;
 
 // A path that was walked: how many steps it has.
-#[derive(Drop)]
+#[derive(Clone, Copy)]
 pub struct Walked {
     pub found: bool,
     pub count: usize,
 }
 
 // An existence proof: where its key and its value begin and end, where its path begins, and how many steps it has.
-#[derive(Drop)]
+#[derive(Clone, Copy)]
 pub struct Shown {
     pub found: bool,
     pub key: usize,

@@ -24,7 +24,7 @@ use refusal_numbers::{NO_ROOM, NOT_IN_FORM, NOT_RAW};
 use verify_form::{is_absence, is_presence};
 
 // The answer: a number of refusal, or the message's length.
-#[derive(Drop)]
+#[derive(Clone, Copy)]
 pub enum Wrote {
     Refused(u32),
     Length(u32),

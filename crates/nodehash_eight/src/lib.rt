@@ -13,7 +13,7 @@ use sha256::{Words, start, to_hash};
 use sha256_eight::{compress_eight, put_value, put_words, value_in};
 
 // A message of 65 bytes: a byte that tells its kind, and two hashes.
-#[derive(Drop)]
+#[derive(Clone, Copy)]
 pub struct Message {
     pub kind: u64,
     pub left: Hash,

@@ -11,7 +11,7 @@ use store::{count_at, slot_of, version_at, wide};
 use terms::Form;
 
 // How a slot stands to a node.
-#[derive(Drop)]
+#[derive(Clone, Copy)]
 pub enum Look {
     Before,
     After,

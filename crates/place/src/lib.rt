@@ -4,7 +4,7 @@ ghost use Rattle.terms.specs.Bits.{bits, bit, begins, before, same_bytes, none_s
 ghost use Rattle.place.specs.Place.{place_of, Proper, Stands, Grown};
 
 // The first `count` bits of `bits`, in key order; the bits after them are zero.
-#[derive(Drop)]
+#[derive(Clone, Copy)]
 pub struct Place {
     pub bits: [u8; 32],
     pub count: usize,

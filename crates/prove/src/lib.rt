@@ -13,7 +13,7 @@ use refusal_numbers::NOT_32_BYTES;
 use refusal_numbers::wide::NO_ROOM;
 
 // What proving answers.
-#[derive(Drop)]
+#[derive(Clone, Copy)]
 pub enum Proved {
     // The number, and in the high half a spoilt slot + 1.
     Refused(u64),

@@ -15,7 +15,7 @@ use store::slot_of;
 use terms::Form;
 
 // The way to a node: the slots of the inner nodes above it, the root's first; its place, whose bits are the sides taken; and its own slot.
-#[derive(Drop)]
+#[derive(Clone, Copy)]
 pub struct Path {
     pub slots: [u16; 256],
     pub place: Place,
@@ -83,7 +83,7 @@ pub fn put_presence(part: &mut [u8], store: &[u8], path: Path)
 }
 
 // How a search for a neighbour ended.
-#[derive(Drop)]
+#[derive(Clone, Copy)]
 pub enum Way {
     // What stopped it.
     Stopped(Trouble),
@@ -92,7 +92,7 @@ pub enum Way {
 }
 
 // What a search found; the path counts where there is somebody.
-#[derive(Drop)]
+#[derive(Clone, Copy)]
 pub struct Sought {
     pub way: Way,
     pub path: Path,

@@ -8,7 +8,7 @@ use read_step::refusal;
 use refusal_numbers::wide::EMPTY_VERSION;
 
 // What a proof will be, or its refusal.
-#[derive(Drop)]
+#[derive(Clone, Copy)]
 pub enum Shape {
     // The number, and in the high half a spoilt slot + 1.
     Refused(u64),
@@ -17,7 +17,7 @@ pub enum Shape {
 }
 
 // A proof before it is written: the leaves that it shows, which are the key's own or its neighbours, left first; and its length. They count where it isn't refused.
-#[derive(Drop)]
+#[derive(Clone, Copy)]
 pub struct Plan {
     pub shape: Shape,
     pub first: Sought,

@@ -16,7 +16,7 @@ use store::slot_of;
 use terms::Form;
 
 // The way so far: what is seen at its end, the slots of the inner nodes passed, the root's first, and the place of its end.
-#[derive(Drop)]
+#[derive(Clone, Copy)]
 pub struct Trail {
     pub seen: Seen,
     pub slots: [u16; 256],
@@ -24,7 +24,7 @@ pub struct Trail {
 }
 
 // Where a walk ended, with the deepest fork towards each side.
-#[derive(Drop)]
+#[derive(Clone, Copy)]
 pub struct Walked {
     pub trail: Trail,
     pub left: Fork,

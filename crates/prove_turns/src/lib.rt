@@ -11,7 +11,7 @@ use read_step::child_version;
 use terms::Form;
 
 // An inner node on the trail where the walk turned away from a side that has a child; its place, if there is one.
-#[derive(Drop)]
+#[derive(Clone, Copy)]
 pub struct Fork {
     pub there: bool,
     pub place: Place,

@@ -7,7 +7,7 @@ use refusal_numbers::NOT_KEPT;
 use store_put::put_oldest;
 
 // A number of refusal, or how many records were freed.
-#[derive(Drop)]
+#[derive(Clone, Copy)]
 pub enum Pruned {
     Refused(u32),
     Freed(u32),

@@ -19,7 +19,7 @@ use store::slot_of;
 use terms::Form;
 
 // What the read of a position answers.
-#[derive(Drop)]
+#[derive(Clone, Copy)]
 pub enum PositionRead {
     // The number, and in the high half a spoilt slot + 1.
     Refused(u64),
@@ -28,7 +28,7 @@ pub enum PositionRead {
 }
 
 // The slot of a child, or why there is none.
-#[derive(Drop)]
+#[derive(Clone, Copy)]
 enum Step {
     Refused(u64),
     At(usize),

@@ -12,7 +12,7 @@ use store::slot_of;
 use terms::Form;
 
 // What a key read answers.
-#[derive(Drop)]
+#[derive(Clone, Copy)]
 pub enum KeyRead {
     Refused(u64),
     // The key's value.

@@ -14,7 +14,7 @@ use sights::Sight;
 use terms::Form;
 
 // What the read of a number answers.
-#[derive(Drop)]
+#[derive(Clone, Copy)]
 pub enum NumberRead {
     // The number, and in the high half a spoilt slot + 1.
     Refused(u64),

@@ -9,7 +9,7 @@ use refusal_numbers::NOT_KEPT;
 use terms::Form;
 
 // What a read tests first.
-#[derive(Drop)]
+#[derive(Clone, Copy)]
 pub enum Opened {
     Refused(u32),
     Kept,

@@ -16,7 +16,7 @@ use store::slot_of;
 use terms::Form;
 
 // What a root read answers.
-#[derive(Drop)]
+#[derive(Clone, Copy)]
 pub enum RootRead {
     // The number, and in the high half a spoilt slot + 1.
     Refused(u64),

@@ -21,7 +21,7 @@ use terms::Form;
 const HIGH: u64 = 4294967296;
 
 // What stops a read.
-#[derive(Drop)]
+#[derive(Clone, Copy)]
 pub enum Trouble {
     // A present child that no slot matches.
     Lost,
@@ -43,7 +43,7 @@ pub fn refusal(trouble: Trouble) -> u64
 }
 
 // What a read sees at a place; a leaf and an inner node by their slot.
-#[derive(Drop)]
+#[derive(Clone, Copy)]
 pub enum Seen {
     // There is no child.
     Gap,

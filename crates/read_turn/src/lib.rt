@@ -9,7 +9,7 @@ use store::child_count_at;
 use terms::Form;
 
 // The side that a position is on, and the position there.
-#[derive(Drop)]
+#[derive(Clone, Copy)]
 pub struct Turn {
     pub right: bool,
     pub rest: u64,

@@ -11,7 +11,7 @@ use rescue_step::{Stepped, step};
 use terms::Form;
 
 // A number of refusal, or the run's first version and the counts.
-#[derive(Drop)]
+#[derive(Clone, Copy)]
 pub enum Rescued {
     Refused(u32),
     Kept { first: u32, counts: Counts },

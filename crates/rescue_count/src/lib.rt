@@ -10,7 +10,7 @@ use lookup::holds_record;
 use store::{retired_at, slot_count, slot_of};
 use terms::Form;
 
-#[derive(Drop)]
+#[derive(Clone, Copy)]
 pub struct Counts {
     pub same: u32,
     pub other: u32,

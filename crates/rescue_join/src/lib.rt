@@ -33,7 +33,7 @@ fn newer(a: u32, child: u32) -> u32
     0
 }
 
-#[derive(Drop)]
+#[derive(Clone, Copy)]
 pub enum Joined {
     Broken,
     // The floor: the greatest version of a child newer than its parent, among the records of the first tree that the second lacks.

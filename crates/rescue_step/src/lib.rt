@@ -11,7 +11,7 @@ use rescue_join::{Joined, join};
 use rescue_root::root_version;
 use terms::Form;
 
-#[derive(Drop)]
+#[derive(Clone, Copy)]
 pub enum Stepped {
     No,
     // The version of the root, and the floor: the version before which no run begins.

@@ -29,7 +29,7 @@ fn put(batch: &mut [u8], i: usize, head: Head, key: Hash, value: Hash) {
     put_hash(&mut batch[middle..end], value);
 }
 
-#[derive(Drop)]
+#[derive(Clone, Copy)]
 struct Head {
     length: u32,
     kind: u32,

@@ -8,7 +8,7 @@ use hash::{Hash, join};
 use sha256_words::{add, big_sigma0, big_sigma1, ch, maj, sigma0, sigma1};
 
 // The eight working variables, and the eight words of a hash value.
-#[derive(Drop)]
+#[derive(Clone, Copy)]
 pub struct State {
     pub a: u32,
     pub b: u32,
@@ -21,7 +21,7 @@ pub struct State {
 }
 
 // Sixteen words of the message schedule, one after another.
-#[derive(Drop)]
+#[derive(Clone, Copy)]
 pub struct Words {
     pub w0: u32,
     pub w1: u32,
@@ -42,7 +42,7 @@ pub struct Words {
 }
 
 // The working variables, and the words that the last rounds used.
-#[derive(Drop)]
+#[derive(Clone, Copy)]
 pub struct Rolled {
     pub s: State,
     pub x: Words,

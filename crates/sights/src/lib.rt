@@ -18,7 +18,7 @@ use slots::bits_of;
 use store::{count_at, retired_at, slot_count, slot_of, version_at};
 use terms::Form;
 
-#[derive(Drop)]
+#[derive(Clone, Copy)]
 pub enum Sight {
     // The lowest slot in form that matches.
     Matches(usize),

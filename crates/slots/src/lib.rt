@@ -13,13 +13,13 @@ use place::{Place, place_at};
 use slots_form::{is_inner, is_leaf};
 
 // What an inner record says of a child; version 0: there is no child.
-#[derive(Drop)]
+#[derive(Clone, Copy)]
 pub struct Child {
     pub version: u32,
     pub hash: Hash,
 }
 
-#[derive(Drop)]
+#[derive(Clone, Copy)]
 pub enum Kind {
     Free,
     // Its key and value stay in the slot's bytes.
@@ -29,7 +29,7 @@ pub enum Kind {
 }
 
 // What the bytes of a slot hold; of a free or spoiled slot the kind is all that counts.
-#[derive(Drop)]
+#[derive(Clone, Copy)]
 pub struct Slot {
     pub kind: Kind,
     pub place: Place,

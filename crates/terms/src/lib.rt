@@ -2,7 +2,7 @@
 // the code too, so that contracts name it as it is.
 
 // The plain form of document 01, whose records hold no counts, or the counted one of 2026-09.
-#[derive(Drop)]
+#[derive(Clone, Copy)]
 pub enum Form {
     Plain,
     Counted,

@@ -18,7 +18,7 @@ use script_says::calls::said;
 use script_says::harmed;
 
 // Which bytes of the memory are the store: the first of them, and how many.
-#[derive(Drop)]
+#[derive(Clone, Copy)]
 struct Region {
     from: usize,
     size: usize,

@@ -11,7 +11,7 @@ use verify_form::{is_absence, is_presence};
 use verify_holds::{absence_holds, presence_holds, walk_absence, walk_presence};
 
 // The answer of the check: a number of refusal, "present" with the value, or "absent".
-#[derive(Drop)]
+#[derive(Clone, Copy)]
 pub enum Checked {
     Refused(u32),
     Present(Hash),

@@ -9,7 +9,7 @@ use hash::{Hash, put_hash};
 use verify_plan::paths_of;
 
 // What came of the cut: whether the bytes are as many records as keys, and how many paths these have.
-#[derive(Drop)]
+#[derive(Clone, Copy)]
 pub struct Gathered {
     pub whole: bool,
     pub many: usize,

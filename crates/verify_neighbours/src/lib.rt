@@ -24,7 +24,7 @@ pub fn leads_to(root: Hash, p: &[u8]) -> bool
 }
 
 // Whether the paths of the neighbours lead to the root: the only one, or the left one and the right one.
-#[derive(Drop)]
+#[derive(Clone, Copy)]
 pub struct Led {
     pub first: bool,
     pub second: bool,

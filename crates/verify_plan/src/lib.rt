@@ -6,7 +6,7 @@ use proofrecords::{ABSENCE_HEAD, FLAGS_AT};
 use verify_form::{is_absence, is_presence};
 
 // How many, and where their records begin.
-#[derive(Drop)]
+#[derive(Clone, Copy)]
 pub struct Paths {
     pub many: usize,
     pub first: usize,
