@@ -1,5 +1,7 @@
 // Whether the fields of a slot agree with a node, document 02, 2026-07: version, bit count and bits, as they stand. A slot in form that agrees holds
 // the node.
+#![tactic(auto)]
+
 ghost use Rattle.std.specs.Prelude.{◌≡◌};
 ghost use Rattle.meaning.specs.Sight.{agrees};
 ghost use Rattle.place.specs.Place.{place_of, Proper};

@@ -1,4 +1,6 @@
 // What becomes of a leaf that nothing is inserted beside, document 01: by what the run asks for its key.
+#![tactic(auto)]
+
 ghost use Rattle.terms.specs.Records.{grant};
 ghost use Rattle.hash.specs.Hash.{hash_bytes};
 ghost use Rattle.apply_alone.specs.Alone.{AloneBy};

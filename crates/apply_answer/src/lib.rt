@@ -1,4 +1,6 @@
 // What applying a batch to a sound store answers, documents 01 and 02 (2026-13): 18 by the number, 7 by the room, or the version that was made.
+#![tactic(auto)]
+
 ghost use Rattle.std.specs.Prelude.{◌≡◌, ◌≤◌};
 ghost use Rattle.terms.specs.Form.{top32};
 ghost use Rattle.meaning.specs.Calls.{accepted};

@@ -1,4 +1,6 @@
 // What ends at the children of an inner node, document 01, 'Retirement', and what is left above them.
+#![tactic(auto)]
+
 ghost use Rattle.std.specs.Prelude.{◌≡◌, [], ◌∷◌, ◌++◌};
 ghost use Rattle.terms.specs.Bits.{longer, left, right};
 ghost use Rattle.place.specs.Place.{place_of};

@@ -1,5 +1,7 @@
 // A new inner node above two outcomes, document 01, 'The tree of a set of grants': those of its children that were updated are placed, and it
 // counts the leaves below each.
+#![tactic(auto)]
+
 ghost use Rattle.std.specs.Prelude.{◌≡◌, ◌≤◌};
 ghost use Rattle.terms.specs.Form.{top32};
 ghost use Rattle.place.specs.Place.{place_of};

@@ -1,4 +1,6 @@
 // Growing a subtree, document 01: a run of inserts with no node there; at a leaf, with the leaf if it stays.
+#![tactic(auto)]
+
 ghost use Rattle.std.specs.Prelude.{◌-◌};
 ghost use Rattle.nodehash.specs.Node.{leaf_hash, inner_hash};
 ghost use Rattle.place.specs.Place.{place_of};

@@ -1,5 +1,7 @@
 // Where the nodes of the latest tree are likely to stand: guesses without proof. Each is looked at before it is believed, and where none is
 // right the slots are searched, so a wrong guess costs time and never an answer.
+#![tactic(auto)]
+
 ghost use Rattle.std.specs.Prelude.{◌≡◌, ◌+◌, ◌≤◌, length};
 ghost use Rattle.place.specs.Place.{place_of};
 ghost use Rattle.layout.specs.Stores.{store_of};

@@ -1,4 +1,6 @@
 // What becomes of an inner node by the outcomes at its children, document 01: unchanged, deleted, a lone leaf moved up, or a new inner node.
+#![tactic(auto)]
+
 ghost use Rattle.std.specs.Prelude.{◌≡◌};
 ghost use Rattle.apply_end.specs.Ending.{Ends};
 ghost use Rattle.apply_inner.specs.Settling.{both_stayed, settled_says, EndsOrStays, Renews, Renewed, Settles, Settled};

@@ -1,4 +1,6 @@
 // What grows at a place, document 01: the inserts of a run, and the leaf if it stays.
+#![tactic(auto)]
+
 ghost use Rattle.std.specs.Prelude.{◌≡◌, true, [], ◌∷◌, ◌≤◌, ◌<◌};
 ghost use Rattle.terms.specs.Bits.{begins};
 ghost use Rattle.hash.specs.Hash.{hash_bytes};

@@ -1,4 +1,6 @@
 // The step at a leaf, document 01: what the run asks for its key, and inserts beside it.
+#![tactic(auto)]
+
 ghost use Rattle.std.specs.Prelude.{◌≡◌, ◌-◌, ◌<◌};
 ghost use Rattle.terms.specs.Bits.{same_bytes};
 ghost use Rattle.terms.specs.Records.{grant, ask_key};

@@ -1,4 +1,6 @@
 // What a step leaves at a place, document 01, 'The tree of a set of grants': updated, deleted or unchanged, and the node that now stands there.
+#![tactic(auto)]
+
 ghost use Rattle.std.specs.Prelude.{◌≡◌};
 ghost use Rattle.place.specs.Place.{place_of};
 ghost use Rattle.slots.specs.Answer.{child_says};

@@ -1,5 +1,7 @@
 // Placing in lent memory, document 01: the record of a node goes to the lowest free slot. Where `writes` is false nothing is written, and the
 // records are counted as if every slot were free.
+#![tactic(auto)]
+
 ghost use Rattle.std.specs.Prelude.{◌≡◌, ◌++◌, ◌+◌, ◌≤◌, length};
 ghost use Rattle.terms.specs.Records.{used, leaf_body, no_tally};
 ghost use Rattle.meaning.specs.Store.{placed};

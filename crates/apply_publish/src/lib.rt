@@ -1,5 +1,7 @@
 // The version that a batch makes of a sound store in lent memory, documents 01 and 02 (2026-13). Room is known before the first byte is
 // written: the steps are taken once without writing, to count the new records, and once with.
+#![tactic(auto)]
+
 ghost use Rattle.apply_answer.specs.Answers.{applied_says};
 ghost use Rattle.apply_ready.specs.Ready.{Ready};
 ghost use Rattle.apply_publish.specs.Apply.{ApplyDoes};

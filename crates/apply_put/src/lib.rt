@@ -1,4 +1,6 @@
 // What apply answers, as it goes out: a number, and version, root and count in 40 bytes.
+#![tactic(auto)]
+
 ghost use Rattle.std.specs.Prelude.{◌≡◌, length};
 ghost use Rattle.hash.specs.Hash.{hash_bytes};
 ghost use Rattle.contracts.specs.Apply.{answer_bytes};

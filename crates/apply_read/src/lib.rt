@@ -1,4 +1,6 @@
 // The node that a slot holds, with its grant or what it says of its children, and the node (version, place) of a tree that stands.
+#![tactic(auto)]
+
 ghost use Rattle.std.specs.Prelude.{◌≡◌};
 ghost use Rattle.layout.specs.Slots.{kid_on};
 ghost use Rattle.layout.specs.Stores.{slot_in, SlotWithin};

@@ -1,4 +1,6 @@
 // What is looked at before a batch is applied: the free slots, and the version of the root.
+#![tactic(auto)]
+
 ghost use Rattle.std.specs.Prelude.{◌≡◌};
 ghost use Rattle.meaning.specs.Store.{root_of};
 ghost use Rattle.layout.specs.Stores.{store_of};

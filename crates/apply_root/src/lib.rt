@@ -1,4 +1,6 @@
 // The step at the root, document 01: the old root ends, and the new one, if any, has the new version and is placed last.
+#![tactic(auto)]
+
 ghost use Rattle.std.specs.Prelude.{◌≡◌};
 ghost use Rattle.nodehash.specs.Node.{leaf_hash, inner_hash};
 ghost use Rattle.batch.specs.Batch.{asks};

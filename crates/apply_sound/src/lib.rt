@@ -1,4 +1,6 @@
 // Applying a batch to a sound store in lent memory, documents 01 and 02 (2026-13): the form of the batch and its order are tested first.
+#![tactic(auto)]
+
 ghost use Rattle.promises.specs.Calls.{SoundBytes};
 ghost use Rattle.apply_answer.specs.Answers.{applied_says};
 ghost use Rattle.apply_publish.specs.Apply.{ApplyDoes};

@@ -1,6 +1,8 @@
 // The steps at a node, at an inner node and at a child, document 01: they call each other, and each child is handed its own run of the batch.
 // The bits that are left fall; where they don't, the rank of the function does: child, node, inner node. What is not needed while the
 // children are stepped is done in functions of its own, for the stack of 256 bits: docs/FIGURES.md.
+#![tactic(auto)]
+
 ghost use Rattle.apply_outcome.specs.Outcomes.{Did};
 ghost use Rattle.apply_tip.specs.Stepping.{Here, at_node, at_child};
 ghost use Rattle.apply_read.specs.Held.{version_in};

@@ -1,4 +1,6 @@
 // The step where no inner node stands, document 01: at no node a subtree grows, at a leaf the step is the leaf's.
+#![tactic(auto)]
+
 ghost use Rattle.apply_outcome.specs.Outcomes.{Did};
 ghost use Rattle.apply_tip.specs.Stepping.{AtTip, at_node};
 

@@ -1,4 +1,6 @@
 // The batch as bytes, document 01, 'Bytes': specs/ says what they ask for, proofs/ that they go there and back. The code here reads a record.
+#![tactic(auto)]
+
 ghost use Rattle.std.specs.Prelude.{◌≡◌, true, ◌++◌, ◌<◌, length};
 ghost use Rattle.terms.specs.Records.{ask_key};
 ghost use Rattle.batch.specs.Sizes.{record_size};

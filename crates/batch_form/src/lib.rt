@@ -1,4 +1,6 @@
 // The form of a batch, document 01, 'Bytes': whether its bytes are whole records in form, and which of them are inserts.
+#![tactic(auto)]
+
 ghost use Rattle.std.specs.Prelude.{◌≡◌, ◌<◌, length};
 ghost use Rattle.batch.specs.Sizes.{record_size};
 ghost use Rattle.batch.specs.Batch.{count, head_is, is_insert, is_delete, ask_form, batch_form};

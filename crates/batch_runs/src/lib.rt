@@ -1,4 +1,6 @@
 // The order of a batch, and the runs of it that go to the left and the right child.
+#![tactic(auto)]
+
 ghost use Rattle.std.specs.Prelude.{◌≡◌, true, false, ◌≤◌};
 ghost use Rattle.meaning.specs.Calls.{ascending};
 ghost use Rattle.batch.specs.Batch.{count, asks};

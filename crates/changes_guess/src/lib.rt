@@ -1,5 +1,7 @@
 // The slot of a child by the guess that check left of it. A guess is looked at before it is believed, and where it is wrong the slots are searched, so a
 // wrong guess costs time and never an answer.
+#![tactic(auto)]
+
 ghost use Rattle.std.specs.Prelude.{◌≡◌, true, length};
 ghost use Rattle.place.specs.Place.{place_of, Proper};
 ghost use Rattle.layout.specs.Headers.{size_right};

@@ -1,5 +1,7 @@
 // What changed between two kept versions of a sound store, request 2026-01: the two trees are walked together, once to count visits and records, once to write
 // the list.
+#![tactic(auto)]
+
 ghost use Rattle.std.specs.Prelude.{◌≡◌, true};
 ghost use Rattle.meaning.specs.Calls.{is_kept};
 ghost use Rattle.layout.specs.Stores.{store_of};

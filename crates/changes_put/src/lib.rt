@@ -1,5 +1,7 @@
 // The list of changes in a lent buffer, document 02, request 2026-01: records of 72 bytes, a delete with the old value. Where `writes` is
 // false nothing is written, and the records are only counted.
+#![tactic(auto)]
+
 ghost use Rattle.std.specs.Prelude.{◌≡◌, ◌++◌, ◌+◌, length};
 ghost use Rattle.layout.specs.Sizes.{grant_size};
 ghost use Rattle.layout.specs.Stores.{SlotWithin};

@@ -1,5 +1,7 @@
 // What two trees are compared by at a place, read from lent memory, document 02, request 2026-01: the node there, or a leaf from further up
 // whose key goes there.
+#![tactic(auto)]
+
 ghost use Rattle.std.specs.Prelude.{◌≡◌, true, [], ◌<◌, length};
 ghost use Rattle.meaning.specs.Store.{tree_at_version};
 ghost use Rattle.place.specs.Place.{Proper, Stands, Grown};

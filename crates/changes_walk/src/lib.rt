@@ -1,4 +1,6 @@
 // Two trees of a store walked together from a place on, document 02, request 2026-01.
+#![tactic(auto)]
+
 ghost use Rattle.changes_walk.specs.Walk.{Goes, WalkSays};
 
 use changes_put::put_ends;

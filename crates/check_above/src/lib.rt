@@ -1,5 +1,7 @@
 // What stands above a record, for the exact test of its slot, document 01, 'Sound': its parents, or, of a root, the other roots; no version is
 // tried.
+#![tactic(auto)]
+
 ghost use Rattle.check_alone.specs.Parts.{Headed};
 ghost use Rattle.check_above.specs.Above.{AboveSays};
 

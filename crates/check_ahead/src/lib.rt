@@ -1,5 +1,7 @@
 // Hashes ahead of the links: eight records at a time are hashed side by side, and the links that store them are known when the links are
 // looked at one by one. Which records are taken is a guess of anyone's; what is entered is right.
+#![tactic(auto)]
+
 ghost use Rattle.std.specs.Prelude.{◌≡◌, true, ◌+◌, ◌*◌, ◌<◌, ◌≤◌, length};
 ghost use Rattle.terms.specs.declared.Form.{Form};
 ghost use Rattle.terms.specs.Bits.{Bytes};

@@ -1,5 +1,7 @@
 // A record by itself, for the exact test of its slot, document 01, 'Sound': its version, its life, how many slots hold its node, and its
 // children; each with a pass over the slots at most.
+#![tactic(auto)]
+
 ghost use Rattle.std.specs.Prelude.{◌≡◌, true, ◌&&◌, ◌<◌, length};
 ghost use Rattle.terms.specs.Bits.{left, right};
 ghost use Rattle.place.specs.Place.{Proper};

@@ -1,5 +1,7 @@
 // A parent and one of its children, found at once by a guess: whether the child stands in the slot that was guessed, and all that is said of it is
 // right. Slots are read by single fields, since the own fields of all were looked at before.
+#![tactic(auto)]
+
 ghost use Rattle.std.specs.Prelude.{◌≡◌, ◌≤◌};
 ghost use Rattle.place.specs.Place.{place_of, Proper};
 ghost use Rattle.layout.specs.Stores.{store_in, Has};

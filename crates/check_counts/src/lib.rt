@@ -1,5 +1,7 @@
 // The leaves below the children of a record, 2026-09, by what the records found there say: 1 for a leaf, the counts summed for an inner
 // record, 0 for none. The plain form has no counts.
+#![tactic(auto)]
+
 ghost use Rattle.std.specs.Prelude.{◌≡◌, true, ◌<◌, ◌≤◌, length};
 ghost use Rattle.terms.specs.Bits.{left, right, longer};
 ghost use Rattle.terms.specs.Records.{Record, used, tally};

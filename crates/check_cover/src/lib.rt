@@ -1,4 +1,6 @@
 // The last pass of the check: whether what the parents of each record add up to covers its kept life.
+#![tactic(auto)]
+
 ghost use Rattle.layout.specs.Stores.{Has};
 ghost use Rattle.check_kin.specs.Kin.{Keeps};
 ghost use Rattle.check_pass.specs.Passes.{Passed, Each};

@@ -1,6 +1,8 @@
 // A guess at the slot of each child that a record names, from a table of the slots in order. Nothing is promised of the guess but that it is
 // made; who uses it looks at what it gives. The children on one side stand in the order of their parents where the store is sound, so the
 // search for one goes on from where the last one ended.
+#![tactic(auto)]
+
 ghost use Rattle.std.specs.Prelude.{◌≤◌, ◌<◌};
 ghost use Rattle.check_pass.specs.Passes.{Room};
 

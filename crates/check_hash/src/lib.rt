@@ -1,5 +1,7 @@
 // Whether a stored hash is that of a record, each record hashed once: the link whose stored hash was found to be right is kept for the
 // record's slot, and later links are compared with it. A link is one side of a slot, numbered from 1.
+#![tactic(auto)]
+
 ghost use Rattle.std.specs.Prelude.{◌≡◌, ◌≤◌};
 ghost use Rattle.hash.specs.Hash.{hash_bytes};
 ghost use Rattle.layout.specs.Stores.{Has};

@@ -1,4 +1,6 @@
 // The slots that hold a record's node, document 01, 'Sound', and whether a child of it is found.
+#![tactic(auto)]
+
 ghost use Rattle.std.specs.Prelude.{◌≡◌, true, ◌||◌, length, eqb};
 ghost use Rattle.meaning.specs.Store.{find};
 ghost use Rattle.local.specs.Test.{total, by_record, is_found};

@@ -1,4 +1,6 @@
 // The life of one record among those of its store, document 01, 'Sound'.
+#![tactic(auto)]
+
 ghost use Rattle.std.specs.Prelude.{◌≡◌, ◌-◌, ◌≤◌, max};
 ghost use Rattle.check_kin.specs.Kin.{ends_at};
 

@@ -1,4 +1,6 @@
 // What one parent says of a record below it, document 01, 'Sound', from the fields of both.
+#![tactic(auto)]
+
 ghost use Rattle.std.specs.Prelude.{◌≡◌, false, cond, ◌-◌, ◌≤◌, max, eqb};
 ghost use Rattle.terms.specs.Fields.{all_of};
 ghost use Rattle.check_link.specs.Link.{link_tests, SaidOf, Short};

@@ -1,5 +1,7 @@
 // The order of a store's records by bit count, bits and version: whether one slot stands before another, whether a table's entries ascend,
 // and whether they name each record. The roots stand first, by their versions; so that no two live together shows at each root and the next.
+#![tactic(auto)]
+
 ghost use Rattle.std.specs.Prelude.{◌≡◌, true, ◌≤◌, length};
 ghost use Rattle.terms.specs.Bits.{before};
 ghost use Rattle.layout.specs.Headers.{size_right};

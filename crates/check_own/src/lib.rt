@@ -1,4 +1,6 @@
 // The first pass of the check: whether the own fields of each slot's record are right, by its bytes alone.
+#![tactic(auto)]
+
 ghost use Rattle.std.specs.Prelude.{◌≡◌, true};
 ghost use Rattle.layout.specs.Slots.{is_leaf};
 ghost use Rattle.layout.specs.Stores.{slot_in, store_in, Has};

@@ -1,4 +1,6 @@
 // The parents of a record, document 01, 'Sound': what each slot says of a record below it, and whether all that is right and their kept lives add up.
+#![tactic(auto)]
+
 ghost use Rattle.std.specs.Prelude.{◌≡◌, cond};
 ghost use Rattle.place.specs.Place.{Proper};
 ghost use Rattle.layout.specs.Stores.{slot_in, Has};

@@ -1,5 +1,7 @@
 // The check in few passes over the slots: own fields, order, links, lives. It says that all is fine, or which slot to look at. Only that all
 // is fine is promised; a slot that it names is a suspect, and the exact test decides.
+#![tactic(auto)]
+
 ghost use Rattle.std.specs.Prelude.{◌≡◌, true, ◌≤◌, ◌<◌};
 ghost use Rattle.local.specs.Test.{slots_test};
 ghost use Rattle.nodehash.specs.Node.{leaf_hash, inner_hash};

@@ -22,7 +22,7 @@ Passed fm s f n i = Scan fm s (Rest fm s f) n i
 pub pass_start : {fm : Form} (s : Bytes) (f : Slot → Bool) → size_right fm (length s) ≡ true → {n : ℕ} → n ≡ room_of fm (length s) → Passed fm s f n 0
 pass_start {fm} s f e m = scan_start s (Rest fm s f) e m refl
 
-module _ {fm : Form} {s : Bytes} {f : Slot → Bool} {n i : ℕ} (w : Passed fm s f n i) (h : i < n) {t : Bool} (e : t ≡ f (slot_no fm i s)) where
+module _ {fm : Form} {s : Bytes} (f : Slot → Bool) {n i : ℕ} (w : Passed fm s f n i) (h : i < n) {t : Bool} (e : t ≡ f (slot_no fm i s)) where
   pub pass_next : t ≡ true → Passed fm s f n (i + 1)
   pass_next k =
       let here : f (slot_no fm i s) ≡ true = sym e ∙ k in
@@ -35,5 +35,5 @@ module _ {fm : Form} {s : Bytes} {f : Slot → Bool} {n i : ℕ} (w : Passed fm 
       let off : every f (slot_no fm i s ∷ drop (i + 1) (store_in fm s).slots) ≡ false = rw here in
       sym (scan_here w h ∙ off)
 
-pub pass_end : {fm : Form} {s : Bytes} {f : Slot → Bool} {n i : ℕ} → Passed fm s f n i → n ≤ i → true ≡ every f (store_in fm s).slots
-pass_end w h = sym (scan_end w h)
+pub pass_end : {fm : Form} {s : Bytes} (f : Slot → Bool) {n i : ℕ} → Passed fm s f n i → n ≤ i → true ≡ every f (store_in fm s).slots
+pass_end _ w h = sym (scan_end w h)

@@ -1,4 +1,6 @@
 // A root among the other roots of its store, document 01, 'Sound': no other lives when it does.
+#![tactic(auto)]
+
 ghost use Rattle.std.specs.Prelude.{◌≡◌, true};
 ghost use Rattle.local.specs.Test.{every, by_record};
 ghost use Rattle.layout.specs.Stores.{store_in, slot_no, Has};

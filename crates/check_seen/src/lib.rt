@@ -1,5 +1,7 @@
 // What the passes of a check must have seen, and that it is enough for each slot to pass. Its code adds up the lives of a record's parents, in an entry for
 // each slot; an entry stays where it would pass 32 bits.
+#![tactic(auto)]
+
 ghost use Rattle.std.specs.Prelude.{◌+◌, ◌≤◌, ◌<◌};
 ghost use Rattle.check_seen.specs.Sums.{Added};
 

@@ -1,5 +1,7 @@
 // The exact test of one slot, document 01, 'Sound': its record is looked at with a pass over the slots for its node, its children and its
 // parents, or, of a root, the other roots; no version is tried, and the record is hashed once.
+#![tactic(auto)]
+
 ghost use Rattle.std.specs.Prelude.{◌≡◌, ◌<◌, length};
 ghost use Rattle.terms.specs.Records.{inner_body, tally, no_tally};
 ghost use Rattle.local.specs.Test.{record_test, slot_test, slots_test};

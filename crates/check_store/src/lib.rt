@@ -1,5 +1,7 @@
 // Checking a store, document 01, 'Sound': a check in few passes over the slots says that all is fine or names a suspect, and the exact test of
 // the suspect decides. Each record is looked at by itself, and no version is tried.
+#![tactic(auto)]
+
 ghost use Rattle.std.specs.Prelude.{◌≡◌};
 ghost use Rattle.local.specs.Test.{slots_test};
 ghost use Rattle.nodehash.specs.Node.{leaf_hash, inner_hash};

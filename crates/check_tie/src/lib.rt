@@ -1,4 +1,6 @@
 // Parents and their children, slot by slot: whether each child stands in the slot that was guessed, and all that is said of it is right.
+#![tactic(auto)]
+
 ghost use Rattle.std.specs.Prelude.{◌≡◌, true};
 ghost use Rattle.layout.specs.Slots.{is_inner};
 ghost use Rattle.layout.specs.Stores.{slot_in, Has};

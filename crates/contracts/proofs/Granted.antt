@@ -29,6 +29,7 @@ among_append g (x ∷ xs) ys (inr m) = later (among_append g xs ys m)
     later (inr n) = inr n
 
 all_among : (P : Grant → Type 0) (g : Grant) (xs : List Grant) → All P xs → Among g xs → P g
+all_among P g [] h x'' = elim x'' [ ]
 all_among P g (x ∷ xs) h (inl e) = subst P e h.0
 all_among P g (x ∷ xs) h (inr m) = all_among P g xs h.1 m
 

@@ -1,4 +1,6 @@
 // SHA-256 of a slice of bytes of any length.
+#![tactic(auto)]
+
 ghost use Rattle.std.specs.Prelude.{◌≡◌, ◌++◌, ◌∷◌, [], ◌+◌, ◌/◌, ◌<◌, ◌≤◌, length, get_or};
 ghost use Rattle.hash.specs.BigEndian.{word_at};
 ghost use Rattle.hash.specs.Hash.{hash_bytes};

@@ -1,4 +1,6 @@
 // Little-endian fields in lent memory, document 01, 'Bytes'. Each function reads or writes its own bytes and nothing else.
+#![tactic(auto)]
+
 ghost use Rattle.std.specs.Prelude.{◌≡◌, ◌+◌, ◌<◌, ◌≤◌, length};
 ghost use Rattle.terms.specs.Fields.{le, field, zero_bytes, all_zero};
 ghost use Rattle.fields.specs.Written.{written};

@@ -1,5 +1,7 @@
 // The figures of the versions of a block, document 02, request 2026-14: one scan counts what lives at each of them and lists what lives at some, so that a version adds
 // the listed slots alone.
+#![tactic(auto)]
+
 ghost use Rattle.std.specs.Prelude.{◌≡◌, ◌≤◌, length};
 ghost use Rattle.figures_count.specs.Count.{Whole};
 ghost use Rattle.figures_block.specs.Block.{Right, None, Counts};

@@ -74,6 +74,7 @@ module _ {x : Bytes} {y : Slot} (h : Holds x y) (first last : ℕ) where
   not_there e = go y h
     where
       go : (y : Slot) → Holds x y → false ≡ slot_lives first last y
+      go (spoiled _) x3 = elim x3 [ ]
       go free (holds_none z) = refl
       go (used r) (holds_record r' o v t c l b) = absurd (omega arith)
 
@@ -82,6 +83,7 @@ module _ {x : Bytes} {y : Slot} (h : Holds x y) (first last : ℕ) where
   not_yet n e = go y h
     where
       go : (y : Slot) → Holds x y → false ≡ slot_lives first last y
+      go (spoiled _) x3 = elim x3 [ ]
       go free (holds_none z) = absurd (n z)
       go (used r) (holds_record r' o v t c l b) = rw (lt-leb r.version last (omega (arith, v))) refl
 
@@ -91,6 +93,7 @@ module _ {x : Bytes} {y : Slot} (h : Holds x y) (first last : ℕ) where
     not_ended z = go y h
       where
         go : (y : Slot) → Holds x y → true ≡ slot_lives first last y
+        go (spoiled _) x3 = elim x3 [ ]
         go free (holds_none k) = absurd (n k)
         go (used r) (holds_record r' o v t c l b) = rw (le-leb r.version last (omega (arith, v)), lt-leb 1 r.retired (omega (arith, t, z))) refl
 
@@ -99,6 +102,7 @@ module _ {x : Bytes} {y : Slot} (h : Holds x y) (first last : ℕ) where
     ended z = go y h (ltb first (since_in x)) refl
       where
         go : (y : Slot) → Holds x y → (b : Bool) → ltb first (since_in x) ≡ b → b ≡ slot_lives first last y
+        go (spoiled _) x4 b f = elim x4 [ ]
         go free (holds_none k) b f = absurd (n k)
         go (used r) (holds_record r' o v t c l b) true f =
             let k = ltb-true first (since_in x) f in
@@ -125,6 +129,7 @@ module _ {x : Bytes} {y : Slot} (h : Holds x y) (v : ℕ) (f : Figures) where
       by_body (inner_body a c) n w q = absurd (omega (arith, kind_most (length x)))
 
       go : (y : Slot) → Holds x y → slot_lives v v y ≡ true → (with_leaf (count_in x) f ≡ slot_adds v y f) × (count_in x ≤ 256)
+      go (spoiled _) x4 e = elim x4 [ ]
       go free (holds_none z) e = absurd (false≢true e)
       go (used r) (holds_record r' o w t c l b) e = (rw e (by_body r.body (length r.place) b c), omega (arith, c, l))
 
@@ -136,6 +141,7 @@ module _ {x : Bytes} {y : Slot} (h : Holds x y) (v : ℕ) (f : Figures) where
       by_body (inner_body a c) n w = refl
 
       go : (y : Slot) → Holds x y → slot_lives v v y ≡ true → with_inner f ≡ slot_adds v y f
+      go (spoiled _) x4 e = elim x4 [ ]
       go free (holds_none z) e = absurd (false≢true e)
       go (used r) (holds_record r' o w t c l b) e = rw e (by_body r.body (length r.place) b)
 

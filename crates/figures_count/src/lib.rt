@@ -1,4 +1,6 @@
 // Slots of a sound store counted by the lifetimes of their records, document 02, request 2026-14: what a slot adds to the figures of a version, and the records of a range.
+#![tactic(auto)]
+
 ghost use Rattle.std.specs.Prelude.{max, ◌≡◌};
 ghost use Rattle.layout.specs.Stores.{store_of, slot_no};
 ghost use Rattle.quarter.specs.Living.{slot_lives, slot_adds, living_records, with_leaf, with_inner};

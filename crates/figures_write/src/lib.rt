@@ -1,4 +1,6 @@
 // Which ranges of versions have figures, and the numbers of each version of a range written one after the other, request 2026-14.
+#![tactic(auto)]
+
 ghost use Rattle.std.specs.Prelude.{◌≡◌, length};
 ghost use Rattle.layout.specs.Stores.{store_of, HeaderWithin};
 ghost use Rattle.quarter.specs.Figures.{range_right, figures_bytes};

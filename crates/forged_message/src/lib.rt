@@ -1,5 +1,7 @@
 // A message of 65 bytes by its parts, request 2026-12: its hash, and whether it is another with the same hash. No message is put together in
 // memory.
+#![tactic(auto)]
+
 ghost use Rattle.std.specs.Prelude.{◌≡◌, ◌&&◌, not};
 ghost use Rattle.terms.specs.Bits.{same_bytes};
 ghost use Rattle.terms.specs.Records.{zeros};

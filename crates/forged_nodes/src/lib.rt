@@ -1,5 +1,7 @@
 // The messages of a version's nodes, request 2026-12, read slot by slot: each node is hashed once, and the first word of its hash noted; the first whose
 // hash is zero. A node is hashed again only where that word agrees.
+#![tactic(auto)]
+
 ghost use Rattle.std.specs.Prelude.{◌≡◌, true, length};
 ghost use Rattle.sha256.specs.Sha256.{sha256};
 ghost use Rattle.layout.specs.Headers.{size_right};

@@ -1,5 +1,7 @@
 // The first of a version's nodes whose message is another than a given one and has its hash, request 2026-12. A node is hashed again only where the first word
 // of its hash, which was noted, agrees.
+#![tactic(auto)]
+
 ghost use Rattle.std.specs.Prelude.{◌≡◌};
 ghost use Rattle.sha256.specs.Sha256.{sha256};
 ghost use Rattle.layout.specs.Stores.{slot_in, store_of, Has};

@@ -1,5 +1,7 @@
 // The messages hashed while checking a presence proof, request 2026-12, from the leaf upwards: the first whose hash is zero or that has a partner
 // among the messages of a version's nodes.
+#![tactic(auto)]
+
 ghost use Rattle.std.specs.Prelude.{◌≡◌, suc};
 ghost use Rattle.hash.specs.Hash.{hash_bytes};
 ghost use Rattle.sha256.specs.Sha256.{sha256};

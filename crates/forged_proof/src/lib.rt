@@ -1,4 +1,6 @@
 // The search for a finding of a proof where it lies in bytes, request 2026-12: along its paths, the left one first, then over a version's nodes.
+#![tactic(auto)]
+
 ghost use Rattle.std.specs.Prelude.{◌≡◌, true, cond, length};
 ghost use Rattle.layout.specs.Headers.{size_right};
 ghost use Rattle.proofrecords.specs.ProofBytes.{is_presence, is_absence};

@@ -1,4 +1,6 @@
 // The message of a record, request 2026-12, and whether a slot's record is in a version's tree.
+#![tactic(auto)]
+
 ghost use Rattle.std.specs.Prelude.{◌≡◌, length};
 ghost use Rattle.layout.specs.Sizes.{slot_size};
 ghost use Rattle.layout.specs.Slots.{slot_of};

@@ -1,4 +1,6 @@
 // Whether a proof tells the truth about a version, request 2026-12: a key read for its key and for each neighbour that it shows.
+#![tactic(auto)]
+
 ghost use Rattle.std.specs.Prelude.{◌≡◌, true, length};
 ghost use Rattle.terms.specs.Records.{presence, absence};
 ghost use Rattle.meaning.specs.Reading.{present, absent, answer_of};

@@ -1,4 +1,6 @@
 // Formatting: a store of any contents becomes a fresh one.
+#![tactic(auto)]
+
 ghost use Rattle.std.specs.Prelude.{◌≡◌};
 ghost use Rattle.contracts.specs.Format.{format_answer, format_bytes};
 

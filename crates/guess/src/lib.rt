@@ -1,5 +1,7 @@
 // A guess at the slot of a node: a number to keep guesses by, and the look at a slot that a guess names. Guesses are made without proof and looked
 // at before they are believed, so a wrong one costs time and never an answer.
+#![tactic(auto)]
+
 ghost use Rattle.std.specs.Prelude.{◌≡◌, true, ◌<◌, length};
 ghost use Rattle.place.specs.Place.{place_of, Proper};
 ghost use Rattle.layout.specs.Headers.{size_right};

@@ -1,4 +1,6 @@
 // A hash as four numbers: read from a slice, written to one, compared.
+#![tactic(auto)]
+
 ghost use Rattle.std.specs.Prelude.{◌≡◌, ◌++◌, ◌+◌, ◌*◌, ◌<◌, ◌≤◌, length, take, drop};
 ghost use Rattle.terms.specs.Bits.{same_bytes};
 ghost use Rattle.terms.specs.Records.{zeros};

@@ -1,4 +1,6 @@
 // Reading and writing the header of a store in lent memory, document 01, 'Bytes'.
+#![tactic(auto)]
+
 ghost use Rattle.std.specs.Prelude.{◌≡◌, ◌≤◌, length};
 ghost use Rattle.fields.specs.Written.{written};
 ghost use Rattle.layout.specs.Sizes.{header_size};

@@ -1,4 +1,6 @@
 // The form of a header, document 01, 'Bytes', and refusals 1 and 2: whether a store's length and first 24 bytes are right.
+#![tactic(auto)]
+
 ghost use Rattle.std.specs.Prelude.{◌≡◌, ◌≤◌, length};
 ghost use Rattle.layout.specs.Sizes.{header_size, header_kind};
 ghost use Rattle.layout.specs.Headers.{size_right, header_right};

@@ -53,6 +53,7 @@ module _ (leaf_hash inner_hash : Bytes → Bytes → Bytes) (lh : Hashes32 leaf_
     body_form : (u : VTree) (q : Place) → Some u → Within u q t [] →
         (length q ≤ place_limit (body_of leaf_hash inner_hash u)) × BodyForm (body_of leaf_hash inner_hash u)
     unfolding begins child_of
+    body_form vnone q o w = elim o [ ]
     body_form (vleaf v g) q o w =
         let k = within_shaped w s in (omega (arith, prefix_length q (bits g.key) k.0, length_bits g.key, k.1.0.0), k.1)
     body_form (vinner v l r) q o w =
@@ -65,6 +66,7 @@ module _ (leaf_hash inner_hash : Bytes → Bytes → Bytes) (lh : Hashes32 leaf_
 
     -- a count has four bytes where the tree's leaves do
     counts_form : (u : VTree) (q : Place) → Some u → Within u q t [] → CountsForm (body_of leaf_hash inner_hash u) (counts_of u)
+    counts_form vnone q o w = elim o [ ]
     counts_form (vleaf v g) q o w = refl
     counts_form (vinner v l r) q o w = let k = within_leaves w in (omega arith, omega arith)
 

@@ -112,6 +112,7 @@ module _ (leaf_hash inner_hash : Bytes → Bytes → Bytes) where
 
   pub top_record : (p : Place) (u : VTree) → Some u →
       (x : Record) × In x (records_at p u) × (x.version ≡ top_version u) × (x.place ≡ p) × (x.body ≡ body_of u) × (x.counts ≡ counts_of u)
+  top_record p vnone s = elim s [ ]
   top_record p (vleaf v g) s = (_, inl refl, refl, refl, refl, refl)
   top_record p (vinner v l r) s = (_, in_right _ (records_below leaf_hash inner_hash p (vinner v l r)) _ (inl refl), refl, refl, refl, refl)
 

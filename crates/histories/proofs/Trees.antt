@@ -51,6 +51,7 @@ module _ (leaf_hash inner_hash : Bytes → Bytes → Bytes) (st : Store) (w : Wh
   record_hash : (t : VTree) → Some t → Stands leaf_hash inner_hash st [] t → (r : Record) → find (top_version t) [] st.slots ≡ some r →
       body_hash leaf_hash inner_hash r.body ≡ hash leaf_hash inner_hash (unversioned t)
   unfolding child_of
+  record_hash vnone x3 s r f = elim x3 [ ]
   record_hash (vleaf x g) some_leaf s r f = ap (body_hash leaf_hash inner_hash) (found_body x r _ f s.0)
   record_hash (vinner x a b) some_inner s r f = ap (body_hash leaf_hash inner_hash) (found_body x r _ f s.0)
 

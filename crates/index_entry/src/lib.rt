@@ -1,4 +1,6 @@
 // A look at an entry of a table, for a node or for the root of a version, document 02, request 2026-05: an entry that names no slot in form counts as too great.
+#![tactic(auto)]
+
 ghost use Rattle.std.specs.Prelude.{◌≡◌, true, length, get_or};
 ghost use Rattle.terms.specs.Records.{free};
 ghost use Rattle.indexed.specs.Index.{look_at, root_look};

@@ -1,5 +1,7 @@
 // A guess at the right table from the one before a prune: the entries that name free slots are taken out. Nothing is promised of a guess but that it is made;
 // who uses it looks at what it gives.
+#![tactic(auto)]
+
 ghost use Rattle.std.specs.Prelude.{◌≡◌, ◌≤◌, ◌<◌, ◌+◌, length};
 ghost use Rattle.check_pass.specs.Passes.{Room};
 

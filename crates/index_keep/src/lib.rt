@@ -1,4 +1,6 @@
 // The right table of a sound store, document 02, request 2026-05: guessed and looked at, and where the guess is wrong picked entry by entry.
+#![tactic(auto)]
+
 ghost use Rattle.std.specs.Prelude.{◌≡◌, length};
 ghost use Rattle.indexed.specs.Table.{Right};
 ghost use Rattle.layout.specs.Sizes.{room_of};

@@ -1,4 +1,6 @@
 // Whether a table is the right one of a sound store, document 02, request 2026-05: one look at each slot and at each entry.
+#![tactic(auto)]
+
 ghost use Rattle.std.specs.Prelude.{◌≡◌, ◌≤◌, ◌<◌, length};
 ghost use Rattle.indexed.specs.Table.{Right};
 ghost use Rattle.indexed.proofs.Counted.{used_in};

@@ -1,4 +1,6 @@
 // A look at a slot in the search for a node by a table, document 02, request 2026-05: a slot that isn't in form counts as too great.
+#![tactic(auto)]
+
 ghost use Rattle.std.specs.Prelude.{◌≡◌};
 ghost use Rattle.indexed.specs.Index.{look_at, node_look};
 ghost use Rattle.place.specs.Place.{place_of, Proper};

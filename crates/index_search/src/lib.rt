@@ -1,4 +1,6 @@
 // The search through a table of slot numbers, document 02, request 2026-05: it halves, and an entry that names no slot in form counts as too great.
+#![tactic(auto)]
+
 ghost use Rattle.std.specs.Prelude.{◌≡◌, true, length, get_or};
 ghost use Rattle.indexed.specs.Index.{node_look, root_look, search};
 ghost use Rattle.place.specs.Place.{place_of, Proper};

@@ -1,4 +1,6 @@
 // What finding by a table tells apart, document 02, request 2026-05: a search that doesn't end on a matching slot falls back on the scan.
+#![tactic(auto)]
+
 ghost use Rattle.std.specs.Prelude.{◌≡◌, true, length};
 ghost use Rattle.indexed.specs.Index.{root_by, node_by};
 ghost use Rattle.place.specs.Place.{place_of, Proper};

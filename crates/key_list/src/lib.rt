@@ -1,4 +1,6 @@
 // A list of keys in lent bytes, one after the other (2026-04).
+#![tactic(auto)]
+
 ghost use Rattle.std.specs.Prelude.{◌≡◌};
 ghost use Rattle.palette_rules.specs.Palette.{whole_keys};
 

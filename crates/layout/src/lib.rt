@@ -1,5 +1,7 @@
 // Header and slots as bytes, document 01, 'Bytes': specs/ says what they are, proofs/ that they go there and back. The code here says where slots
 // begin.
+#![tactic(auto)]
+
 pub mod sizes;
 
 ghost use Rattle.std.specs.Prelude.{◌≡◌, ◌≤◌, ◌<◌};

@@ -1,4 +1,6 @@
 // The versions that a record lives at, document 02, 2026-13: from its own version on, until it is retired.
+#![tactic(auto)]
+
 ghost use Rattle.std.specs.Prelude.{◌≡◌};
 ghost use Rattle.lifetime.specs.Lifetime.{covers};
 

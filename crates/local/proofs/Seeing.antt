@@ -54,6 +54,7 @@ module _ (leaf_hash inner_hash : Bytes → Bytes → Bytes) where
 
   node_hash : (u : VTree) → Some u → body_hash leaf_hash inner_hash (node_body u) ≡ hash leaf_hash inner_hash (unversioned u)
   unfolding child_of
+  node_hash vnone s = elim s [ ]
   node_hash (vleaf w g) s = refl
   node_hash (vinner w l r) s = refl
 
@@ -90,6 +91,7 @@ module _ (leaf_hash inner_hash : Bytes → Bytes → Bytes) where
         let w = found_at st (top_version u) q r e in record { slot = w.0; rec = r; at = w.1; place = w.3; version = w.2; body = f }
 
     holder : (u : VTree) (q : Place) → Some u → Standing q u → Holder u q
+    holder vnone q h s = elim h [ ]
     holder (vleaf v g) q h s = held (vleaf v g) q s.0
     holder (vinner v l r) q h s = held (vinner v l r) q s.0
 
@@ -140,6 +142,7 @@ module _ (leaf_hash inner_hash : Bytes → Bytes → Bytes) where
     sibling : (b : Side) (w : ℕ) (l r : VTree) (p : Place) → Standing p (vinner w l r) →
         (k : VTree) → kid b (vinner w l r) ≡ k → Some k → LoneLeaf (child_at (kid (not b) (vinner w l r))) (node_body k) → ⊥
     unfolding child_of
+    sibling b w l r p s vnone e h z = elim h [ ]
     sibling b w l r p s (vleaf x g) e h z =
         has_sibling b w x g l r s.1 e (no_version_none (kid (not b) (vinner w l r)) (longer (not b) p) (stands_kid (not b) p w l r s) z)
     sibling b w l r p s (vinner x y t) e h z = z
@@ -188,6 +191,8 @@ module _ (leaf_hash inner_hash : Bytes → Bytes → Bytes) where
       body_fits : (u u' : VTree) → Some u → Some u' → node_body u ≡ node_body u' →
           Within u r.place (tree_at_version st (first_kept st r)) [] → Standing r.place u →
           Within u' r.place (tree_at_version st v) [] → BodyFits leaf_hash inner_hash st r (node_body u)
+      body_fits (vinner x l m) vnone s s' e w b w' = elim s' [ ]
+      body_fits vnone u' s s' e w b w' = elim s [ ]
       body_fits (vleaf x g) u' s s' e w b w' = b.1
       body_fits (vinner x l m) (vleaf y g) s s' e w b w' = let z : ◌≡◌ {A = ℕ} 0 1 = cc in absurd (omega arith)
       body_fits (vinner x l m) (vinner y l' m') s s' e w b w' = (kid_linked left, kid_linked right)
@@ -218,6 +223,7 @@ module _ (leaf_hash inner_hash : Bytes → Bytes → Bytes) where
         find (top_version u) q st.slots ≡ some r → r.body ≡ node_body u → st.form ≡ counted →
         r.counts ≡ counts_by st.slots q (node_body u)
     unfolding child_of
+    node_counts vnone q h s i r a e b f = elim h [ ]
     node_counts (vleaf v g) q h s i r a e b f = subst (λ o. CountsForm o r.counts) b (ok.formed i r a).counts
     node_counts (vinner v x y) q h s i r a e b f =
         let weighs = stands_weighs leaf_hash inner_hash st f (λ j m d. (ok.versions j m d).0) in

@@ -1,4 +1,6 @@
 // Finding the root of a version in lent memory, document 02, 2026-13: the root record whose lifetime covers it.
+#![tactic(auto)]
+
 ghost use Rattle.std.specs.Prelude.{◌≡◌, true, length};
 ghost use Rattle.layout.specs.Headers.{size_right};
 ghost use Rattle.layout.specs.Stores.{store_in, slot_no, Has};

@@ -43,7 +43,11 @@ pub data Lowest (s : List Slot) (test : Record → Bool) : Option Record → Typ
 module _ (test : Record → Bool) where
   push : (y : Slot) (s : List Slot) (o : Option Record) → ((r : Record) → y ≡ used r → test r ≡ false) → Lowest s test o →
       Lowest (y ∷ s) test o
-  push y s none k (miss f) = miss (λ i. elim i [ zero ↦ λ r l e. k r e | suc j ↦ λ r l e. f j r (le_of_suc-le-suc l) e ])
+  push y s none k (miss f) = miss go
+    where
+      go : (i : ℕ) (r : Record) → i < length (y ∷ s) → get_or (y ∷ s) i free ≡ used r → test r ≡ false
+      go zero r l e = k r e
+      go (suc j) r l e = f j r (le_of_suc-le-suc l) e
   push y s (some q) k (hit i r l e n) = hit (suc i) r (omega arith) e n
 
   passes : (q : Record) (s : List Slot) (b : Bool) → test q ≡ b → Lowest s test (lowest test s) →
@@ -110,6 +114,7 @@ pub data Some : VTree → Type 0 where
   some_inner : {w : ℕ} {l r : VTree} → Some (vinner w l r)
 
 pub none_not : {A : Type 0} (u : VTree) → Some u → u ≡ vnone → A
+none_not {A = A} vnone s e = elim s [ ]
 none_not (vleaf w g) s e = let z : ◌≡◌ {A = ℕ} 0 1 = cc in absurd (omega arith)
 none_not (vinner w l r) s e = let z : ◌≡◌ {A = ℕ} 0 1 = cc in absurd (omega arith)
 
@@ -119,6 +124,7 @@ some_body w (leaf_body k x) below = (some_leaf, refl)
 some_body w (inner_body l r) below = (some_inner, refl)
 
 top_node : (u : VTree) (q : Place) → Some u → NodeOf (top_version u) q u q
+top_node vnone q x' = elim x' [ ]
 top_node (vleaf w g) q some_leaf = (refl, refl)
 top_node (vinner w l r) q some_inner = inl (refl, refl)
 

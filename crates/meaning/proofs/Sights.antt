@@ -32,11 +32,19 @@ module _ (test : Bytes → Bool) where
   push : (y : Slot) (i : ℕ) (s : List Slot) (o : Option ℕ) → ((x : Bytes) → y ≡ spoiled x → test x ≡ false) → Spoilt test (suc i) s o →
       Spoilt test i (y ∷ s) o
   push y i s none k (none_spoilt f) =
-      none_spoilt (λ j. elim j [ zero ↦ λ x l e. k x e | suc m ↦ λ x l e. f m x (le_of_suc-le-suc l) e ])
+      none_spoilt go
+    where
+      go : (j : ℕ) (x : Bytes) → j < length (y ∷ s) → get_or (y ∷ s) j free ≡ spoiled x → test x ≡ false
+      go zero x l e = k x e
+      go (suc m) x l e = f m x (le_of_suc-le-suc l) e
   push y i s (some n) k (spoilt_in j x l e t f) =
       subst (λ m. Spoilt test i (y ∷ s) (some m)) (omega arith)
       (spoilt_in (suc j) x (omega arith) e t
-      (λ m. elim m [ zero ↦ λ z h g. k z g | suc n ↦ λ z h g. f n z (le_of_suc-le-suc h) g ]))
+      go)
+    where
+      go : (m : ℕ) (z : Bytes) → m < suc j → get_or (y ∷ s) m free ≡ spoiled z → test z ≡ false
+      go zero z h g = k z g
+      go (suc n) z h g = f n z (le_of_suc-le-suc h) g
 
   passes : (x : Bytes) (i : ℕ) (s : List Slot) (b : Bool) → test x ≡ b → Spoilt test (suc i) s (lowest_spoilt test (suc i) s) →
       Spoilt test i (spoiled x ∷ s) (cond b (some i) (lowest_spoilt test (suc i) s))

@@ -1,4 +1,6 @@
 // A field and an inner op where they stand in the bytes of a message, document 02, request 2026-02. Any bytes may be handed in.
+#![tactic(auto)]
+
 ghost use Rattle.std.specs.Prelude.{◌≡◌, ◌≤◌, length, false};
 ghost use Rattle.messages.specs.Reading.{step_in};
 ghost use Rattle.message_fields.specs.Standing.{Stands, step_by};

@@ -1,4 +1,6 @@
 // What a message says, by where its parts stand, document 02, request 2026-02: a presence, an absence, or nothing (10). Any bytes may be handed in.
+#![tactic(auto)]
+
 ghost use Rattle.std.specs.Prelude.{◌≡◌, ◌≤◌, length, false, ◌||◌};
 ghost use Rattle.message_form.specs.Said.{Nobody, Neighbours, Follows, Absents, SaysPresence, SaysAbsence, Says};
 

@@ -1,5 +1,7 @@
 // An existence proof where it stands in the bytes of a message, document 02, request 2026-02: key, value, leaf op and path. Any bytes may be handed in. What lies
 // inside another message is read from the bytes up to its end, so that all places are places in the whole message.
+#![tactic(auto)]
+
 ghost use Rattle.std.specs.Prelude.{◌≡◌, false, ◌&&◌, ◌-◌, ◌≤◌, length, leb};
 ghost use Rattle.message_leaf.specs.Shown.{Stepped, Walks, Heads, Shows, Nothing};
 

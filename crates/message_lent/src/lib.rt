@@ -1,5 +1,7 @@
 // What a caller lends beside a record for a message, document 02, request 2026-02: raw keys and values that have the right length and hash to what the proof
 // holds (15 else); and how long the message of it is.
+#![tactic(auto)]
+
 ghost use Rattle.std.specs.Prelude.{◌≡◌, true, cond, ◌+◌, ◌<◌, ◌≤◌, length, eqb};
 ghost use Rattle.terms.specs.Fields.{slice};
 ghost use Rattle.sha256.specs.Sha256.{sha256};

@@ -1,4 +1,6 @@
 // The parts of a message written one after the other into a room, document 02, request 2026-02: each function answers where the next part begins.
+#![tactic(auto)]
+
 ghost use Rattle.std.specs.Prelude.{◌≡◌, true, cond, ◌∷◌, [], ◌+◌, ◌*◌, ◌<◌, ◌≤◌, ◌%◌, length, eqb};
 ghost use Rattle.proofrecords.specs.ProofBytes.{is_presence, presence_in};
 ghost use Rattle.messages.specs.Wire.{varint, message_field};

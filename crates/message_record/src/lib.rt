@@ -1,4 +1,6 @@
 // Our own record of what a message says, written from the message, document 02, request 2026-02: keys and values are hashed by SHA-256.
+#![tactic(auto)]
+
 ghost use Rattle.std.specs.Prelude.{◌≡◌, cond, ◌+◌, ◌*◌, ◌≤◌, length, eqb};
 ghost use Rattle.fields.specs.Written.{written};
 ghost use Rattle.sha256.specs.Sha256.{sha256};

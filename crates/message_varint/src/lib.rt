@@ -1,4 +1,6 @@
 // A varint where it stands in the bytes of a message, document 02, request 2026-02. Any bytes may be handed in.
+#![tactic(auto)]
+
 ghost use Rattle.std.specs.Prelude.{◌≡◌, ◌<◌, ◌≤◌, length, false};
 ghost use Rattle.message_varint.specs.Numbers.{Reads, Joins};
 

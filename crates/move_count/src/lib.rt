@@ -1,5 +1,7 @@
 // The leaves below the children of each inner record of a plain store, document 02, request 2026-10: the longest places first, so that what a
 // record's children have is there before it is asked for. Children are guessed, and looked at before they are believed.
+#![tactic(auto)]
+
 ghost use Rattle.std.specs.Prelude.{◌≡◌, true, ◌+◌, ◌≤◌, ◌<◌, length};
 ghost use Rattle.place.specs.Place.{place_of, Proper};
 ghost use Rattle.layout.specs.Slots.{is_inner, count_in};

@@ -1,5 +1,7 @@
 // The target of a move filled, document 02, request 2026-10. Both moves call it after their tests, so the compiler keeps it a call and its tables
 // are not on the stack while the source is checked.
+#![tactic(auto)]
+
 ghost use Rattle.std.specs.Prelude.{◌≡◌};
 ghost use Rattle.meaning.specs.Sound.{Sound};
 ghost use Rattle.nodehash.specs.Node.{leaf_hash, inner_hash};

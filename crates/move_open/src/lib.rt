@@ -1,4 +1,6 @@
 // The tests of a move, document 02, request 2026-10: the sizes of source and target, then the source, which is checked where it lies.
+#![tactic(auto)]
+
 ghost use Rattle.move_open.specs.Open.{Opened};
 
 use check_store::check;

@@ -1,4 +1,6 @@
 // A store written in the other form, document 02, request 2026-10: each record in its slot, as it was, with the counts that a table has for it.
+#![tactic(auto)]
+
 ghost use Rattle.std.specs.Prelude.{◌≡◌};
 ghost use Rattle.terms.specs.Bits.{Bytes};
 ghost use Rattle.terms.specs.Records.{spoiled, tally};

@@ -1,4 +1,6 @@
 // The neighbours of an absence proof where they lie in its bytes, document 01, 'Bytes': one alone, or the left one and then the right one.
+#![tactic(auto)]
+
 ghost use Rattle.std.specs.Prelude.{◌≡◌, true, ◌≤◌, ◌<◌, drop, leb};
 ghost use Rattle.proofrecords.specs.ProofBytes.{absence_head, is_presence, is_absence, flags, left_part, right_part};
 

@@ -1,4 +1,6 @@
 // The hash of a leaf and of an inner node, from hashes as numbers: no message is put together in memory.
+#![tactic(auto)]
+
 ghost use Rattle.std.specs.Prelude.{◌≡◌, ◌+◌, ◌*◌, ◌%◌, ◌<◌, length, take, drop};
 ghost use Rattle.hash.specs.Hash.{hash_bytes};
 ghost use Rattle.sha256.specs.Sha256.{padded, sha256};

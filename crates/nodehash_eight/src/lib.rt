@@ -1,4 +1,6 @@
 // The hashes of eight nodes side by side: two runs over eight lanes.
+#![tactic(auto)]
+
 ghost use Rattle.std.specs.Prelude.{◌≡◌, ◌<◌, length};
 ghost use Rattle.hash.specs.Hash.{hash_bytes};
 ghost use Rattle.sha256.specs.Sha256.{sha256, state_bytes};

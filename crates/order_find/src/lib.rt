@@ -1,4 +1,6 @@
 // Finding a node by an ordered table: the first entry that isn't before the node is guessed or searched for by halves, so of slots with the same node the lowest is found.
+#![tactic(auto)]
+
 ghost use Rattle.std.specs.Prelude.{◌≡◌, true, ◌≤◌, length};
 ghost use Rattle.place.specs.Place.{place_of, Proper};
 ghost use Rattle.layout.specs.Headers.{size_right};

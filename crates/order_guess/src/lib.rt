@@ -1,4 +1,6 @@
 // A table to find by, made for one call on its own stack: a sort guesses the order, a look says whether it is right, and where it isn't there is no table.
+#![tactic(auto)]
+
 ghost use Rattle.std.specs.Prelude.{◌≡◌, true, ◌≤◌, length};
 ghost use Rattle.layout.specs.Headers.{size_right};
 ghost use Rattle.layout.specs.Stores.{store_of};

@@ -1,4 +1,6 @@
 // The first entry of an ordered table that isn't before a node, by halves: one look at an entry says whether it is before.
+#![tactic(auto)]
+
 ghost use Rattle.std.specs.Prelude.{◌≡◌, true, ◌<◌, ◌≤◌, length, get_or};
 ghost use Rattle.terms.specs.Bits.{before};
 ghost use Rattle.place.specs.Place.{place_of, Proper};

@@ -1,5 +1,7 @@
 // Where the children of each record stand, made for one call on its own stack: guessed by an ordered table, and each guess looked at once. What stays names
 // only slots that a scan finds too, the lowest of their node.
+#![tactic(auto)]
+
 ghost use Rattle.std.specs.Prelude.{◌≡◌, true, ◌<◌, length, get_or};
 ghost use Rattle.terms.specs.Bits.{before};
 ghost use Rattle.layout.specs.Headers.{size_right};

@@ -1,4 +1,6 @@
 // A look at a slot: how it stands to a node, by the bit count, then by the bits, then by the version.
+#![tactic(auto)]
+
 ghost use Rattle.std.specs.Prelude.{◌≡◌, ◌+◌, ◌≤◌, length, take, drop};
 ghost use Rattle.hash.specs.BigEndian.{number};
 ghost use Rattle.layout.specs.Slots.{version_in};

@@ -1,4 +1,6 @@
 // The first entry of an ordered table that isn't before a node, where it was guessed: a look at it and at the one before it says whether it is.
+#![tactic(auto)]
+
 ghost use Rattle.std.specs.Prelude.{◌≡◌, true, ◌≤◌, length};
 ghost use Rattle.place.specs.Place.{place_of, Proper};
 ghost use Rattle.layout.specs.Headers.{size_right};

@@ -1,4 +1,6 @@
 // Whether a table names the slots in form of a store in the order of their nodes: one look at each entry and each slot. Nothing is known of the table before.
+#![tactic(auto)]
+
 ghost use Rattle.std.specs.Prelude.{◌≡◌, true, ◌+◌, ◌≤◌, ◌<◌, length};
 ghost use Rattle.layout.specs.Sizes.{room_of};
 ghost use Rattle.layout.specs.Headers.{size_right};

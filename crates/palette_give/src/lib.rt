@@ -1,4 +1,6 @@
 // Several proofs over lent bytes, document 02, request 2026-04: a first pass over the keys measures, a second one writes.
+#![tactic(auto)]
+
 ghost use Rattle.std.specs.Prelude.{◌≡◌, true, length};
 ghost use Rattle.layout.specs.Headers.{size_right};
 ghost use Rattle.layout.specs.Stores.{store_of};

@@ -1,4 +1,6 @@
 // Where the records on the ways of a list's keys stand by a lent table, found once for the call. What stays names only slots that a read by the table finds too.
+#![tactic(auto)]
+
 ghost use Rattle.std.specs.Prelude.{◌≡◌, true, ◌≤◌, ◌<◌, length};
 ghost use Rattle.place.specs.Place.{Proper};
 ghost use Rattle.layout.specs.Sizes.{room_of};

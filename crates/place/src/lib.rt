@@ -1,4 +1,6 @@
 // Keys and places: the bits of a key, the order of keys, and places as values that grow by one bit at a time.
+#![tactic(auto)]
+
 ghost use Rattle.std.specs.Prelude.{◌≡◌, true, false, [], ◌*◌, ◌≤◌, ◌<◌, length, take, drop};
 ghost use Rattle.terms.specs.Bits.{bits, bit, begins, before, same_bytes, none_set};
 ghost use Rattle.place.specs.Place.{place_of, Proper, Stands, Grown};

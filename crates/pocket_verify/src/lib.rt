@@ -50,13 +50,7 @@ fn is_outside(p: &[u8]) -> bool
 }
 
 // The pocket check for callers in other languages: as `grants_verify`, with 19 for a proof in form that is outside the profile.
-#[unsafe(no_mangle)]
-pub extern "C" fn grants_pocket_verify(
-    root: &[u8],
-    key: &[u8],
-    proof: &[u8],
-    found: &mut [u8; 33],
-) -> u32
+pub fn grants_pocket_verify(root: &[u8], key: &[u8], proof: &[u8], found: &mut [u8; 33]) -> u32
     ensures { PocketVerifies root.now key.now proof.now found.old result found.new }
 {
     if root.len() != 32 {

@@ -66,6 +66,7 @@ module _ (leaf_hash inner_hash : Bytes → Bytes → Bytes) (st : Store) (form :
   body_leads : (p : Place) (t : VTree) (q : Record) → Some t → find (top_version t) p st.slots ≡ some q → Standing p t →
       (below : Side → Child → ℕ → Answer Grant) → ((b : Side) → Leads (below b (child_at (kid b t))) (kid b t)) →
       Leads (λ i. at_body p q.body q.counts i below) t
+  body_leads p vnone q o e s below kids i h = elim o [ ]
   body_leads p (vleaf v g) q o e s below kids i h =
       ap (λ b. at_body p b q.counts i below) (top_body p v _ q e s.0)
       ∙ rw (s.1, eq-eqb i 0 (omega arith)) (ap (grant_at (g ∷ [])) (zero_is i h))
@@ -153,6 +154,7 @@ module _ (leaf_hash inner_hash : Bytes → Bytes → Bytes) (st : Store) (form :
       where
         go : (t : VTree) → tree ≡ t → Some t → find (top_version t) [] st.slots ≡ some r → Standing [] t →
             Leads (λ i. at_body [] r.body r.counts i (λ b d j. descend 255 (scan st) (b ∷ []) d j)) t
+        go vnone k o e s = elim o [ ]
         go (vleaf w g) k o e s = body_leads [] (vleaf w g) r o e s _ (λ b j h. absurd (omega arith))
         go (vinner w x y) k o e s =
             body_leads [] (vinner w x y) r o e s _ (λ b. elim b as (λ b. Leads (descend 255 (scan st) (b ∷ []) (child_at (kid b (vinner w x y)))) (kid b (vinner w x y))) [

@@ -1,4 +1,6 @@
 // Proving over lent bytes, document 01, 'Reading and proving', and 2026-03: the proof for a key in a version, for every store, sound or damaged.
+#![tactic(auto)]
+
 ghost use Rattle.std.specs.Prelude.{◌≡◌, length};
 ghost use Rattle.prove_shape.specs.Plans.{plan_says, PlanIn};
 ghost use Rattle.meaning.specs.Answers.{room_after};

@@ -1,4 +1,6 @@
 // The absence proof of a key, written from the paths to its neighbours, document 01, 'Bytes', absence proof.
+#![tactic(auto)]
+
 ghost use Rattle.std.specs.Prelude.{◌≡◌, ◌+◌, length};
 ghost use Rattle.proofrecords.specs.ProofBytes.{absence_head, neighbour_bytes, absence_bytes};
 ghost use Rattle.prove_paths.specs.Neighbours.{room_for, flag_for, neighbour_at, NeighbourIn, absent_of};

@@ -1,4 +1,6 @@
 // The plan of an absence proof over lent bytes, document 01, 'Reading and proving': by the neighbours that both searches find where a walk has ended.
+#![tactic(auto)]
+
 ghost use Rattle.layout.specs.Stores.{store_of};
 ghost use Rattle.read_near.specs.Near.{Led};
 ghost use Rattle.prove_trails.specs.Searches.{WalkedIn};

@@ -1,4 +1,6 @@
 // Paths in lent memory and the proofs that they are written as, document 01, 'Bytes', presence proof.
+#![tactic(auto)]
+
 ghost use Rattle.std.specs.Prelude.{◌≡◌, ◌+◌, ◌*◌, ◌≤◌, length};
 ghost use Rattle.terms.specs.Bits.{digit};
 ghost use Rattle.layout.specs.Stores.{SlotWithin};

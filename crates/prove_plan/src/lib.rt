@@ -1,5 +1,7 @@
 // The plan of a proof over lent bytes, document 01, 'Reading and proving', with 2026-03 and 2026-07: the walk and both searches, what the proof shows and how long it is.
 // Room is not looked at, and nothing is written.
+#![tactic(auto)]
+
 ghost use Rattle.std.specs.Prelude.{◌≡◌, true, length};
 ghost use Rattle.meaning.specs.Reading.{seen};
 ghost use Rattle.meaning.specs.Proving.{prove_seen};

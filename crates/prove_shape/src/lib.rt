@@ -1,5 +1,7 @@
 // What a proof will be: its shape, the plan by which it is written, and the shape of an absence proof by how its searches ended, document 01, 'Reading and proving', with 2026-03
 // and 2026-07.
+#![tactic(auto)]
+
 ghost use Rattle.std.specs.Prelude.{◌≡◌};
 ghost use Rattle.prove_shape.specs.Shapes.{right_shape, absence_shape};
 

@@ -1,4 +1,6 @@
 // The walk that remembers its way, and the search for a neighbour, document 01, 'Reading and proving'.
+#![tactic(auto)]
+
 ghost use Rattle.std.specs.Prelude.{◌≡◌, true, length};
 ghost use Rattle.layout.specs.Headers.{size_right};
 ghost use Rattle.read_near.specs.Near.{Led};

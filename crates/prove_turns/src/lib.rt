@@ -1,4 +1,6 @@
 // Where a walk and a search turn, document 01, 'Reading and proving': the deepest fork towards a side, where a descent goes on, whether a key is on a side.
+#![tactic(auto)]
+
 ghost use Rattle.std.specs.Prelude.{◌≡◌, true, cond, not, ◌<◌, length, eqb};
 ghost use Rattle.layout.specs.Sizes.{room_of};
 ghost use Rattle.layout.specs.Headers.{size_right};

@@ -1,4 +1,6 @@
 // Proofs written as they were planned, document 01, 'Reading and proving': into a part of a lent room that is as long as the proof.
+#![tactic(auto)]
+
 ghost use Rattle.std.specs.Prelude.{◌≡◌, length};
 ghost use Rattle.prove_shape.specs.Plans.{plan_says, PlanIn};
 ghost use Rattle.prove_write.specs.Written.{planned_length, planned_bytes};

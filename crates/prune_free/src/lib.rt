@@ -1,4 +1,6 @@
 // What pruning does to a store, document 01, 'Pruning': whether a version is kept, and freeing every record retired since it or earlier.
+#![tactic(auto)]
+
 ghost use Rattle.std.specs.Prelude.{◌≡◌};
 ghost use Rattle.meaning.specs.Calls.{is_kept};
 ghost use Rattle.layout.specs.Stores.{store_of, HeaderWithin, SlotWithin};

@@ -1,4 +1,6 @@
 // Pruning a sound store: every record retired since a version or earlier is freed, and oldest becomes that version.
+#![tactic(auto)]
+
 ghost use Rattle.promises.specs.Calls.{SoundBytes};
 ghost use Rattle.prune_sound.specs.Prune.{pruned_says, PruneDoes};
 

@@ -1,5 +1,7 @@
 // The root read and the key read of a store in lent memory, document 01, 'Reading and proving'. A read tests the header, not soundness, and
 // writes nothing.
+#![tactic(auto)]
+
 ghost use Rattle.std.specs.Prelude.{◌≡◌};
 ghost use Rattle.read_key.specs.Parts.{read_says};
 ghost use Rattle.read_root.specs.Parts.{root_says};

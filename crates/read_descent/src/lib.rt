@@ -1,4 +1,6 @@
 // The descent to a position by the counts, 2026-09: from a record in a slot down; no leaf but the one asked for is looked at.
+#![tactic(auto)]
+
 ghost use Rattle.std.specs.Prelude.{◌≡◌, []};
 ghost use Rattle.place.specs.Place.{place_of};
 ghost use Rattle.layout.specs.Slots.{is_leaf};

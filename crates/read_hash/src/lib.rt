@@ -1,4 +1,6 @@
 // The hash of a record, from the bytes of its slot.
+#![tactic(auto)]
+
 ghost use Rattle.std.specs.Prelude.{◌≡◌, length};
 ghost use Rattle.meaning.specs.Reading.{body_hash};
 ghost use Rattle.hash.specs.Hash.{hash_bytes};

@@ -1,4 +1,6 @@
 // A key looked for from the root of a version on, for the key read of document 01, 'Reading and proving'. Writes nothing.
+#![tactic(auto)]
+
 ghost use Rattle.std.specs.Prelude.{◌≡◌, true, ◌<◌, length};
 ghost use Rattle.layout.specs.Sizes.{room_of};
 ghost use Rattle.layout.specs.Headers.{size_right};

@@ -1,5 +1,7 @@
 // What a read sees at a child, where a call has guessed for itself in which slot each child stands. A guess is looked at before it is believed, and where
 // it is wrong the child is found as without it.
+#![tactic(auto)]
+
 ghost use Rattle.std.specs.Prelude.{◌≡◌, ◌<◌, get_or};
 ghost use Rattle.place.specs.Place.{place_of};
 ghost use Rattle.layout.specs.Stores.{store_of};

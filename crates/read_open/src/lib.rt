@@ -1,4 +1,6 @@
 // What a read tests before it looks at a slot, document 01, 'Reading and proving': the header, and whether the version is kept.
+#![tactic(auto)]
+
 ghost use Rattle.std.specs.Prelude.{◌≡◌};
 ghost use Rattle.promises.specs.Headed.{as_many};
 ghost use Rattle.read_open.specs.Opening.{opened, opened_says};

@@ -1,4 +1,6 @@
 // The root record of a version looked for, for the root read of document 01, 'Reading and proving'. Writes nothing.
+#![tactic(auto)]
+
 ghost use Rattle.std.specs.Prelude.{◌≡◌, true, length};
 ghost use Rattle.meaning.specs.Reading.{root_read};
 ghost use Rattle.indexed.specs.Index.{root_by};

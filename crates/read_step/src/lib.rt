@@ -1,5 +1,7 @@
 // The steps of a walk down a store in lent memory, document 01, 'Reading and proving': what is seen at the root of a version, what at a child.
 // Only the records on the way are looked at.
+#![tactic(auto)]
+
 ghost use Rattle.std.specs.Prelude.{◌≡◌, true, [], ◌<◌, length};
 ghost use Rattle.meaning.specs.Reading.{refusal_of, seen};
 ghost use Rattle.indexed.specs.Index.{by_table};

@@ -1,4 +1,6 @@
 // Where the descent to a position turns, 2026-09: the side that a position is on by the left count of an inner record, and the position there.
+#![tactic(auto)]
+
 ghost use Rattle.terms.specs.Bits.{left};
 ghost use Rattle.terms.specs.Records.{count_on};
 ghost use Rattle.layout.specs.Slots.{counts_in};

@@ -1,5 +1,7 @@
 // Two buffers compared slot by slot, document 02, request 2026-08: records kept as they were, kept with another retired-since, used slots left
 // out.
+#![tactic(auto)]
+
 ghost use Rattle.std.specs.Prelude.{◌≡◌};
 ghost use Rattle.layout.specs.Stores.{store_of, slot_no};
 ghost use Rattle.rescue_rules.specs.Rescue.{compared, counts};

@@ -1,5 +1,7 @@
 // The records that one tree of a source has and the next lacks, entered in the target, document 02, request 2026-08: each in its slot, with the
 // retired-since given.
+#![tactic(auto)]
+
 ghost use Rattle.layout.specs.Stores.{store_of};
 ghost use Rattle.ordered.specs.Ordered.{Guide};
 ghost use Rattle.rescue_enter.specs.Enter.{Target, Held, Puts, Entering, Enters};

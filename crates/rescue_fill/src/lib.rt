@@ -1,5 +1,7 @@
 // The target filled, document 02, request 2026-08: from latest, whose tree has passed, back by root records; each tree is compared with the next
 // one alone, and what it alone has is entered once it has passed.
+#![tactic(auto)]
+
 ghost use Rattle.std.specs.Prelude.{◌≡◌};
 ghost use Rattle.layout.specs.Stores.{store_of};
 ghost use Rattle.ordered.specs.Ordered.{Guide};

@@ -1,4 +1,6 @@
 // Two trees of a source compared, document 02, request 2026-08: whether a version's tree joins the next one's.
+#![tactic(auto)]
+
 ghost use Rattle.std.specs.Prelude.{◌≡◌, true, ◌||◌, length, eqb};
 ghost use Rattle.place.specs.Place.{Proper};
 ghost use Rattle.layout.specs.Headers.{size_right};

@@ -1,5 +1,7 @@
 // The records of a source of any contents, document 02, request 2026-08: the lowest slot of a node, the children that its record names, and
 // whether one of them is linked.
+#![tactic(auto)]
+
 ghost use Rattle.std.specs.Prelude.{◌≡◌, true, length};
 ghost use Rattle.place.specs.Place.{place_of, Proper};
 ghost use Rattle.layout.specs.Headers.{size_right};

@@ -1,4 +1,6 @@
 // Whether a record of a source of any contents is right by itself, document 02, request 2026-08; a child of which a right record says the same needs no look.
+#![tactic(auto)]
+
 ghost use Rattle.std.specs.Prelude.{◌≡◌};
 ghost use Rattle.meaning.specs.Store.{find};
 ghost use Rattle.nodehash.specs.Node.{leaf_hash, inner_hash};

@@ -1,4 +1,6 @@
 // The root record of a version in a source of any contents, document 02, requests 2026-08 and 2026-13.
+#![tactic(auto)]
+
 ghost use Rattle.std.specs.Prelude.{◌≡◌, ◌≤◌, true, false, [], length};
 ghost use Rattle.std.proofs.Math.Option.{none};
 ghost use Rattle.meaning.specs.Store.{find};

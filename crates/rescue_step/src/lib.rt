@@ -1,4 +1,6 @@
 // One step back of a rescue, document 02, request 2026-08: whether a version joins the next one's tree.
+#![tactic(auto)]
+
 ghost use Rattle.std.specs.Prelude.{◌≡◌, true, length};
 ghost use Rattle.layout.specs.Headers.{size_right};
 ghost use Rattle.layout.specs.Stores.{store_of};

@@ -1,4 +1,6 @@
 // SHA-256's compression of one block. `specs/Sha256.antt` is FIPS 180-4; what the proofs say of this code is in terms of it.
+#![tactic(auto)]
+
 ghost use Rattle.std.specs.Prelude.{◌≡◌, ◌<◌};
 ghost use Rattle.hash.specs.Hash.{hash_bytes};
 ghost use Rattle.sha256.specs.Sha256.{scheduled, round, added, H0, state_bytes};

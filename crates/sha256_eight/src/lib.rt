@@ -1,6 +1,8 @@
 // Eight compressions side by side: a loop whose turns don't hang on each other, which the compiler makes one run over eight lanes, or two
 // runs over four. Its rounds are functions of their own, each with one caller, so that they are in the loop. The words of the lanes stand side by
 // side too, word k of lane l at 8k + l, so that a vector is read and written at once.
+#![tactic(auto)]
+
 ghost use Rattle.std.specs.Prelude.{◌≡◌, ◌<◌};
 ghost use Rattle.sha256_eight.specs.Lanes.{words_in, value_inside, value_list, word_list, spread, Compressed};
 ghost use Rattle.sha256.specs.Rolling.{rolls, turns, folded};

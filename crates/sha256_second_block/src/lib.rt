@@ -1,5 +1,7 @@
 // SHA-256's compression of the second block of a node's message, request 2026-06. Its rounds are functions of their own, each with one
 // caller, so that the compiler makes one straight run of them and sees which words are known.
+#![tactic(auto)]
+
 ghost use Rattle.std.specs.Prelude.{◌≡◌};
 ghost use Rattle.sha256.specs.Rolling.{rolls, turns, folded};
 ghost use Rattle.sha256_second_start.specs.Second.{second_block};

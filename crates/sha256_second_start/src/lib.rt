@@ -1,5 +1,7 @@
 // The first 32 rounds of the second block of a node's message, request 2026-06: one byte of data, the byte 128, zeros, and the number of bits.
 // What does not hang on the byte is in the constants; the terms of the schedule that are zero are left out.
+#![tactic(auto)]
+
 ghost use Rattle.std.specs.Prelude.{◌≡◌};
 ghost use Rattle.sha256.specs.Sha256.{scheduled, round};
 ghost use Rattle.sha256.specs.Rolling.{rolls, turns};

@@ -1,4 +1,6 @@
 // The words of SHA-256: sums, rotations and the six functions of FIPS 180-4, 4.1.2.
+#![tactic(auto)]
+
 ghost use Rattle.std.specs.Prelude.{◌≡◌, ◌<◌};
 ghost use Rattle.sha256_words.specs.Words.{◌⊞◌, ROTR, Ch, Maj, Σ₀, Σ₁, σ₀, σ₁};
 

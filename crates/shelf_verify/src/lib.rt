@@ -85,8 +85,7 @@ fn check_both(
 
 // The check for callers in other languages: 0 where a proof is accepted, with 1 and the value or 0 and zero bytes in `found`; else the
 // number of refusal, with `found` as it was.
-#[unsafe(no_mangle)]
-pub extern "C" fn grants_shelf_verify(
+pub fn grants_shelf_verify(
     root: &[u8],
     bits: u32,
     key: &[u8],

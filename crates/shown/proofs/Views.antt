@@ -102,7 +102,7 @@ no_grant_no_node p none s e = refl
 no_grant_no_node p (leaf g) s e = absurd (nil≢cons (sym e))
 no_grant_no_node p (inner l r) s e =
     let none_Each = neither_list (grants l) (grants r) e in
-    absurd (true≢false (sym s.1 ∙ ap₂ (λ x y. occupied x || occupied y) (no_grant_no_node _ l s.2 none_Each.0) (no_grant_no_node _ r s.3 none_Each.1)))
+    absurd (true≢false (sym s.1 ∙ ap₂ (λ x y. occupied x || occupied y) (no_grant_no_node (longer left p) l s.2 none_Each.0) (no_grant_no_node (longer right p) r s.3 none_Each.1)))
 
 module _ (leaf_hash inner_hash : Bytes → Bytes → Bytes) where
   -- What a read sees of a tree.

@@ -1,4 +1,6 @@
 // What finding a node in lent memory tells apart, document 02, 2026-07: a match, nothing, or a spoilt slot whose fields agree.
+#![tactic(auto)]
+
 ghost use Rattle.std.specs.Prelude.{◌≡◌, true, length};
 ghost use Rattle.meaning.specs.Sight.{agrees, agrees_root, root_sight, node_sight};
 ghost use Rattle.place.specs.Place.{place_of, Proper};

@@ -1,5 +1,7 @@
 // Slots in lent memory, document 01, 'Bytes', and the counted form of 2026-09: reading the bytes of any slot, and their parts. How many they
 // are, 120 or 128, tells the form.
+#![tactic(auto)]
+
 ghost use Rattle.std.specs.Prelude.{◌≡◌, true, ◌+◌, ◌≤◌, length, drop};
 ghost use Rattle.terms.specs.Bits.{bits, none_set};
 ghost use Rattle.layout.specs.Sizes.{grant_size, child_size};

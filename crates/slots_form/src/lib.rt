@@ -1,5 +1,7 @@
 // Whether the bytes of a slot are a record in form, document 01, 'Bytes', and the counted form of 2026-09. How many they are, 120 or 128, tells the
 // form. A leaf and an inner record share their head.
+#![tactic(auto)]
+
 ghost use Rattle.std.specs.Prelude.{◌≡◌, ◌+◌, ◌≤◌, length};
 ghost use Rattle.terms.specs.Fields.{all_of};
 ghost use Rattle.layout.specs.Sizes.{inner_kind, child_size};

@@ -1,5 +1,7 @@
 // Writing a slot in lent memory, document 01, 'Bytes', and the counted form of 2026-09: a leaf, an inner record, or free. A leaf and an inner
 // record share their head. How many bytes are lent, 120 or 128, tells the form.
+#![tactic(auto)]
+
 ghost use Rattle.std.specs.Prelude.{◌≡◌, ◌+◌, ◌≤◌, length};
 ghost use Rattle.terms.specs.declared.Form.{Form};
 ghost use Rattle.terms.specs.Fields.{flat};

@@ -93,6 +93,7 @@ module _ (leaf_hash inner_hash : Bytes → Bytes → Bytes) (new : ℕ) where
   places_new p t now updated o (renewed s e) = go now s e
     where
       go : (u : VTree) → Some u → top_version u ≡ new → record_at leaf_hash inner_hash p u ≡ new_at p u
+      go vnone s e = elim s [ ]
       go (vleaf v g) s e = rw (eq-eqb v new e)
       go (vinner v l r) s e = rw (eq-eqb v new e)
 

@@ -86,6 +86,7 @@ module _ (leaf_hash inner_hash : Bytes → Bytes → Bytes) (new : ℕ) where
         go : (B : Tree) → Low B → filter (is_new new) (records_below leaf_hash inner_hash p (versioned new l B)) ≡ []
         go none low_none = refl
         go (leaf g) low_leaf = refl
+        go (inner _ _) x3 = elim x3 [ ]
 
     low_at : (v : ℕ) (q : Place) → NodeOf v q a.node p → Among v q (node_at p a.node)
     low_at v q n = rw m.gives.node_is (go A low (subst (λ t. NodeOf v q t p) m.gives.node_is n))
@@ -93,6 +94,7 @@ module _ (leaf_hash inner_hash : Bytes → Bytes → Bytes) (new : ℕ) where
         go : (B : Tree) → Low B → NodeOf v q (versioned new l B) p → Among v q (node_at p (versioned new l B))
         go none low_none n = absurd n
         go (leaf g) low_leaf n = inl n
+        go (inner _ _) x3 n = elim x3 [ ]
 
     -- and where its node is given up too, all nodes that it had end
     low_ends : (v : ℕ) (q : Place) → Among v q (a.retired ++ node_at p l) ↔ NodeOf v q l p

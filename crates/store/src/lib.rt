@@ -1,5 +1,7 @@
 // A store in lent memory by what it holds, document 01, 'Bytes': its slots by their number, slot i the 120 bytes from 24 + 120 i on, or in the
 // counted form the 128 from 24 + 128 i on, and the kept versions of its header. Above this room nobody knows a size or an offset; proofs/Scans has the law of a loop over the slots.
+#![tactic(auto)]
+
 ghost use Rattle.std.specs.Prelude.{◌≡◌, true, ◌<◌, length};
 ghost use Rattle.terms.specs.Fields.{field};
 ghost use Rattle.terms.specs.Records.{count_on};

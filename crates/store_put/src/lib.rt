@@ -1,4 +1,6 @@
 // Writing a store in lent memory, document 01, 'Bytes': a slot by its number or by the bytes of another, its mark, and the kept versions of the header. Each function writes these bytes and nothing else.
+#![tactic(auto)]
+
 ghost use Rattle.std.specs.Prelude.{◌≡◌, length};
 ghost use Rattle.terms.specs.Records.{used, free, inner_body, tally, no_tally};
 ghost use Rattle.place.specs.Place.{place_of, Proper};

@@ -1,4 +1,6 @@
 // The check of presence and absence proofs over hostile bytes, document 01, 'Checking'.
+#![tactic(auto)]
+
 ghost use Rattle.std.specs.Prelude.{◌≡◌, cond};
 ghost use Rattle.meaning.specs.Calls.{refused};
 ghost use Rattle.verify_rules.specs.Reading.{verified};

@@ -1,4 +1,6 @@
 // The proof check for callers in other languages, document 01, 'Forms to follow': an editor needs this alone.
+#![tactic(auto)]
+
 ghost use Rattle.std.specs.Prelude.{◌≡◌, length};
 ghost use Rattle.meaning.specs.Reading.{present};
 ghost use Rattle.meaning.specs.Answers.{found_bytes};
@@ -20,8 +22,7 @@ fn put_present(found: &mut [u8], hash: Hash)
 
 // The check for callers in other languages: 0 where a proof is accepted, with 1 and the value or 0 and zero bytes in `found`; else the
 // number of refusal, with `found` as it was.
-#[unsafe(no_mangle)]
-pub extern "C" fn grants_verify(root: &[u8], key: &[u8], proof: &[u8], found: &mut [u8; 33]) -> u32
+pub fn grants_verify(root: &[u8], key: &[u8], proof: &[u8], found: &mut [u8; 33]) -> u32
     ensures { Verifies root.now key.now proof.now found.old result found.new }
 {
     let answer = verify(root, key, proof);

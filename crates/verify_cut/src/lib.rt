@@ -1,4 +1,6 @@
 // A row of records cut by their own lengths, where the paths of each begin, and an answer of one in bytes.
+#![tactic(auto)]
+
 ghost use Rattle.std.specs.Prelude.{◌≡◌, ◌∷◌, ◌<◌, ◌≤◌, length};
 ghost use Rattle.hash.specs.Hash.{hash_bytes};
 ghost use Rattle.terms.specs.Fields.{zero_bytes};

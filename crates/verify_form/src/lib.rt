@@ -2,6 +2,8 @@
 //
 //     presence proof   0 length, 4 kind, 6 step count, 8 key, 40 value, 72 steps of 33 bytes (side, sibling's hash)
 //     absence proof    0 length, 4 kind, 6 flags, 8 key, 40 the neighbours' presence proofs
+#![tactic(auto)]
+
 ghost use Rattle.std.specs.Prelude.{◌≡◌, ◌≤◌, length, drop};
 ghost use Rattle.proofrecords.specs.ProofBytes.{sides_right, is_presence, neighbours_fit, is_absence};
 ghost use Rattle.proofrecords.specs.Steps.{Room};

@@ -1,5 +1,7 @@
 // The check of presence and absence proofs whose paths are walked already, document 01, 'Checking': it is told whether each leads to the root, and
 // hashes nothing. The root is handed on for the contracts alone.
+#![tactic(auto)]
+
 ghost use Rattle.std.specs.Prelude.{◌≡◌};
 ghost use Rattle.hash.specs.Hash.{hash_bytes};
 ghost use Rattle.proofrecords.specs.ProofBytes.{proof_in};

@@ -1,4 +1,6 @@
 // Whether a proof in form holds for a key, document 01, 'Checking': it is of the key, and its paths lead to the root.
+#![tactic(auto)]
+
 ghost use Rattle.std.specs.Prelude.{◌≡◌, true, length, ◌≤◌};
 ghost use Rattle.hash.specs.Hash.{hash_bytes};
 ghost use Rattle.proofrecords.specs.ProofBytes.{is_presence, is_absence};

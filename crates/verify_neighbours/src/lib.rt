@@ -1,6 +1,8 @@
 // Whether the neighbours of an absence proof show that its key is absent, document 01, 'Checking'. Each is read where it lies in the proof. Who judges
 // them is told whether their paths lead to the root, and hashes nothing: the root is handed on for the contracts alone. So one path after the other may
 // be walked here, or many side by side elsewhere.
+#![tactic(auto)]
+
 ghost use Rattle.std.specs.Prelude.{◌≡◌, true};
 ghost use Rattle.meaning.specs.Proving.{beyond};
 ghost use Rattle.hash.specs.Hash.{hash_bytes};

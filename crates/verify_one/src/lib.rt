@@ -1,4 +1,6 @@
 // One presence proof among many that are walked side by side: its record, the message of its leaf and of each step, its next hash, and whether it leads to the root.
+#![tactic(auto)]
+
 ghost use Rattle.std.specs.Prelude.{◌≡◌, ◌<◌, ◌≤◌, length};
 ghost use Rattle.hash.specs.Hash.{hash_bytes};
 ghost use Rattle.proofrecords.specs.ProofBytes.{step_count};

@@ -1,5 +1,7 @@
 // The path of a presence proof: its steps, read where they lie in its bytes; where they lead, whether they are outermost, and whether two paths
 // part around a gap.
+#![tactic(auto)]
+
 ghost use Rattle.std.specs.Prelude.{◌≡◌, suc};
 ghost use Rattle.meaning.specs.Checking.{keeps_to, outermost, same_step, paths_part, parent_hash};
 ghost use Rattle.hash.specs.Hash.{hash_bytes};

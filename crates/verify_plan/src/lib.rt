@@ -1,4 +1,6 @@
 // The paths of a proof, by its form alone: none where it is off form, one, or two around a gap. Nothing is hashed.
+#![tactic(auto)]
+
 ghost use Rattle.verify_plan.specs.Plan.{PathsIn};
 
 use fields::{get_u16, get_u32};
