@@ -1,4 +1,6 @@
 // Applying a batch to a store in lent memory, documents 01 and 02 (2026-13): the version of the given number, or a number of refusal.
+#![tactic(auto)]
+
 ghost use Rattle.apply_answer.specs.Answers.{applied_says};
 ghost use Rattle.apply_publish.specs.Apply.{ApplyDoes};
 

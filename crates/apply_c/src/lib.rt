@@ -1,5 +1,7 @@
 // Applying a batch at the boundary: the call answers 0 where it is accepted, else the number of refusal, and then it writes nothing. `grants`
 // exports it.
+#![tactic(auto)]
+
 ghost use Rattle.contracts.specs.Apply.{ApplyExports};
 
 use apply::apply;

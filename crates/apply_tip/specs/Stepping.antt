@@ -33,7 +33,8 @@ pub record AtTip (new : ℕ) (writes : Bool) (from : ℕ) (s : Bytes) (p : place
 
 -- The step at the node there, and at the child.
 unfoldable pub at_node : ℕ → Bytes → place.Place → ℕ → Bytes → step.Outcome
-at_node new s p v part = step.step_node leaf_hash inner_hash new (256 - p.count) (place_of p) (tree_here s p v) (asks part)
+at_node new s p v part =
+    step.step_node leaf_hash inner_hash new (256 - p.count) (place_of p) (tree_here s p v) (asks part)
 
 unfoldable pub at_child : ℕ → Bytes → place.Place → ℕ → Bytes → step.Outcome
 at_child new s p v part =

@@ -1,4 +1,6 @@
 // What changed between two versions, document 02, request 2026-01: a store that check accepts, and two versions that it keeps.
+#![tactic(auto)]
+
 ghost use Rattle.promises.specs.Calls.{SoundBytes};
 ghost use Rattle.changes_kept.specs.Parts.{compared_says, Compares};
 

@@ -1,5 +1,7 @@
 // A comparison at the boundary: the call answers 0 where it is accepted, else the number of refusal, and then it writes nothing. `grants`
 // exports it.
+#![tactic(auto)]
+
 ghost use Rattle.contracts.specs.Changes.{Changes};
 
 use changes::changes;

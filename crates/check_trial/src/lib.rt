@@ -1,4 +1,6 @@
 // The passes of the check for a test and a bench to link (tests/passes); the library has nothing of this.
+#![tactic(auto)]
+
 ghost use Rattle.std.specs.Prelude.{◌≡◌, true, length};
 ghost use Rattle.layout.specs.Headers.{size_right};
 ghost use Rattle.check_kin.specs.Kin.{Keeps};

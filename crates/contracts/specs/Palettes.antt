@@ -17,7 +17,8 @@ use Rattle.contracts.specs.Looking.{header_for, looking_in}
 unfoldable pub palette_answer : Bytes → Option (List ℕ) → ℕ → Bytes → ℕ → Answer (List Proof)
 palette_answer s by v list room =
     cond (whole_keys list)
-    (by_header (header_for s by) (palette_of (proof_by (looking_in s by) (store_of s) v) (store_of s) v (keys_in list) room))
+    (by_header (header_for s by)
+    (palette_of (proof_by (looking_in s by) (store_of s) v) (store_of s) v (keys_in list) room))
     (refused 12)
 
 -- Proving each key of a list answers r; the room is left as t, the array f for the length of all together as g.

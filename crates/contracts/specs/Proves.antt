@@ -15,7 +15,8 @@ use Rattle.contracts.specs.Looking.{header_for, looking_in}
 -- The proof for the key k, into this much room: 12 where the key isn't 32 bytes, then 1, 2, 8, 14, 3 or 17, 9.
 unfoldable pub prove_answer : Bytes → Option (List ℕ) → ℕ → Bytes → ℕ → Answer Proof
 prove_answer s by v k room =
-    cond (eqb (length k) 32) (by_header (header_for s by) (prove_by (looking_in s by) (store_of s) v k room)) (refused 12)
+    cond (eqb (length k) 32) (by_header (header_for s by) (prove_by (looking_in s by) (store_of s) v k room))
+    (refused 12)
 
 -- Proving the key k in version v of the bytes s answers r; the room is left as t, the array f for the length as g.
 pub record ProvesBy (s : Bytes) (by : Option (List ℕ)) (v : ℕ) (k room f : Bytes) (r : ℕ) (t g : Bytes) : Type 0 where

@@ -48,10 +48,14 @@ module _ (a b : List Grant) where
   of_change k absent absent e f c h = absurd h
   of_change k absent (present y) e f c (inl r) = subst (λ d. All Carries (items_of d)) r (f, tt)
   of_change k (present x) absent e f c (inl r) = subst (λ d. All Carries (items_of d)) r (e, tt)
+  of_change k (present x) absent e f c (inr z) = absurd z
+  of_change k absent (present y) e f c (inr z) = absurd z
   of_change k (present x) (present y) e f c h = go (same_bytes x y) h
     where
       go : (t : Bool) → In c (cond t [] (another k x y ∷ [])) → All Carries (items_of c)
       go false (inl r) = subst (λ d. All Carries (items_of d)) r (e, (f, tt))
+      go false (inr z) = absurd z
+      go true z = absurd z
 
   of_changes : (cs : List Change) → All (λ c. All Carries (items_of c)) cs → All Carries (items cs)
   of_changes [] h = tt
@@ -154,6 +158,7 @@ module _ (x : Item) (h : Long32 (of x)) where
 
 -- a grant that is answered is one of the grants, so its key and value have 32 bytes
 among_form : (g : Grant) (gs : List Grant) → Among g gs → All GrantForm gs → GrantForm g
+among_form g [] x'' w = elim x'' [ ]
 among_form g (y ∷ ys) (inl r) w = subst GrantForm r w.0
 among_form g (y ∷ ys) (inr m) w = among_form g ys m w.1
 

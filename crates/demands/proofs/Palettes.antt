@@ -198,7 +198,7 @@ module _ (s : Bytes) (v : ℕ) (slots : All (SlotForm counted) (store_of s).slot
   joined_bytes [] h none_asked e = refl
   joined_bytes (p ∷ ps) h none_asked e = absurd e
   joined_bytes [] h (then_given x c) e = absurd e
-  joined_bytes (p ∷ ps) h (then_given x c) e = ap₂ ◌++◌ (its_bytes h.0 x e.0) (joined_bytes ps h.1 c e.1)
+  joined_bytes (p ∷ ps) h (then_given {keys = keys} x c) e = ap₂ ◌++◌ (its_bytes h.0 x e.0) (joined_bytes {keys = keys} ps h.1 c e.1)
 
   pub together_long : (keys : List Bytes) (ps : List Proof) → All Whole32 keys → ProofOfEach (proof (store_of s) v) keys ps → length (proofs_bytes ps) ≡ length_together ps
   together_long [] [] h e = refl

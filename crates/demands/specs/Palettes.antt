@@ -27,7 +27,8 @@ pub record BesideSingleCalls (s : Bytes) (v : ℕ) (list : Bytes) : Type 0 where
   pub joined : {room f t g : Bytes} {proofs : List Bytes} → Palettes s v list room f 0 t g →
       SingleCalls s v (keys_in list) proofs →
       (t ≡ flat proofs ++ drop (length (flat proofs)) room) × (num g ≡ length (flat proofs))
-  pub first : {room f t g : Bytes} {r n : ℕ} → Palettes s v list room f r t g → FirstRefusal s v (keys_in list) n → r ≡ n
+  pub first : {room f t g : Bytes} {r n : ℕ} → Palettes s v list room f r t g →
+      FirstRefusal s v (keys_in list) n → r ≡ n
   pub fits : {room f t g : Bytes} {r : ℕ} {k : Bytes} {keys proofs : List Bytes} → Palettes s v list room f r t g →
       keys_in list ≡ k ∷ keys → SingleCalls s v (keys_in list) proofs →
       ((r ≡ 0) ↔ (length (flat proofs) ≤ length room)) × ((r ≡ 9) ↔ (length room < length (flat proofs)))

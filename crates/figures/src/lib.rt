@@ -1,4 +1,6 @@
 // The figures of a range of versions over lent bytes, document 02, request 2026-14: a scan of the slots for each block of versions, and one for the range.
+#![tactic(auto)]
+
 ghost use Rattle.std.specs.Prelude.{◌≡◌, ◌++◌, length};
 ghost use Rattle.terms.specs.Fields.{le};
 ghost use Rattle.figures_sound.specs.Figures.{figured_says, Tells};

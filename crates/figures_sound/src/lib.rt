@@ -1,4 +1,6 @@
 // The figures of a range of versions of a sound store, request 2026-14.
+#![tactic(auto)]
+
 ghost use Rattle.promises.specs.Calls.{SoundBytes};
 ghost use Rattle.figures_sound.specs.Figures.{figured_says, Tells};
 

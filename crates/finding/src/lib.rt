@@ -1,5 +1,7 @@
 // What a forged proof would cost, document 02, request 2026-12: of a proof that is accepted against a version's root, nothing if it tells the truth,
 // else the messages that it took.
+#![tactic(auto)]
+
 ghost use Rattle.std.specs.Prelude.{◌≡◌, true, cond, length};
 ghost use Rattle.terms.specs.Records.{presence, absence};
 ghost use Rattle.meaning.specs.Calls.{refused};

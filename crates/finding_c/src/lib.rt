@@ -1,5 +1,7 @@
 // What a forged proof would cost, at the boundary: the call answers 0 where it is accepted, else the number of refusal, and then it writes nothing.
 // `grants` exports it.
+#![tactic(auto)]
+
 ghost use Rattle.std.specs.Prelude.{◌≡◌, length};
 ghost use Rattle.forged_nodes.specs.Nodes.{named_says};
 ghost use Rattle.finding_rules.specs.Call.{finding_bytes};

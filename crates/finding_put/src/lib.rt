@@ -1,4 +1,6 @@
 // What is found of a proof in 131 bytes, document 02, request 2026-12: 1 and two messages of 65 bytes, or 2 and one.
+#![tactic(auto)]
+
 ghost use Rattle.std.specs.Prelude.{◌≡◌, cond, length, ◌∷◌, ◌++◌};
 ghost use Rattle.terms.specs.Fields.{zero_bytes};
 ghost use Rattle.forgery.specs.Finding.{two_equal};

@@ -50,7 +50,8 @@ module _ (leaf_hash inner_hash : Bytes → Bytes → Bytes) where
     pub latest : st'.latest ≡ number
     pub above : st.latest < st'.latest
     pub tree : tree_at_version st' st'.latest ≡ next_tree st'.latest (tree_at_version st st.latest) batch
-    pub grants : grants_in (tree_at_version st' st'.latest) ≡ with_batch batch (grants_in (tree_at_version st st.latest))
+    pub grants : grants_in (tree_at_version st' st'.latest)
+        ≡ with_batch batch (grants_in (tree_at_version st st.latest))
     pub older : (v : ℕ) → Kept st v → tree_at_version st' v ≡ tree_at_version st v
     pub between : (v : ℕ) → st.latest ≤ v → v < st'.latest → tree_at_version st' v ≡ tree_at_version st st.latest
     -- a record of the old tree alone is marked retired since the new version, any other old record is as it was

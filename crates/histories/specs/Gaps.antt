@@ -16,4 +16,5 @@ root_in01 st v = find v [] st.slots
 -- No call of a list leaves a gap.
 abbrev pub NoGaps : (Bytes → Bytes → Bytes) → (Bytes → Bytes → Bytes) → List Call → Store → Type 0
 NoGaps leaf_hash inner_hash [] st = Unit {0}
-NoGaps leaf_hash inner_hash (c ∷ calls) st = NoGap c st × NoGaps leaf_hash inner_hash calls (after leaf_hash inner_hash c st)
+NoGaps leaf_hash inner_hash (c ∷ calls) st =
+    NoGap c st × NoGaps leaf_hash inner_hash calls (after leaf_hash inner_hash c st)

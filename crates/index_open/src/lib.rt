@@ -1,5 +1,7 @@
 // A store and its table, document 02, request 2026-05: telling whether the table is right, building it, and formatting both. A table of another length than the
 // capacity gives 1, with the store's own.
+#![tactic(auto)]
+
 ghost use Rattle.std.specs.Prelude.{◌≡◌};
 ghost use Rattle.index_rules.specs.Tables.{Opened, Builds, Tells, FormatsBoth};
 

@@ -1,5 +1,7 @@
 // Applying a batch and pruning with the table kept right, document 02, request 2026-05: 16 is tested after 3 and before what is the call's own. Refused, neither the
 // store nor the table is written.
+#![tactic(auto)]
+
 ghost use Rattle.contracts.specs.Tabled.{AppliesBoth, PrunesBoth};
 
 use apply_answer::Applied;

@@ -45,7 +45,8 @@ header_of f s =
 -- The 24 bytes of a header.
 unfoldable pub header_bytes : Form → ℕ → ℕ → ℕ → Bytes
 header_bytes f n oldest latest =
-    flat (le 4 header_size ∷ le 2 (header_kind f) ∷ zero_bytes 2 ∷ le 4 n ∷ le 4 oldest ∷ le 4 latest ∷ zero_bytes 4 ∷ [])
+    flat (le 4 header_size ∷ le 2 (header_kind f) ∷ zero_bytes 2 ∷ le 4 n ∷ le 4 oldest ∷ le 4 latest
+    ∷ zero_bytes 4 ∷ [])
 
 -- The tests of a header as a list, which proofs go along.
 abbrev pub header_tests : Form → Bytes → List Bool

@@ -151,7 +151,8 @@ head_tests n kind limit x =
 
 abbrev pub inner_tests : Bytes → List Bool
 inner_tests x =
-    head_right (inner_in x) x ∷ child_right (left_in x) ∷ child_right (right_in x) ∷ some_child (left_in x) (right_in x) ∷ []
+    head_right (inner_in x) x ∷ child_right (left_in x) ∷ child_right (right_in x)
+    ∷ some_child (left_in x) (right_in x) ∷ []
 
 -- Length, kind, bit count, bits, version, retired-since; a child's version and hash.
 abbrev pub head_fields : ℕ → ℕ → Place → ℕ → ℕ → List Bytes

@@ -30,10 +30,9 @@ use Rattle.meaning.specs.Checking.{keeps_to, same_step, paths_part, leads_to, ne
 use Rattle.meaning.specs.History.{kept_by}
 
 unfoldable pub computed : Unit {0}
-unfolding longer odd byte_bits bit begins zeros smaller greater grants_at tree_of node_version next_tree formatted is_node
-    is_root root_of tree_at_version
-    marked retire_in retired_by prune_record child_of records_of new_records settled refuse is_kept prune publish apply_as pack
-    packed le slice field all_of count_in agrees lives_by agrees_root root_sight node_sight beside seen read_key read_root
-    weight read_number read_position
-    turns_away absence_at prove_seen proof presence_length prove keeps_to same_step paths_part leads_to neighbour_holds kept_by
+unfolding longer odd byte_bits bit begins zeros smaller greater grants_at tree_of node_version next_tree formatted
+    is_node is_root root_of tree_at_version marked retire_in retired_by prune_record child_of records_of new_records
+    settled refuse is_kept prune publish apply_as pack packed le slice field all_of count_in agrees lives_by
+    agrees_root root_sight node_sight beside seen read_key read_root weight read_number read_position turns_away
+    absence_at prove_seen proof presence_length prove keeps_to same_step paths_part leads_to neighbour_holds kept_by
 computed = tt

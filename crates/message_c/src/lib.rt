@@ -1,4 +1,6 @@
 // The two calls of messages for a caller in another language, document 02, request 2026-02: a number, and what they give in the caller's arrays.
+#![tactic(auto)]
+
 ghost use Rattle.std.specs.Prelude.{[], ◌∷◌};
 ghost use Rattle.message_rules.specs.Contracts.{WritesMessage, ReadsMessage};
 

@@ -52,7 +52,8 @@ pub record Inside (x : Bytes) (at : ℕ) (r : Shown) : Type 0 where
 -- An existence proof after its head: raw lengths, then the path.
 unfoldable pub after_head : Bytes → Shown → Option Presence
 after_head x r =
-    only_if (all_of (length_right most_key (presence_at x r).key ∷ length_right most_value (presence_at x r).value ∷ []))
+    only_if (all_of (length_right most_key (presence_at x r).key
+    ∷ length_right most_value (presence_at x r).value ∷ []))
     (onward (path_in 256 (drop r.path x)) λ steps.
     some (record { key = (presence_at x r).key; value = (presence_at x r).value; steps = steps }))
 

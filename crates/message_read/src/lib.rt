@@ -1,4 +1,6 @@
 // Reading a message, document 02, request 2026-02: our own record goes into the room, and where the raw keys and values stand into an array. Order: 10, 9.
+#![tactic(auto)]
+
 ghost use Rattle.std.specs.Prelude.{◌≡◌, ◌++◌, ◌+◌, ◌-◌, ◌≤◌, length};
 ghost use Rattle.terms.specs.Fields.{le};
 ghost use Rattle.terms.specs.Records.{presence, absence};

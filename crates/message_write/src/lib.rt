@@ -1,4 +1,6 @@
 // Writing a message, document 02, request 2026-02: our own record with the raw keys and values lent, as the message of ICS 23. Order: 10, 15, 9.
+#![tactic(auto)]
+
 ghost use Rattle.std.specs.Prelude.{◌≡◌, true, cond, ◌&&◌, ◌≤◌, length};
 ghost use Rattle.std.proofs.Math.Option.{some};
 ghost use Rattle.terms.specs.Bits.{Bytes};

@@ -1,4 +1,6 @@
 // A store moved back into the plain form, document 02, request 2026-10.
+#![tactic(auto)]
+
 ghost use Rattle.move_rules.specs.Moves.{Moves};
 
 use move_fill::fill;

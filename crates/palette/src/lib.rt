@@ -1,4 +1,6 @@
 // Several proofs in one call over lent bytes, document 02, request 2026-04: the list and the header are tested, and children are guessed where that pays.
+#![tactic(auto)]
+
 ghost use Rattle.std.specs.Prelude.{◌≡◌, true, [], length};
 ghost use Rattle.layout.specs.Headers.{size_right};
 ghost use Rattle.layout.specs.Stores.{store_of};

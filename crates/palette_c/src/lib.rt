@@ -1,4 +1,6 @@
 // Several proofs at the boundary: the call answers 0 where it is accepted, else the number of refusal, and then it writes nothing. `grants` exports it.
+#![tactic(auto)]
+
 ghost use Rattle.std.proofs.Math.Option.{some};
 ghost use Rattle.palette_c.specs.Export.{PaletteTold};
 ghost use Rattle.contracts.specs.Palettes.{Palettes, PalettesBy};

@@ -1,4 +1,6 @@
 // Proving in the pocket profile over lent bytes, document 02, request 2026-14: as the full prover, with 19 before 9.
+#![tactic(auto)]
+
 ghost use Rattle.std.specs.Prelude.{◌≡◌, length};
 ghost use Rattle.prove.specs.Parts.{Gives};
 ghost use Rattle.pocket_prove.specs.Parts.{way_short, one_long, plan_outside};

@@ -1,4 +1,6 @@
 // The proof check of the pocket profile over hostile bytes, document 02, request 2026-14: 12, 10, 19, then as the full check.
+#![tactic(auto)]
+
 ghost use Rattle.std.specs.Prelude.{◌≡◌, true};
 ghost use Rattle.terms.specs.Records.{absence};
 ghost use Rattle.pocket.specs.Pocket.{short_path, small};

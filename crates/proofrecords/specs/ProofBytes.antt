@@ -117,7 +117,8 @@ is_presence x = all_of (presence_tests x)
 
 -- The presence proof that they are then.
 unfoldable pub presence_in : Bytes → Presence
-presence_in x = record { key = slice 8 32 x; value = slice 40 32 x; steps = steps_in (step_count x) (drop presence_head x) }
+presence_in x =
+    record { key = slice 8 32 x; value = slice 40 32 x; steps = steps_in (step_count x) (drop presence_head x) }
 
 -- An absence proof's neighbours fill it after its head; of two, the left one's own length says where the right one
 -- starts.

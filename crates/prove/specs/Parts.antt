@@ -19,7 +19,8 @@ use Rattle.prove.specs.declared.Proved.TheVariants.{Refused, Length}
 -- What is proved by a table of any length; one without entries is the scan.
 unfoldable pub prove_answer_by : Bytes → List ℕ → ℕ → Bytes → ℕ → Answer Proof
 prove_answer_by s table v k room =
-    cond (eqb (length k) 32) (by_header (header_of counted s) (prove_by (by_table table (store_of s)) (store_of s) v k room))
+    cond (eqb (length k) 32)
+    (by_header (header_of counted s) (prove_by (by_table table (store_of s)) (store_of s) v k room))
     (refused 12)
 
 -- Proving answers the proof's length.

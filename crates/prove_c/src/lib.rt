@@ -1,4 +1,6 @@
 // Proving at the boundary: the call answers 0 where it is accepted, else the number of refusal, and then it writes nothing. `grants` exports it.
+#![tactic(auto)]
+
 ghost use Rattle.std.proofs.Math.Option.{some};
 ghost use Rattle.prove_c.specs.Export.{ProofTold};
 ghost use Rattle.contracts.specs.Proves.{Proves, ProvesBy};

@@ -29,4 +29,5 @@ present_at s w i = accepted (presence (presence_at s (path_of w.trail i)))
 
 -- What is proved there: its presence if the key is its own, else absence.
 abbrev pub proved_at : Bytes → List ℕ → Bytes → declared-walked.Walked → ℕ → Answer Proof
-proved_at s table k w i = cond (same_bytes k (key_in (slot_in counted i s))) (present_at s w i) (absent_from s table k w)
+proved_at s table k w i =
+    cond (same_bytes k (key_in (slot_in counted i s))) (present_at s w i) (absent_from s table k w)

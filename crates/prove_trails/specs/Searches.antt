@@ -41,7 +41,8 @@ pub record WalkedIn (s : Bytes) (w : declared-walked.Walked) : Type 0 where
 abbrev pub end_says : Bytes → Bytes → declared.Trail → Side → declared-seen.Seen → Sought → Sought
 end_says s k t b Gap x = x
 end_says s k t b (Stopped u) x = x
-end_says s k t b (Leaf i) x = cond (beyond b (key_in (slot_in counted i s)) k) (somebody (presence_at s (path_of t i))) x
+end_says s k t b (Leaf i) x =
+    cond (beyond b (key_in (slot_in counted i s)) k) (somebody (presence_at s (path_of t i))) x
 end_says s k t b (Inner i) x = x
 
 -- The neighbour of key k on side b where a walk has ended.

@@ -1,4 +1,6 @@
 // Pruning: a store that check accepts is pruned.
+#![tactic(auto)]
+
 ghost use Rattle.prune_sound.specs.Prune.{pruned_says, PruneDoes};
 
 use check_store::check;

@@ -1,4 +1,6 @@
 // Pruning at the boundary: the call answers 0 where it is accepted, else the number of refusal, and then it writes nothing. `grants` exports it.
+#![tactic(auto)]
+
 ghost use Rattle.contracts.specs.Prune.{PruneExports};
 
 use fields::put_u32;

@@ -17,5 +17,6 @@ root_answer_by s table v =
 
 unfoldable pub key_answer_by : Bytes → List ℕ → ℕ → Bytes → Answer Verdict
 key_answer_by s table v k =
-    cond (eqb (length k) 32) (by_header (header_of counted s) (read_key_by (by_table table (store_of s)) (store_of s) v k))
+    cond (eqb (length k) 32)
+    (by_header (header_of counted s) (read_key_by (by_table table (store_of s)) (store_of s) v k))
     (refused 12)

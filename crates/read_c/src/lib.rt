@@ -1,4 +1,6 @@
 // The reads at the boundary, by scans and by a lent table: each answers 0 where it is accepted, else the number of refusal, with a spoilt slot + 1 in the high half, and then it writes nothing. `grants` exports them.
+#![tactic(auto)]
+
 ghost use Rattle.std.proofs.Math.Option.{some};
 ghost use Rattle.contracts.specs.Reads.{ReadsRoot, ReadsRootBy, ReadsKey, ReadsKeyBy};
 

@@ -33,7 +33,8 @@ kids_from s table p b d j = descend (255 - length p) (by_table table (store_of s
 
 -- What is found from the record in slot i on, which stands at a place.
 unfoldable pub body_at : Bytes → List ℕ → Place → ℕ → ℕ → Answer Grant
-body_at s table p i n = at_body p (body_in (slot_in counted i s)) (counts_in (slot_in counted i s)) n (kids_from s table p)
+body_at s table p i n =
+    at_body p (body_in (slot_in counted i s)) (counts_in (slot_in counted i s)) n (kids_from s table p)
 
 -- What is found from a child on, which stands at a place.
 unfoldable pub child_answer : Bytes → List ℕ → Place → Child → ℕ → Answer Grant

@@ -19,4 +19,5 @@ number_says (number.Number n) = accepted n
 
 -- The read by a table of any length; one without entries is the scan. No public promise reaches it.
 unfoldable pub number_answer_by : Bytes → List ℕ → ℕ → Answer ℕ
-number_answer_by s table v = by_header (header_of counted s) (read_number_by (by_table table (store_of s)) (store_of s) v)
+number_answer_by s table v =
+    by_header (header_of counted s) (read_number_by (by_table table (store_of s)) (store_of s) v)

@@ -1,4 +1,6 @@
 // The number of grants of a version, 2026-09, by the counts of its root record alone. A read tests the header, not soundness, and writes nothing.
+#![tactic(auto)]
+
 ghost use Rattle.std.specs.Prelude.{◌≡◌, true, length};
 ghost use Rattle.indexed.specs.Index.{root_by};
 ghost use Rattle.meaning.specs.Counting.{number_at};

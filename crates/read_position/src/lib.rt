@@ -1,4 +1,6 @@
 // The grant at a position of a version, 2026-09: the root record, then down by the counts. A read tests the header, not soundness, and writes nothing.
+#![tactic(auto)]
+
 ghost use Rattle.std.specs.Prelude.{◌≡◌, true, length};
 ghost use Rattle.meaning.specs.Counting.{position_at};
 ghost use Rattle.indexed.specs.Index.{by_table, root_by};

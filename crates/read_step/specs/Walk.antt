@@ -52,7 +52,8 @@ leaf_at i s = leaf_seen (key_in (slot_in counted i s)) (value_inside (slot_in co
 
 unfoldable pub fork_at : ℕ → Bytes → List ℕ → Place → Seen
 fork_at i s table p =
-    fork (λ b. (kid_in i s b).hash) (λ b. seen_at (255 - length p) (by_table table (store_of s)) (longer b p) (kid_in i s b))
+    fork (λ b. (kid_in i s b).hash)
+    (λ b. seen_at (255 - length p) (by_table table (store_of s)) (longer b p) (kid_in i s b))
 
 -- What each case of trouble says.
 abbrev pub trouble_says : declared-trouble.Trouble → Trouble

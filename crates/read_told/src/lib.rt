@@ -1,4 +1,6 @@
 // What a read answers, told to a caller in another language: the number of refusal or 0, and the root, or whether the key was found and its value. Refused, nothing is written.
+#![tactic(auto)]
+
 ghost use Rattle.std.specs.Prelude.{◌≡◌, ◌∷◌, length};
 ghost use Rattle.hash.specs.Hash.{hash_bytes};
 ghost use Rattle.read.specs.Parts.{root_answer_by, key_answer_by};

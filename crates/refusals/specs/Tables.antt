@@ -110,7 +110,8 @@ at_rows s v i =
 -- Proving, before there is a proof: 12; then 1, 2; then 8; 14 in an empty version (2026-03); 17 or 3.
 abbrev pub proof_rows : Bytes → ℕ → Bytes → Table
 proof_rows s v k =
-    (12, Not32 (k ∷ [])) ∷ read_rows s v ++ (14, EmptyVersion (store_of s) v) ∷ stop_rows (ProofStopped (store_of s) v k)
+    (12, Not32 (k ∷ [])) ∷ read_rows s v ++ (14, EmptyVersion (store_of s) v)
+    ∷ stop_rows (ProofStopped (store_of s) v k)
 
 -- Proving: these, then 9, the proof is longer than the buffer.
 abbrev pub TooLong : Bytes → ℕ → Bytes → Bytes → Type 0
@@ -163,7 +164,8 @@ palette_rows s v list room =
     let keys = keys_in list in
     (12, NotKeys list) ∷ read_rows s v ++ (14, EmptyVersion (store_of s) v × (keys ≡ [] → ⊥)) ∷
     stop_rows (StopsPalette s v keys) ++
-    (9, (ps : List Proof) × (map (proof (store_of s) v) keys ≡ map accepted ps) × (length room < length_together ps)) ∷ []
+    (9, (ps : List Proof) × (map (proof (store_of s) v) keys ≡ map accepted ps) × (length room < length_together ps))
+    ∷ []
 
 -- Many proofs at once: 12; 10, the bytes aren't a piece for each key, none over; 9, fewer than 34 bytes an answer.
 abbrev pub verify_many_rows : Bytes → Bytes → Bytes → Bytes → Table

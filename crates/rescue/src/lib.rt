@@ -1,4 +1,6 @@
 // Rescue from a damaged store, document 02, request 2026-08.
+#![tactic(auto)]
+
 ghost use Rattle.rescue_bytes.specs.Rescues.{Rescues};
 ghost use Rattle.rescue.specs.Answer.{rescued_says};
 

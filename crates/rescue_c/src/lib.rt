@@ -1,5 +1,7 @@
 // Rescue at the boundary: the call answers 0 where it is accepted, else the number of refusal, and then it writes nothing. `grants`
 // exports it.
+#![tactic(auto)]
+
 ghost use Rattle.std.specs.Prelude.{◌≡◌, length};
 ghost use Rattle.rescue_bytes.specs.Rescues.{report_bytes, RescueExports};
 ghost use Rattle.rescue_c.specs.Export.{report_says};

@@ -59,7 +59,8 @@ by_list (accepted (present root)) part = part root
 abbrev pub shelf_checked : Bytes → ℕ → Bytes → ShelfProof → Answer Verdict
 shelf_checked root b k (no_part a) = checked leaf_hash inner_hash root (part_key b k) (absence a)
 shelf_checked root b k (in_part p q) =
-    by_list (checked leaf_hash inner_hash root (part_key b k) (presence p)) (λ part. checked leaf_hash inner_hash part k q)
+    by_list (checked leaf_hash inner_hash root (part_key b k) (presence p))
+    (λ part. checked leaf_hash inner_hash part k q)
 
 -- 10 if there is no proof in form; else both records hold, or 11.
 abbrev pub shelf_judged : Bytes → ℕ → Bytes → Option ShelfProof → Answer Verdict

@@ -27,7 +27,8 @@ pub data ShelfProof : Type 0 where
 -- The bytes are one whole proof of a shelf in form, no byte over: the list's record, then the part's.
 pub data ShelfIs : Bytes → ShelfProof → Type 0 where
   alone : {x : Bytes} {a : Absence} → ProofIs x (absence a) → ShelfIs x (no_part a)
-  both : {x y : Bytes} {p : Presence} {q : Proof} → ProofIs x (presence p) → ProofIs y q → ShelfIs (x ++ y) (in_part p q)
+  both : {x y : Bytes} {p : Presence} {q : Proof} → ProofIs x (presence p) → ProofIs y q →
+      ShelfIs (x ++ y) (in_part p q)
 
 -- It holds, with this answer: the list shows no part, so absent; or a part's root, and the second holds against that.
 pub data ShelfHolds (root : Bytes) (b : ℕ) (k : Bytes) : ShelfProof → Verdict → Type 0 where
@@ -44,7 +45,8 @@ pub data ShelfTold (root : Bytes) (b : ℕ) (k x : Bytes) : Answer Verdict → T
   -- 21: over 12 bits
   too_many_bits : Sizes32 root k → most_bits < b → ShelfTold root b k x (refused 21)
   -- 10: they are no proof in form
-  not_in_form : Sizes32 root k → b ≤ most_bits → ((p : ShelfProof) → ShelfIs x p → ⊥) → ShelfTold root b k x (refused 10)
+  not_in_form : Sizes32 root k → b ≤ most_bits → ((p : ShelfProof) → ShelfIs x p → ⊥) →
+      ShelfTold root b k x (refused 10)
   -- 11: they are one that doesn't hold
   not_holding : {p : ShelfProof} → Sizes32 root k → b ≤ most_bits → ShelfIs x p →
       ((v : Verdict) → ShelfHolds root b k p v → ⊥) → ShelfTold root b k x (refused 11)

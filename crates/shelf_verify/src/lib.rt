@@ -1,5 +1,7 @@
 // The check of a shelf's proof over hostile bytes: the list's record for the key's part against the root, then the part's record for the key
 // against the root that the list shows. 12, 21, 10, 11.
+#![tactic(auto)]
+
 ghost use Rattle.std.specs.Prelude.{◌≡◌, true, ◌≤◌, length};
 ghost use Rattle.shelf_rules.specs.Shelf.{ShelfVerifies};
 ghost use Rattle.shelf_verify.specs.Both.{is_proof, is_shelf, first_length, ChecksBoth};

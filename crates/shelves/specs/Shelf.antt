@@ -54,7 +54,8 @@ pub data Proved (b : ℕ) (x : Shelf) (v : ℕ) (k : Bytes) : Bytes → Type 0 w
   by-list : {room f t g : Bytes} → Proves x.list v (part_key b k) room f 0 t g → field 4 2 t ≡ absence_kind →
       Proved b x v k (take (num g) t)
   by_both : {room f t g room₁ f₁ t₁ g₁ : Bytes} → Proves x.list v (part_key b k) room f 0 t g →
-      field 4 2 t ≡ presence_kind → Proves (x.part (part_of b k)) (read_at (x.part (part_of b k)) v) k room₁ f₁ 0 t₁ g₁ →
+      field 4 2 t ≡ presence_kind →
+      Proves (x.part (part_of b k)) (read_at (x.part (part_of b k)) v) k room₁ f₁ 0 t₁ g₁ →
       Proved b x v k (take (num g) t ++ take (num g₁) t₁)
 
 -- A key of a shelf that stands at v, whose list has a grant.

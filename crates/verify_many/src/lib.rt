@@ -1,4 +1,6 @@
 // Many proofs checked in one call: each by its form, then all their paths side by side, then the answers of the single calls in a row.
+#![tactic(auto)]
+
 ghost use Rattle.std.specs.Prelude.{◌≡◌, true, ◌++◌, ◌*◌, ◌<◌, ◌≤◌, length, drop};
 ghost use Rattle.meaning.specs.Answers.{number_of};
 ghost use Rattle.palette_rules.specs.Palette.{keys_from};

@@ -15,4 +15,5 @@ top_after n x = climb leaf_hash inner_hash (leaf_hash (slice 8 32 x) (slice 40 3
 -- the left path is rightmost and the right path leftmost.
 abbrev pub apart_at : ℕ → Bytes → ℕ → Bytes → Bool
 apart_at i x j y =
-    not (step_at i x).side && (step_at j y).side && outermost right (first_steps i x) && outermost left (first_steps j y)
+    not (step_at i x).side && (step_at j y).side && outermost right (first_steps i x)
+    && outermost left (first_steps j y)

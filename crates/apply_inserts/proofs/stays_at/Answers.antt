@@ -1,4 +1,4 @@
--- `apply_inserts::stays_at_lem` meets its contract, by whether the key begins with the place. Assumes nothing.
+-- `apply_inserts::stays_at` meets its contract, by whether the key begins with the place. Assumes nothing.
 use mathlib.Core.Path.{sym, ◌∙◌}
 use Rattle.place.specs.Place.{place_of}
 use Rattle.apply_inserts.proofs.Sides.{no_leaf_lem, leaf_here, leaf_elsewhere}

@@ -1,4 +1,4 @@
--- `apply_leaf::at_leaf_lem` meets its contract, by what the run asks for the key and inserts beside it. Assumes nothing.
+-- `apply_leaf::at_leaf` meets its contract, by what the run asks for the key and inserts beside it. Assumes nothing.
 use Rattle.apply_leaf.proofs.Leaf.{may_grow, grown_did, alone_did}
 use Rattle.apply_leaf.proofs.at_leaf.Goals as goal
 

@@ -1,4 +1,4 @@
--- `changes_top::top_in_lem` meets its contract, by what kind of record there is. Assumes nothing.
+-- `changes_top::top_in` meets its contract, by what kind of record there is. Assumes nothing.
 use Rattle.changes_top.proofs.Tops.{leaf_top, inner_top}
 use Rattle.changes_top.proofs.top_in.Goals as goal
 

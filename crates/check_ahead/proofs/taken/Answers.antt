@@ -9,4 +9,3 @@ overflow_cast-links c = omega (arith, c.requires.1, room_small c.requires.0)
 
 pub overflow_add-links : goal.overflow_add-links
 overflow_add-links c = omega (arith, c.requires.1, room_small c.requires.0)
-

@@ -1,4 +1,4 @@
--- `prove_plan::at_leaf_lem` meets its contract: a presence proof if the key is the leaf's. Assumes nothing.
+-- `prove_plan::at_leaf` meets its contract: a presence proof if the key is the leaf's. Assumes nothing.
 use Rattle.prove_trails.proofs.Searches.{leaf_fits_lem}
 use Rattle.prove_plan.proofs.Ending.{another_key, its_key}
 use Rattle.prove_plan.proofs.at_leaf.Goals as goal

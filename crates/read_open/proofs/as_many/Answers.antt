@@ -1,4 +1,4 @@
--- `read_open::as_many_lem` meets its contract: bytes too short for a header have no slots. Assumes nothing.
+-- `read_open::as_many` meets its contract: bytes too short for a header have no slots. Assumes nothing.
 use Prim.Native.Nat.{◌-◌, ◌/◌}
 use native.Mathlib.Omega.{arith}
 use mathlib.Core.Path.{◌≡◌, refl, ap}

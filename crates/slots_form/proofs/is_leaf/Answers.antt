@@ -1,4 +1,4 @@
--- `slots_form::is_leaf_lem` meets its contract: the tests of a leaf in their order. Assumes nothing.
+-- `slots_form::is_leaf` meets its contract: the tests of a leaf in their order. Assumes nothing.
 use mathlib.Core.Path.{sym, ◌∙◌}
 use Rattle.terms.specs.Fields.{slice}
 use Rattle.terms.proofs.Fields.{test_passed, test_failed, test_last}

@@ -1,4 +1,4 @@
--- `verify_path::same_step_lem` meets its contract: the sides decide, else the siblings.
+-- `verify_path::same_step` meets its contract: the sides decide, else the siblings.
 -- Assumes nothing.
 use mathlib.Core.Path.{ap₂, sym, ◌∙◌}
 use borrow.Author.Tests.{not-true, not-false}
