@@ -4,8 +4,8 @@
 demo:
 	@tests/demo
 
-# Every crate from nothing with the edits that must fail, then each other test over what was built. RT_JOBS says how many checks run at a time;
-# `tests/gate` chooses by the memory where it isn't set.
+# Every crate from nothing with the edits that must fail, then each other test over what was built. `rt ci` chooses by processors and memory how many checks run at
+# a time, where RT_JOBS doesn't say it.
 test:
 	@tests/gate 'rt ci' tests/format tests/states tests/rooms tests/belief tests/sealed tests/links tests/sha256/run tests/second/run tests/passes/run \
 		tests/slow/run 'tests/looks/run &' 'tests/compare/run &' tests/proto/run tests/rust/run 'tests/wasm/run &' tests/tool/run tests/examples/run \
@@ -49,7 +49,7 @@ soak:
 	@tests/compare/run 400000 $${SEED:-2}
 
 fmt:
-	@rt fmt
+	@for crate in crates/*; do (cd "$$crate" && rt fmt) || exit; done
 
 # The picture of the rooms and the tables of docs/ARCHITECTURE.md, anew from crates.txt.
 rooms:

@@ -8,13 +8,8 @@
 
 enum { SLOTS = 16384, SLOT = 128, HEADER = 24, STEPS = 256, PRESENCE = 72 + 33 * STEPS, PROOF = 40 + 2 * PRESENCE };
 
-struct slice {
-  uint8_t *at;
-  uint64_t length;
-};
-
-/* What is named, with its kind in front: 0 is nothing. */
-void forged_search(uint8_t named[152], struct slice *store, uint32_t version, struct slice *proof);
+/* What is named, with its kind in front: 0 is nothing. A slice is a pointer and a length. */
+void forged_search(uint8_t named[152], const uint8_t *store, uint64_t store_length, uint32_t version, const uint8_t *proof, uint64_t proof_length);
 
 static uint8_t store[HEADER + SLOTS * SLOT], proof[PROOF];
 static uint64_t state = 12;
@@ -57,9 +52,8 @@ int main(void) {
   for (int turn = 0; turn < 5; turn++) {
     uint8_t named[152];
     memset(named, 255, sizeof named);
-    struct slice s = {store, sizeof store}, p = {proof, sizeof proof};
     clock_t start = clock();
-    forged_search(named, &s, 1, &p);
+    forged_search(named, store, sizeof store, 1, proof, sizeof proof);
     double took = 1000.0 * (double)(clock() - start) / CLOCKS_PER_SEC;
     if (took < best) best = took;
     if (named[0] != 0) {

@@ -52,8 +52,20 @@ fn native() -> PathBuf {
     let mut above = here.ancestors().skip(1);
     let checkout = above.find(|folder| folder.join("rust/library").is_file());
     let checkout = checkout.unwrap_or(Path::new("."));
-    for source in ["crates", "crates.txt"] {
-        println!("cargo:rerun-if-changed={}", checkout.join(source).display());
+    let changed = |path: PathBuf| println!("cargo:rerun-if-changed={}", path.display());
+    changed(checkout.join("crates.txt"));
+    // What the kit makes of a crate, in its out/, is no source.
+    for room in fs::read_dir(checkout.join("crates"))
+        .into_iter()
+        .flatten()
+        .flatten()
+    {
+        for part in ["src", "specs", "proofs"] {
+            let part = room.path().join(part);
+            if part.is_dir() {
+                changed(part);
+            }
+        }
     }
     let made = Command::new(checkout.join("rust/library"))
         .stdout(Stdio::null())

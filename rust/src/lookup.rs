@@ -17,7 +17,7 @@ const TO_ROOT: usize = 1;
 const DOWN: usize = 10;
 
 /// How one store is read: by looking at every slot, and by a table ([`Index`]) from when as much was asked as building one costs. Every answer and every refusal is that of the plain call: the
-/// library builds a table of a sound store alone, and of such a store it is proved that reads by any table are the plain ones (`sound-indexed-as-plain`, docs/CONTRACTS.md). A store that isn't sound is read
+/// library builds a table of a sound store alone, and of such a store it is proved that reads by any table are the plain ones (`sound_indexed_as_plain`, docs/CONTRACTS.md). A store that isn't sound is read
 /// without one.
 ///
 /// ```

@@ -1,7 +1,7 @@
 #!/usr/bin/env python3
 """Writes crates/tables/proofs from model.py: random histories, looks at whole and damaged stores, and checks of made-up proofs, each with
 the answer that the model gives, as equations that antt computes.
-The seed is fixed; run it, then `rt fmt`, after a change of the model.
+The seed is fixed; run it, then `rt fmt` in crates/tables, after a change of the model.
 """
 import random
 import sys
@@ -25,11 +25,11 @@ def value(n):
 
 
 def key_term(k):
-    return f'(keyOf {k[0]} {k[31]})'
+    return f'(key_of {k[0]} {k[31]})'
 
 
 def value_term(x):
-    return f'(valueOf {x[0]})'
+    return f'(value_of {x[0]})'
 
 
 def list_term(items):
@@ -51,11 +51,11 @@ class Names:
             return 'zeros'
         if h not in self.names:
             if h[0] == 'leaf':
-                body = f'leafHash {key_term(h[1])} {value_term(h[2])}'
+                body = f'leaf_hash {key_term(h[1])} {value_term(h[2])}'
             elif h[0] == 'junk':
                 return value_term(h[1])
             else:
-                body = f'innerHash {self.term(h[1])} {self.term(h[2])}'
+                body = f'inner_hash {self.term(h[1])} {self.term(h[2])}'
             self.names[h] = f'h{len(self.names)}'
             self.lines += [f'  abbrev {self.names[h]} : Bytes', f'  {self.names[h]} = {body}', '']
         return self.names[h]
@@ -64,15 +64,15 @@ class Names:
         if r is None:
             return 'free'
         if isinstance(r, Spoilt):
-            return f'spoiltSlot {r.count} {place_term(r.place)} {r.version} {r.retired}'
+            return f'spoilt_slot {r.count} {place_term(r.place)} {r.version} {r.retired}'
         head = f'{place_term(r.place)} {r.version} {r.retired}'
         if r.leaf is not None:
-            return f'leafSlot {head} {key_term(r.leaf[0])} {value_term(r.leaf[1])}'
-        return f'innerSlot {head} {r.left[0]} {self.term(r.left[1])} {r.right[0]} {self.term(r.right[1])} {r.counts[0]} {r.counts[1]}'
+            return f'leaf_slot {head} {key_term(r.leaf[0])} {value_term(r.leaf[1])}'
+        return f'inner_slot {head} {r.left[0]} {self.term(r.left[1])} {r.right[0]} {self.term(r.right[1])} {r.counts[0]} {r.counts[1]}'
 
     def store(self, s):
         slots = '\n      ∷ '.join([self.slot(r) for r in s.slots] + ['[]'])
-        return f'storeOf {s.oldest} {s.latest}\n      ({slots})'
+        return f'store_of {s.oldest} {s.latest}\n      ({slots})'
 
 
 def random_batch(rng, grants, keys):
@@ -141,7 +141,7 @@ def step_term(names, st):
 
 
 def presence_term(names, p):
-    return f'(presenceOf {key_term(p[0])} {value_term(p[1])} {list_term(step_term(names, s) for s in p[2])})'
+    return f'(presence_of {key_term(p[0])} {value_term(p[1])} {list_term(step_term(names, s) for s in p[2])})'
 
 
 def option_term(names, p):
@@ -151,7 +151,7 @@ def option_term(names, p):
 def proof_term(names, p):
     if p[0] == 'presence':
         return f'(presence {presence_term(names, p[1:])})'
-    return f'(absenceOf {key_term(p[1])} {option_term(names, p[2])} {option_term(names, p[3])})'
+    return f'(absence_of {key_term(p[1])} {option_term(names, p[2])} {option_term(names, p[3])})'
 
 
 def refused_or(a, f):
@@ -201,18 +201,18 @@ def damaged(rng, s, counts=False):
 
 
 HEAD = '''-- {title} Written by tests/tables/generate.py; compared with a second reading of document 01, 2026-07 and 2026-13. Assumes nothing.
-use mathlib.Core.Path.{{_≡_, refl}}
+use mathlib.Core.Path.{{◌≡◌, refl}}
 use mathlib.Core.Bool.{{true, false}}
-use mathlib.Core.List.{{List, [], _∷_}}
+use mathlib.Core.List.{{List, [], ◌∷◌}}
 use mathlib.Core.Option.{{none, some}}
-use Rattle·terms.specs.Bits.{{Bytes, All}}
-use Rattle·terms.specs.Records.{{insert, delete, free, Store, presence, zeros}}
-use Rattle·meaning.specs.Computed.{{computed}}
-use Rattle·meaning.specs.Calls.{{refused, accepted}}
-use Rattle·meaning.specs.Desk.{{keyOf}}
-use Rattle·meaning.specs.Proving.{{step, presenceOf, absenceOf}}
-use Rattle·meaning.specs.Reading.{{present, absent}}
-use Rattle·tables·specs.specs.Tables.{{{names}}}
+use Rattle.terms.specs.Bits.{{Bytes, All}}
+use Rattle.terms.specs.Records.{{insert, delete, free, Store, presence, zeros}}
+use Rattle.meaning.specs.Computed.{{computed}}
+use Rattle.meaning.specs.Calls.{{refused, accepted}}
+use Rattle.meaning.specs.Desk.{{key_of}}
+use Rattle.meaning.specs.Proving.{{step, presence_of, absence_of}}
+use Rattle.meaning.specs.Reading.{{present, absent}}
+use Rattle.tables.specs.Tables.{{{names}}}
 
 '''
 
@@ -230,13 +230,13 @@ def histories(rng, number, count):
         capacity, start, moves, replies, end, _ = random_history(rng)
         decls += [f'  abbrev end{i} : Store', f'  end{i} =', f'    {names.store(end)}', '']
         rows.append(
-            f'game (storeOf {start.oldest} {start.latest} (freeSlots {capacity}))\n      '
+            f'game (store_of {start.oldest} {start.latest} (free_slots {capacity}))\n      '
             + list_term(move_term(m) for m in moves)
             + '\n      '
             + list_term(reply_term(names, r) for r in replies)
             + f'\n      end{i}'
         )
-    text = HEAD.format(title=f'Random histories, part {number}.', names='Game, game, GameHolds, applying, pruning, made, freed, denied, leafSlot, innerSlot, storeOf, freeSlots, valueOf')
+    text = HEAD.format(title=f'Random histories, part {number}.', names='Game, game, GameHolds, applying, pruning, made, freed, denied, leaf_slot, inner_slot, store_of, free_slots, value_of')
     return text, names, decls, rows, 'Game', 'GameHolds'
 
 
@@ -263,7 +263,7 @@ def looks(rng, number, count):
                 + ' '
                 + refused_or(r, names.term)
             )
-    text = HEAD.format(title=f'Proofs and reads of whole and damaged stores, part {number}.', names='Look, look, LookHolds, leafSlot, innerSlot, spoiltSlot, storeOf, freeSlots, valueOf')
+    text = HEAD.format(title=f'Proofs and reads of whole and damaged stores, part {number}.', names='Look, look, LookHolds, leaf_slot, inner_slot, spoilt_slot, store_of, free_slots, value_of')
     return text, names, decls, rows, 'Look', 'LookHolds'
 
 
@@ -282,8 +282,8 @@ def positions(rng, number, count):
             j = rng.randrange(min(n.value, 6) + 1) if isinstance(n, model.Number) else rng.randrange(3)
             g = model.answer(model.read_position, s, v, j)
             rows.append(f'position at{i} {v} {j} ' + refused_or(n, lambda x: str(x.value)) + ' ' + refused_or(g, lambda x: f'(grant {key_term(x[0])} {value_term(x[1])})'))
-    text = HEAD.format(title=f'Numbers and positions in whole and damaged stores, part {number}.', names='Position, position, PositionHolds, leafSlot, innerSlot, spoiltSlot, storeOf, freeSlots, valueOf')
-    text = text.rstrip('\n').replace('2026-07 and 2026-13.', '2026-07, 2026-09 and 2026-13.') + '\nuse Rattle·terms.specs.Records.{grant}\n\n'
+    text = HEAD.format(title=f'Numbers and positions in whole and damaged stores, part {number}.', names='Position, position, PositionHolds, leaf_slot, inner_slot, spoilt_slot, store_of, free_slots, value_of')
+    text = text.rstrip('\n').replace('2026-07 and 2026-13.', '2026-07, 2026-09 and 2026-13.') + '\nuse Rattle.terms.specs.Records.{grant}\n\n'
     return text, names, decls, rows, 'Position', 'PositionHolds'
 
 
@@ -300,9 +300,9 @@ def comparisons(rng, number, count):
             a, b = (rng.randrange(s.oldest, s.latest + 1) for _ in range(2))
             visited, listed = model.changes(s, a, b)
             rows.append(f'comparison kept{i} {a} {b} {list_term(place_term(p) for p in visited)} {list_term(item_term(j) for j in listed)}')
-    text = HEAD.format(title=f'Comparisons of two versions, part {number}.', names='leafSlot, innerSlot, storeOf, freeSlots, valueOf')
+    text = HEAD.format(title=f'Comparisons of two versions, part {number}.', names='leaf_slot, inner_slot, store_of, free_slots, value_of')
     text = text.rstrip('\n').replace('2026-13.', '2026-01 and 2026-13.') + '\n'
-    text += 'use Rattle·terms.specs.Records.{grant}\nuse Rattle·changed.specs.Changes.{inserts, deletes}\nuse Rattle·tables·specs.specs.Compared.{Comparison, comparison, ComparisonHolds, compared}\n\n'
+    text += 'use Rattle.terms.specs.Records.{grant}\nuse Rattle.changed.specs.Changes.{inserts, deletes}\nuse Rattle.tables.specs.Compared.{Comparison, comparison, ComparisonHolds, compared}\n\n'
     return text, names, decls, rows, 'Comparison', 'ComparisonHolds'
 
 
@@ -396,7 +396,7 @@ def checks(rng, number, count):
             a = model.check_proof(TOY, root, asked, toy_proof(p))
             root = 'zeros' if root == bytes(32) else value_term(root)
             rows.append(f'try {root} {key_term(asked)} {proof_term(names, p)} ' + refused_or(a, verdict_term) if a != 11 else f'try {root} {key_term(asked)} {proof_term(names, p)} (refused 11)')
-    text = HEAD.format(title=f'Checks of honest and made-up proofs under a toy hash, part {number}.', names='Try, try, TryHolds, valueOf, toyLeaf, toyInner, toyHash')
+    text = HEAD.format(title=f'Checks of honest and made-up proofs under a toy hash, part {number}.', names='Try, try, TryHolds, value_of, toy_leaf, toy_inner, toy_hash')
     return text, names, [], rows, 'Try', 'TryHolds'
 
 
@@ -406,13 +406,13 @@ def lay_out(name, made):
     low = name.lower()
     out = [text]
     if not toy:
-        out += ['module _ (leafHash innerHash : Bytes → Bytes → Bytes) where', '']
+        out += ['module _ (leaf_hash inner_hash : Bytes → Bytes → Bytes) where', '']
         out += names.lines + decls
     pad = '' if toy else '  '
-    arguments = '' if kind in ('Try', 'Comparison', 'Position') else ' leafHash innerHash'
+    arguments = '' if kind in ('Try', 'Comparison', 'Position') else ' leaf_hash inner_hash'
     body = f'\n{pad}    ∷ '.join(rows + ['[]'])
     out += [f'{pad}abbrev rows : List {kind}', f'{pad}rows =', f'{pad}    {body}', '']
-    opened = {'Try': 'computed toyHash', 'Comparison': 'computed compared'}.get(kind, 'computed')
+    opened = {'Try': 'computed toy_hash', 'Comparison': 'computed compared'}.get(kind, 'computed')
     out += [f'{pad}pub {low} : All ({holds}{arguments}) rows' if arguments else f'{pad}pub {low} : All {holds} rows']
     out += [f'{pad}unfolding {opened}', f'{pad}{low} = {proof_of(len(rows), ROW[kind])}']
     return '\n'.join(out) + '\n'

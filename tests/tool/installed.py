@@ -103,7 +103,8 @@ def built_without_proofs():
     """A checkout in which nothing is proved yet: the library and the tool are there at once, and say what they are worth."""
     for name in ("crates", "crates.txt", "rust", "tests", "include", "Makefile"):
         at = os.path.join(TOP, name)
-        shutil.copytree(at, name) if os.path.isdir(at) else shutil.copy(at, name)
+        # What `rt` made of a crate stands in its out/.
+        shutil.copytree(at, name, ignore=shutil.ignore_patterns("out")) if os.path.isdir(at) else shutil.copy(at, name)
     # Not optimised, which is quicker: how fast it is, is not asked here.
     env = {name: value for name, value in os.environ.items() if name != "GRANTS_LIB_DIR"} | {"CARGO_PROFILE_RELEASE_OPT_LEVEL": "0"}
 

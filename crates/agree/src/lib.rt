@@ -1,24 +1,24 @@
 // Whether the fields of a slot agree with a node, document 02, 2026-07: version, bit count and bits, as they stand. A slot in form that agrees holds
 // the node.
-use hash::hash_at;
-use hash::same_hash;
+#![tactic(auto)]
+
+ghost use Rattle.std.specs.Prelude.{◌≡◌};
+ghost use Rattle.meaning.specs.Sight.{agrees};
+ghost use Rattle.place.specs.Place.{place_of, Proper};
+ghost use Rattle.layout.specs.Stores.{slot_in, slot_no, Has};
+ghost use Rattle.agree.specs.Holding.{node_here};
+
+use hash::{hash_at, same_hash};
 use lookup::holds_record;
 use place::Place;
 use slots::bits_of;
-use store::count_at;
-use store::slot_of;
-use store::version_at;
+use store::{count_at, slot_of, version_at};
 use terms::Form;
-ghost use mathlib.Core.Path.{_≡_};
-ghost use Rattle·meaning.specs.Sight.{agrees};
-ghost use Rattle·place.specs.Place.{placeOf, Proper};
-ghost use Rattle·layout.specs.Stores.{slotIn, slotNo, Has};
-ghost use Rattle·agree·specs.specs.Holding.{nodeHere};
 
 // Whether the fields of slot i agree with the node (version, place): the cheap fields first.
 pub fn agrees(form: Form, store: &[u8], i: usize, version: u32, place: Place) -> bool
-    requires { ⌜ Has form (now store) i × Proper place ⌝ }
-    ensures { λ r. ⌜ r ≡ agrees version (placeOf place) (slotIn form i (now (store .entry))) ⌝ }
+    requires { Has form store.now i × Proper place }
+    ensures { result ≡ agrees version (place_of place) (slot_in form i store.now) }
 {
     if version_at(form, store, i) != version {
         return false;
@@ -35,8 +35,8 @@ pub fn agrees(form: Form, store: &[u8], i: usize, version: u32, place: Place) ->
 
 // Whether slot i holds the node (version, place).
 pub fn holds_node(form: Form, store: &[u8], i: usize, version: u32, place: Place) -> bool
-    requires { ⌜ Has form (now store) i × Proper place ⌝ }
-    ensures { λ r. ⌜ r ≡ nodeHere version (placeOf place) (slotNo form i (now (store .entry))) ⌝ }
+    requires { Has form store.now i × Proper place }
+    ensures { result ≡ node_here version (place_of place) (slot_no form i store.now) }
 {
     if !agrees(form, store, i, version, place) {
         return false;

@@ -1,14 +1,16 @@
 // What becomes of a leaf that nothing is inserted beside, document 01: by what the run asks for its key.
-use apply_outcome::Change;
-use apply_outcome::Outcome;
+#![tactic(auto)]
+
+ghost use Rattle.terms.specs.Records.{grant};
+ghost use Rattle.hash.specs.Hash.{hash_bytes};
+ghost use Rattle.apply_alone.specs.Alone.{AloneBy};
+
+use apply_outcome::{Change, Outcome};
 use apply_place::Node;
-use hash::Hash;
-use hash::same_hash;
-ghost use Rattle·terms.specs.Records.{grant};
-ghost use Rattle·hash.specs.Hash.{hashBytes};
-ghost use Rattle·apply_alone·specs.specs.Alone.{AloneBy};
+use hash::{Hash, same_hash};
 
 // What a run asks for a key.
+#[derive(Clone, Copy)]
 pub enum Own {
     Nothing,
     Insert { value: Hash },
@@ -17,7 +19,7 @@ pub enum Own {
 
 // What becomes of a leaf (version, place) that nothing is inserted beside.
 pub fn alone(new: u32, from: usize, version: u32, key: Hash, value: Hash, own: Own) -> Outcome
-    ensures { λ r. ⌜ AloneBy new from version (grant (hashBytes key) (hashBytes value)) own r ⌝ }
+    ensures { AloneBy new from version (grant (hash_bytes key) (hash_bytes value)) own result }
 {
     let stays = Outcome {
         change: Change::Unchanged,

@@ -1,4 +1,14 @@
 // What ends at the children of an inner node, document 01, 'Retirement', and what is left above them.
+#![tactic(auto)]
+
+ghost use Rattle.std.specs.Prelude.{◌≡◌, [], ◌∷◌, ◌++◌};
+ghost use Rattle.terms.specs.Bits.{longer, left, right};
+ghost use Rattle.place.specs.Place.{place_of};
+ghost use Rattle.steps.specs.Writing.{mark};
+ghost use Rattle.apply_place.specs.Placing.{Changed, when_writes, node_at};
+ghost use Rattle.apply_guess.specs.Guess.{Once};
+ghost use Rattle.apply_end.specs.Ending.{ends_says, remains_of, Ends};
+
 use apply_guess::find_near;
 use apply_outcome::Change;
 use apply_place::Node;
@@ -7,16 +17,9 @@ use lookup::Found;
 use place::Place;
 use store_put::put_retired_at;
 use terms::Form;
-ghost use mathlib.Core.Path.{_≡_};
-ghost use mathlib.Core.List.{[], _∷_, _++_};
-ghost use Rattle·terms.specs.Bits.{longer, left, right};
-ghost use Rattle·place.specs.Place.{placeOf};
-ghost use Rattle·steps.specs.Writing.{mark};
-ghost use Rattle·apply_place.specs.Placing.{Changed, whenWrites, nodeAt};
-ghost use Rattle·apply_guess.specs.Guess.{Once};
-ghost use Rattle·apply_end·specs.specs.Ending.{endsSays, remainsOf, Ends};
 
 // What remains above two children: nothing, a lone leaf, or more.
+#[derive(Clone, Copy)]
 pub enum Remains {
     Nothing,
     Leaf { key: Hash, value: Hash },
@@ -24,7 +27,7 @@ pub enum Remains {
 }
 
 pub fn remains_of(l: Node, r: Node) -> Remains
-    ensures { λ o. ⌜ o ≡ remainsOf l r ⌝ }
+    ensures { result ≡ remains_of l r }
 {
     match l {
         Node::Nothing => match r {
@@ -80,8 +83,8 @@ fn mark_node(
     place: Place,
     since: u32,
 )
-    requires { ⌜ Once (now store) version place ⌝ }
-    ensures { λ _. ⌜ Changed (whenWrites writes (mark since (nodeAt version (placeOf place) ∷ []))) (now (store .entry)) (now (store .exit)) ⌝ }
+    requires { Once store.old version place }
+    ensures { Changed (when_writes writes (mark since (node_at version (place_of place) ∷ []))) store.old store.new }
 {
     if !writes {
         return;
@@ -102,8 +105,8 @@ pub fn mark_changed(
     place: Place,
     since: u32,
 )
-    requires { ⌜ Once (now store) version place ⌝ }
-    ensures { λ _. ⌜ Changed (whenWrites writes (mark since (endsSays change version (placeOf place)))) (now (store .entry)) (now (store .exit)) ⌝ }
+    requires { Once store.old version place }
+    ensures { Changed (when_writes writes (mark since (ends_says change version (place_of place)))) store.old store.new }
 {
     if version == 0 {
         return;
@@ -126,8 +129,8 @@ pub fn mark_children(
     rversion: u32,
     since: u32,
 )
-    requires { ⌜ Ends (now store) lversion rversion place ⌝ }
-    ensures { λ _. ⌜ Changed (whenWrites writes (mark since (endsSays lchange lversion (longer left (placeOf place)) ++ endsSays rchange rversion (longer right (placeOf place))))) (now (store .entry)) (now (store .exit)) ⌝ }
+    requires { Ends store.old lversion rversion place }
+    ensures { Changed (when_writes writes (mark since (ends_says lchange lversion (longer left (place_of place)) ++ ends_says rchange rversion (longer right (place_of place))))) store.old store.new }
 {
     let lplace = place.left();
     let rplace = place.right();

@@ -1,23 +1,22 @@
 // A new inner node above two outcomes, document 01, 'The tree of a set of grants': those of its children that were updated are placed, and it
 // counts the leaves below each.
-use apply_outcome::Change;
-use apply_outcome::Outcome;
-use apply_outcome::child_after;
-use apply_outcome::place_updated;
+#![tactic(auto)]
+
+ghost use Rattle.std.specs.Prelude.{◌≡◌, ◌≤◌};
+ghost use Rattle.terms.specs.Form.{top32};
+ghost use Rattle.place.specs.Place.{place_of};
+ghost use Rattle.apply_outcome.specs.Outcomes.{node_leaves};
+ghost use Rattle.apply_fork.specs.Fork.{Forks, Forked};
+
+use apply_outcome::{Change, Outcome, child_after, place_updated};
 use apply_place::Node;
 use place::Place;
 use slots::Child;
-ghost use mathlib.Core.Path.{_≡_};
-ghost use Prim.Native.Nat.{_≤_};
-ghost use Rattle·terms.specs.Form.{top32};
-ghost use Rattle·place.specs.Place.{placeOf};
-ghost use Rattle·apply_outcome.specs.Outcomes.{nodeLeaves};
-ghost use Rattle·apply_fork·specs.specs.Fork.{Forks, Forked};
 
 // How many leaves there are below a node, or at it.
 fn leaves_of(node: Node) -> u32
-    requires { ⌜ nodeLeaves node ≤ top32 ⌝ }
-    ensures { λ r. ⌜ r ≡ nodeLeaves node ⌝ }
+    requires { node_leaves node ≤ top32 }
+    ensures { result ≡ node_leaves node }
 {
     match node {
         Node::Nothing => 0,
@@ -48,8 +47,8 @@ pub fn fork(
     l: Outcome,
     r: Outcome,
 ) -> Outcome
-    requires { ⌜ Forks writes (now store) place lchild rchild l r ⌝ }
-    ensures { λ o. ⌜ Forked new writes (now (store .entry)) (now (store .exit)) (placeOf place) l r o ⌝ }
+    requires { Forks writes store.old place lchild rchild l r }
+    ensures { Forked new writes store.old store.new (place_of place) l r result }
 {
     let half = place_updated(store, writes, r.reach, place.left(), l);
     let reach = place_updated(store, writes, half, place.right(), r);

@@ -1,24 +1,21 @@
 // Growing a subtree, document 01: a run of inserts with no node there; at a leaf, with the leaf if it stays.
+#![tactic(auto)]
+
+ghost use Rattle.std.specs.Prelude.{◌-◌};
+ghost use Rattle.nodehash.specs.Node.{leaf_hash, inner_hash};
+ghost use Rattle.place.specs.Place.{place_of};
+ghost use Rattle.batch.specs.Batch.{asks};
+ghost use Rattle.steps.specs.Step as step;
+ghost use Rattle.apply_outcome.specs.Outcomes.{Did};
+ghost use Rattle.apply_inserts.specs.Inserts.{stays_says, stays_at};
+ghost use Rattle.apply_grow.specs.Growing.{Grows};
+
 use apply_fork::fork;
-use apply_inserts::Few;
-use apply_inserts::Stays;
-use apply_inserts::stays_at;
-use apply_inserts::to_grow;
-use apply_outcome::Change;
-use apply_outcome::Outcome;
-use apply_outcome::child_of;
+use apply_inserts::{Few, Stays, stays_at, to_grow};
+use apply_outcome::{Change, Outcome, child_of};
 use apply_place::Node;
-use batch_runs::left_run;
-use batch_runs::right_run;
+use batch_runs::{left_run, right_run};
 use place::Place;
-ghost use Prim.Native.Nat.{_-_};
-ghost use Rattle·nodehash.specs.Node.{leafHash, innerHash};
-ghost use Rattle·place.specs.Place.{placeOf};
-ghost use Rattle·batch.specs.Batch.{asks};
-ghost use Rattle·steps.specs.Step as step;
-ghost use Rattle·apply_outcome.specs.Outcomes.{Did};
-ghost use Rattle·apply_inserts.specs.Inserts.{staysSays, staysAt};
-ghost use Rattle·apply_grow·specs.specs.Growing.{Grows};
 
 // Grows the subtree at a place; the node there is for the parent to place. The leaf that stays is handed down as it is: what a call keeps
 // while it calls itself is stack for each of 256 bits.
@@ -31,8 +28,8 @@ pub fn grow(
     stays: Stays,
     run: &[u8],
 ) -> Outcome
-    requires { ⌜ Grows new writes from (now store) place stays (now run) ⌝ }
-    ensures { λ r. ⌜ Did new writes from (now (store .entry)) (now (store .exit)) (step.grow leafHash innerHash new (256 - place .count) (placeOf place) (staysAt (placeOf place) (staysSays stays)) (asks (now (run .entry)))) r ⌝ }
+    requires { Grows new writes from store.old place stays run.now }
+    ensures { Did new writes from store.old store.new (step.grow leaf_hash inner_hash new (256 - place.count) (place_of place) (stays_at (place_of place) (stays_says stays)) (asks run.now)) result }
 {
     let here = stays_at(stays, place);
     let grants = to_grow(here, run);

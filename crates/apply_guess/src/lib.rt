@@ -1,41 +1,35 @@
 // Where the nodes of the latest tree are likely to stand: guesses without proof. Each is looked at before it is believed, and where none is
 // right the slots are searched, so a wrong guess costs time and never an answer.
-use guess::holds;
-use guess::spread;
-use lookup::Found;
-use lookup::find;
+#![tactic(auto)]
+
+ghost use Rattle.std.specs.Prelude.{◌≡◌, ◌+◌, ◌≤◌, length};
+ghost use Rattle.place.specs.Place.{place_of};
+ghost use Rattle.layout.specs.Stores.{store_of};
+ghost use Rattle.lookup.specs.Lookup.{FoundIn};
+ghost use Rattle.apply_place.specs.Placing.{Stored};
+ghost use Rattle.apply_guess.specs.Guess.{Once};
+
+use guess::{holds, spread};
+use lookup::{Found, find};
 use place::Place;
 use slots::bits_of;
-use store::count_at;
-use store::retired_at;
-use store::slot_count;
-use store::slot_of;
-use store::version_at;
-use store::wide;
+use store::{count_at, retired_at, slot_count, slot_of, version_at, wide};
 use terms::Form;
-ghost use mathlib.Core.Path.{_≡_};
-ghost use Prim.Native.Nat.{_+_, _≤_};
-ghost use lib.ListN.{length};
-ghost use Rattle·place.specs.Place.{placeOf};
-ghost use Rattle·layout.specs.Stores.{storeOf};
-ghost use Rattle·lookup.specs.Lookup.{FoundIn};
-ghost use Rattle·apply_place.specs.Placing.{Stored};
-ghost use Rattle·apply_guess·specs.specs.Guess.{Once};
 
 // Four guesses lie together.
 const TOGETHER: usize = 4;
 
 // Where the guesses for a node begin.
 fn start_of(version: u32, count: usize, bits: &[u8]) -> usize
-    requires { ⌜ length (now bits) ≡ 32 ⌝ }
-    ensures { λ r. ⌜ r + 4 ≤ 8192 ⌝ }
+    requires { length bits.now ≡ 32 }
+    ensures { result + 4 ≤ 8192 }
 {
     (spread(version, count, bits) % 2048 * 4) as usize
 }
 
 // Keeps a slot among the four guesses from b on, where one is left; 0 is none.
 fn keep(guesses: &mut [u16; 8192], b: usize, slot: u16)
-    requires { ⌜ b + 4 ≤ 8192 ⌝ }
+    requires { b + 4 ≤ 8192 }
 {
     let mut j = 0;
     while j < TOGETHER {
@@ -49,7 +43,7 @@ fn keep(guesses: &mut [u16; 8192], b: usize, slot: u16)
 
 // Guesses the slots of all nodes that aren't retired.
 pub fn guess_all(store: &[u8], guesses: &mut [u16; 8192])
-    requires { ⌜ Stored (now store) ⌝ }
+    requires { Stored store.now }
 {
     let n = slot_count(Form::Counted, store);
     let mut i = 0;
@@ -69,8 +63,8 @@ pub fn guess_all(store: &[u8], guesses: &mut [u16; 8192])
 
 // The slot of the node (version, place), which is there once at most: a guess that is right, or what a search finds; version 0 is no node.
 pub fn find_near(store: &[u8], guesses: &[u16; 8192], version: u32, place: Place) -> Found
-    requires { ⌜ Once (now store) version place ⌝ }
-    ensures { λ r. ⌜ FoundIn (storeOf (now (store .entry)) .slots) version (placeOf place) r ⌝ }
+    requires { Once store.now version place }
+    ensures { FoundIn (store_of store.now).slots version (place_of place) result }
 {
     if version == 0 {
         return Found::Nothing;

@@ -1,94 +1,94 @@
 -- At the inner node in a slot: its record says what its children were, each of them older, so each is there once. Assumes nothing.
-use Prim.Native.Nat.{ℕ, _<_}
+use Prim.Native.Nat.{ℕ, ◌<◌}
 use native.Mathlib.Omega.{arith}
-use mathlib.Core.Path.{_≡_, refl, ap, sym, _∙_, subst}
-use mathlib.Core.Logic.{inl, inr, ⊎-elim}
+use mathlib.Core.Path.{◌≡◌, refl, ap, sym, ◌∙◌, subst}
+use mathlib.Core.Logic.{inl, inr, ⊎_elim}
 use mathlib.Core.Bool.{Bool, true, false≢true}
-use mathlib.Core.List.{[], _∷_}
+use mathlib.Core.List.{[], ◌∷◌}
 use types.Run.{OneOf}
-use denote.Enum.Declared.{tagOf}
-use Rattle·terms.specs.Bits.{Bytes, longer, left, right}
-use Rattle·meaning.specs.Tree.{VTree, vinner, topVersion}
-use Rattle·place.specs.declared.Place as place
-use Rattle·place.specs.Place.{placeOf}
-use Rattle·slots.specs.declared.Child as child
-use Rattle·steps.specs.Given.{Older}
-use Rattle·apply_place.specs.declared.Node as node
-use Rattle·apply_place.specs.declared.Node.the-variants as N
-use Rattle·apply_place.proofs.Node as node-type
-use Rattle·apply_outcome.specs.declared.Outcome as declared
-use Rattle·apply_outcome.specs.Outcomes.{NodeSays}
-use Rattle·apply_end.specs.Ending.{Ends}
-use Rattle·apply_read.specs.Held.{Used, versionOf, versionIn, NodeHeld}
-use Rattle·apply_read.specs.Standing.{treeHere, isInner}
-use Rattle·apply_read.proofs.Standing.{slot-used, node-there}
-use Rattle·apply_read.proofs.Children.{child-top}
-use Rattle·apply_inner·specs.specs.Settling.{Renews, Settles}
-use Rattle·apply_inner·proofs.proofs.Standing.{top-older}
+use denote.Enum.Declared.{tag_of}
+use Rattle.terms.specs.Bits.{Bytes, longer, left, right}
+use Rattle.meaning.specs.Tree.{VTree, vinner, top_version}
+use Rattle.place.specs.declared.Place as place
+use Rattle.place.specs.Place.{place_of}
+use Rattle.slots.specs.declared.Child as child
+use Rattle.steps.specs.Given.{Older}
+use Rattle.apply_place.specs.declared.Node as node
+use Rattle.apply_place.specs.declared.Node.TheVariants as N
+use Rattle.apply_place.specs.contracts.Node as node-type
+use Rattle.apply_outcome.specs.declared.Outcome as declared
+use Rattle.apply_outcome.specs.Outcomes.{NodeSays}
+use Rattle.apply_end.specs.Ending.{Ends}
+use Rattle.apply_read.specs.Held.{Used, version_of, version_in, NodeHeld}
+use Rattle.apply_read.specs.Standing.{tree_here, is_inner}
+use Rattle.apply_read.proofs.Standing.{slot_used, node_there}
+use Rattle.apply_read.proofs.Children.{child_top}
+use Rattle.apply_inner.specs.Settling.{Renews, Settles}
+use Rattle.apply_inner.proofs.Standing.{top_older}
 
 module _ {new since : ℕ} {w : Bool} {s : Bytes} {p : place.Place} {slot : ℕ} {l r : declared.Outcome} (h : Settles new since w s p slot l r) where
   abbrev tree : VTree
-  tree = treeHere s p (versionIn s slot)
+  tree = tree_here s p (version_in s slot)
 
-  pub its-slot : Used s slot
-  its-slot = slot-used (h .standing) (h .there) refl
+  pub its_slot : Used s slot
+  its_slot = slot_used h.standing h.there refl
 
-  its-node : (n : node.Node) → NodeHeld s slot n → NodeSays true n tree
-  its-node n k = node-there (h .standing) (h .there) refl n k
+  its_node : (n : node.Node) → NodeHeld s slot n → NodeSays true n tree
+  its_node n k = node_there h.standing h.there refl n k
 
   -- no leaf is in the slot
-  pub no-leaf : {A : Type 0} (n : node.Node) → OneOf (0 ∷ 1 ∷ []) (tagOf node-type.the-type n) → NodeHeld s slot n → A
-  no-leaf n k i = go n k (its-node n i)
+  pub no_leaf_lem : {A : Type 0} (n : node.Node) → OneOf (0 ∷ 1 ∷ []) (tag_of node-type.the_type n) → NodeHeld s slot n → A
+  no_leaf_lem n k i = go n k (its_node n i)
     where
-      go : {A : Type 0} (m : node.Node) → OneOf (0 ∷ 1 ∷ []) (tagOf node-type.the-type m) → NodeSays true m tree → A
-      go N.Nothing k e = absurd (false≢true (sym (ap isInner e) ∙ h .inner))
-      go (N.Leaf v x y) k e = absurd (false≢true (sym (ap isInner e) ∙ h .inner))
-      go (N.Inner v a b i j) k e = absurd (⊎-elim (λ e. omega arith) (λ e. omega arith) k)
+      go : {A : Type 0} (m : node.Node) → OneOf (0 ∷ 1 ∷ []) (tag_of node-type.the_type m) → NodeSays true m tree → A
+      go N.Nothing k e = absurd (false≢true (sym (ap is_inner e) ∙ h.inner))
+      go (N.Leaf v x y) k e = absurd (false≢true (sym (ap is_inner e) ∙ h.inner))
+      go (N.Inner v a b i j) k e = absurd (⊎_elim (λ e. omega arith) (λ e. omega arith) k)
 
   -- the inner node there, with its own version
   module _ {n : node.Node} (held : NodeHeld s slot n) {v : ℕ} {lchild rchild : child.Child} {i j : ℕ} (e : n ≡ N.Inner v lchild rchild i j) where
-    pub its-inner : NodeSays true (N.Inner (versionIn s slot) lchild rchild i j) tree
-    its-inner =
-        let (a, b, t, x, y, z) = subst (λ m. NodeSays true m tree) e (its-node n held) in
-        (a, b, t ∙ ap (λ u. vinner u a b) (subst (λ z. topVersion z ≡ versionIn s slot) t (h .standing .top)), x, y, z)
+    pub its_inner : NodeSays true (N.Inner (version_in s slot) lchild rchild i j) tree
+    its_inner =
+        let (a, b, t, x, y, z) = subst (λ m. NodeSays true m tree) e (its_node n held) in
+        (a, b, t ∙ ap (λ u. vinner u a b) (subst (λ z. top_version z ≡ version_in s slot) t h.standing.top), x, y, z)
 
-    pub its-version : v ≡ versionIn s slot
-    its-version = subst (λ m. NodeHeld s slot m) e held (its-slot .held) (its-slot .slot) .0 ∙ sym (ap versionOf (its-slot .slot))
+    pub its_version : v ≡ version_in s slot
+    its_version = (subst (λ m. NodeHeld s slot m) e held its_slot.held its_slot.slot).0 ∙ sym (ap version_of its_slot.slot)
 
-    older-inner : Older new (placeOf p) (vinner (versionIn s slot) (its-inner .0) (its-inner .1))
-    older-inner = subst (Older new (placeOf p)) (its-inner .2) (h .older)
+    older_inner : Older new (place_of p) (vinner (version_in s slot) its_inner.0 its_inner.1)
+    older_inner = subst (Older new (place_of p)) its_inner.2 h.older
 
-    left-older : lchild .version < new
-    left-older =
-        omega (arith, child-top lchild (its-inner .0) (its-inner .3), top-older new (longer left (placeOf p)) (its-inner .0) (h .number) (λ u q k. older-inner u q (inr (inl k))))
+    left_older : lchild.version < new
+    left_older =
+        omega (arith, child_top lchild its_inner.0 its_inner.3, top_older new (longer left (place_of p)) its_inner.0 h.number (λ u q k. older_inner u q (inr (inl k))))
 
-    right-older : rchild .version < new
-    right-older =
-        omega (arith, child-top rchild (its-inner .1) (its-inner .4), top-older new (longer right (placeOf p)) (its-inner .1) (h .number) (λ u q k. older-inner u q (inr (inr k))))
+    right_older : rchild.version < new
+    right_older =
+        omega (arith, child_top rchild its_inner.1 its_inner.4, top_older new (longer right (place_of p)) its_inner.1 h.number (λ u q k. older_inner u q (inr (inr k))))
 
-    pub may-end : Ends s (lchild .version) (rchild .version) p
-    may-end = record {
-      stored = h .standing .stored;
-      proper = h .standing .proper;
-      short = h .short;
-      left-once = h .single (lchild .version) (longer left (placeOf p)) left-older;
-      right-once = h .single (rchild .version) (longer right (placeOf p)) right-older;
+    pub may_end : Ends s lchild.version rchild.version p
+    may_end = record {
+      stored = h.standing.stored;
+      proper = h.standing.proper;
+      short = h.short;
+      left_once = h.single lchild.version (longer left (place_of p)) left_older;
+      right_once = h.single rchild.version (longer right (place_of p)) right_older;
     }
 
-    pub may-renew : Renews new since w s p lchild rchild l r
-    may-renew = record {
-      marks = h .marks;
-      ends = may-end;
+    pub may_renew : Renews new since w s p lchild rchild l r
+    may_renew = record {
+      marks = h.marks;
+      ends = may_end;
       forks = record {
-        stored = h .standing .stored;
-        starts = h .starts;
-        proper = h .standing .proper;
-        short = h .short;
-        left-form = h .left-form;
-        right-form = h .right-form;
-        left-kept = h .kept lchild rchild i j its-inner .0;
-        right-kept = h .kept lchild rchild i j its-inner .1;
-        left-few = h .left-few;
-        right-few = h .right-few;
+        stored = h.standing.stored;
+        starts = h.starts;
+        proper = h.standing.proper;
+        short = h.short;
+        left_form = h.left_form;
+        right_form = h.right_form;
+        left_kept = (h.kept lchild rchild i j its_inner).0;
+        right_kept = (h.kept lchild rchild i j its_inner).1;
+        left_few = h.left_few;
+        right_few = h.right_few;
       };
     }

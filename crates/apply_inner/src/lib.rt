@@ -1,21 +1,21 @@
 // What becomes of an inner node by the outcomes at its children, document 01: unchanged, deleted, a lone leaf moved up, or a new inner node.
-use apply_end::Remains;
-use apply_end::mark_children;
-use apply_end::remains_of;
+#![tactic(auto)]
+
+ghost use Rattle.std.specs.Prelude.{◌≡◌};
+ghost use Rattle.apply_end.specs.Ending.{Ends};
+ghost use Rattle.apply_inner.specs.Settling.{both_stayed, settled_says, EndsOrStays, Renews, Renewed, Settles, Settled};
+
+use apply_end::{Remains, mark_children, remains_of};
 use apply_fork::fork;
-use apply_outcome::Change;
-use apply_outcome::Outcome;
+use apply_outcome::{Change, Outcome};
 use apply_place::Node;
 use apply_read::node_in;
 use place::Place;
 use slots::Child;
-ghost use mathlib.Core.Path.{_≡_};
-ghost use Rattle·apply_end.specs.Ending.{Ends};
-ghost use Rattle·apply_inner·specs.specs.Settling.{bothStayed, settledSays, EndsOrStays, Renews, Renewed, Settles, Settled};
 
 // Whether both children are unchanged.
 fn both_stayed(l: Change, r: Change) -> bool
-    ensures { λ b. ⌜ b ≡ bothStayed l r ⌝ }
+    ensures { result ≡ both_stayed l r }
 {
     match l {
         Change::Updated => false,
@@ -30,7 +30,7 @@ fn both_stayed(l: Change, r: Change) -> bool
 
 // What an inner node's own change is, by the outcomes at its children.
 fn settled(l: Outcome, r: Outcome) -> Change
-    ensures { λ c. ⌜ c ≡ settledSays l r ⌝ }
+    ensures { result ≡ settled_says l r }
 {
     let lchange = l.change;
     let rchange = r.change;
@@ -61,8 +61,8 @@ fn end_or_stay(
     lefts: u32,
     rights: u32,
 ) -> Outcome
-    requires { ⌜ Ends (now store) (lchild .version) (rchild .version) place ⌝ }
-    ensures { λ o. ⌜ EndsOrStays since writes (now (store .entry)) (now (store .exit)) place lchild rchild reach version lefts rights change o ⌝ }
+    requires { Ends store.old lchild.version rchild.version place }
+    ensures { EndsOrStays since writes store.old store.new place lchild rchild reach version lefts rights change result }
 {
     let Change::Deleted = change else {
         let node = Node::Inner {
@@ -109,8 +109,8 @@ fn renew(
     l: Outcome,
     r: Outcome,
 ) -> Outcome
-    requires { ⌜ Renews new since writes (now store) place lchild rchild l r ⌝ }
-    ensures { λ o. ⌜ Renewed new writes (now (store .entry)) (now (store .exit)) place lchild rchild l r o ⌝ }
+    requires { Renews new since writes store.old place lchild rchild l r }
+    ensures { Renewed new writes store.old store.new place lchild rchild l r result }
 {
     let lnode = l.node;
     let rnode = r.node;
@@ -121,15 +121,7 @@ fn renew(
         let lchange = l.change;
         let rchange = r.change;
         mark_children(
-            store,
-            guesses,
-            writes,
-            place,
-            lchange,
-            rchange,
-            lversion,
-            rversion,
-            since,
+            store, guesses, writes, place, lchange, rchange, lversion, rversion, since,
         );
         return fork(store, writes, new, place, lchild, rchild, l, r);
     };
@@ -167,8 +159,8 @@ pub fn settle_in(
     l: Outcome,
     r: Outcome,
 ) -> Outcome
-    requires { ⌜ Settles new since writes (now store) place slot l r ⌝ }
-    ensures { λ o. ⌜ Settled new writes (now (store .entry)) (now (store .exit)) place slot l r o ⌝ }
+    requires { Settles new since writes store.old place slot l r }
+    ensures { Settled new writes store.old store.new place slot l r result }
 {
     let node = node_in(store, slot);
     let Node::Inner {
@@ -185,17 +177,7 @@ pub fn settle_in(
     let Change::Updated = change else {
         let reach = r.reach;
         return end_or_stay(
-            store,
-            guesses,
-            writes,
-            since,
-            place,
-            reach,
-            change,
-            version,
-            left,
-            right,
-            lefts,
+            store, guesses, writes, since, place, reach, change, version, left, right, lefts,
             rights,
         );
     };

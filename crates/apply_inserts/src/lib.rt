@@ -1,31 +1,29 @@
 // What grows at a place, document 01: the inserts of a run, and the leaf if it stays.
-use batch::grant;
-use batch::record_count;
+#![tactic(auto)]
+
+ghost use Rattle.std.specs.Prelude.{◌≡◌, true, [], ◌∷◌, ◌≤◌, ◌<◌};
+ghost use Rattle.terms.specs.Bits.{begins};
+ghost use Rattle.hash.specs.Hash.{hash_bytes};
+ghost use Rattle.place.specs.Place.{place_of, Proper};
+ghost use Rattle.batch.specs.Batch.{count, asks};
+ghost use Rattle.batch.specs.Records.{ask_at, inserts};
+ghost use Rattle.steps.specs.Step as step;
+ghost use Rattle.apply_inserts.specs.Inserts.{stays_says, stays_at, FewSays, NextInsert};
+
+use batch::{grant, record_count};
 use batch_form::is_insert;
-use hash::Hash;
-use hash::hash_at;
-use hash::put_hash;
-use place::Place;
-use place::begins;
-ghost use mathlib.Core.Path.{_≡_};
-ghost use mathlib.Core.Bool.{true};
-ghost use mathlib.Core.List.{[], _∷_};
-ghost use Prim.Native.Nat.{_≤_, _<_};
-ghost use Rattle·terms.specs.Bits.{begins};
-ghost use Rattle·hash.specs.Hash.{hashBytes};
-ghost use Rattle·place.specs.Place.{placeOf, Proper};
-ghost use Rattle·batch.specs.Batch.{count, asks};
-ghost use Rattle·batch.specs.Records.{askAt, inserts};
-ghost use Rattle·steps.specs.Step as step;
-ghost use Rattle·apply_inserts·specs.specs.Inserts.{staysSays, staysAt, FewSays, NextInsert};
+use hash::{Hash, hash_at, put_hash};
+use place::{Place, begins};
 
 // The leaf that stays, by its grant.
+#[derive(Clone, Copy)]
 pub enum Stays {
     Nothing,
     Grant { key: Hash, value: Hash },
 }
 
 // The grants of a subtree that grows: none, one, or two or more.
+#[derive(Clone, Copy)]
 pub enum Few {
     Nothing,
     One { key: Hash, value: Hash },
@@ -34,8 +32,8 @@ pub enum Few {
 
 // The first insert of a run from a record on, or the end; deletes are passed over.
 fn next_insert(run: &[u8], from: usize) -> usize
-    requires { ⌜ from ≤ count (now run) ⌝ }
-    ensures { λ r. ⌜ NextInsert (now (run .entry)) from r ⌝ }
+    requires { from ≤ count run.now }
+    ensures { NextInsert run.now from result }
 {
     let n = record_count(run);
     let mut i = from;
@@ -50,8 +48,8 @@ fn next_insert(run: &[u8], from: usize) -> usize
 
 // The grant of an insert.
 fn one_insert(run: &[u8], i: usize) -> Few
-    requires { ⌜ (i < count (now run)) × (inserts (askAt i (now run)) ≡ true) ⌝ }
-    ensures { λ r. ⌜ FewSays r (step.inserts (askAt i (now (run .entry)) ∷ [])) ⌝ }
+    requires { (i < count run.now) × (inserts (ask_at i run.now) ≡ true) }
+    ensures { FewSays result (step.inserts (ask_at i run.now ∷ [])) }
 {
     let g = grant(run, i);
     let key = hash_at(g, 0);
@@ -61,7 +59,7 @@ fn one_insert(run: &[u8], i: usize) -> Few
 
 // The inserts of a run, and the leaf if one stays.
 pub fn to_grow(stays: Stays, run: &[u8]) -> Few
-    ensures { λ r. ⌜ FewSays r (step.toGrow (staysSays stays) (asks (now (run .entry)))) ⌝ }
+    ensures { FewSays result (step.to_grow (stays_says stays) (asks run.now)) }
 {
     let n = record_count(run);
     let i = next_insert(run, 0);
@@ -86,8 +84,8 @@ pub fn to_grow(stays: Stays, run: &[u8]) -> Few
 
 // Whether the 32 bytes of a hash begin with a place.
 fn hash_begins(h: Hash, place: Place) -> bool
-    requires { ⌜ Proper place ⌝ }
-    ensures { λ r. ⌜ r ≡ begins (placeOf place) (hashBytes h) ⌝ }
+    requires { Proper place }
+    ensures { result ≡ begins (place_of place) (hash_bytes h) }
 {
     let mut bytes = [0u8; 32];
     put_hash(&mut bytes, h);
@@ -96,8 +94,8 @@ fn hash_begins(h: Hash, place: Place) -> bool
 
 // The leaf that stays, where the place is on its way.
 pub fn stays_at(stays: Stays, place: Place) -> Stays
-    requires { ⌜ Proper place ⌝ }
-    ensures { λ r. ⌜ staysSays r ≡ staysAt (placeOf place) (staysSays stays) ⌝ }
+    requires { Proper place }
+    ensures { stays_says result ≡ stays_at (place_of place) (stays_says stays) }
 {
     let Stays::Grant { key, value: _ } = stays else {
         return Stays::Nothing;

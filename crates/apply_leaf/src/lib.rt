@@ -1,41 +1,39 @@
 // The step at a leaf, document 01: what the run asks for its key, and inserts beside it.
-use apply_alone::Own;
-use apply_alone::alone;
+#![tactic(auto)]
+
+ghost use Rattle.std.specs.Prelude.{◌≡◌, ◌-◌, ◌<◌};
+ghost use Rattle.terms.specs.Bits.{same_bytes};
+ghost use Rattle.terms.specs.Records.{grant, ask_key};
+ghost use Rattle.hash.specs.Hash.{hash_bytes};
+ghost use Rattle.nodehash.specs.Node.{leaf_hash, inner_hash};
+ghost use Rattle.place.specs.Place.{place_of};
+ghost use Rattle.batch.specs.Batch.{count, asks};
+ghost use Rattle.batch.specs.Records.{ask_at};
+ghost use Rattle.steps.specs.Step as step;
+ghost use Rattle.apply_outcome.specs.Outcomes.{Did};
+ghost use Rattle.apply_alone.specs.Alone.{OwnSays};
+ghost use Rattle.apply_leaf.specs.Leaf.{is_more, staying_says, AtLeaf};
+
+use apply_alone::{Own, alone};
 use apply_grow::grow;
 use apply_inserts::Stays;
 use apply_outcome::Outcome;
-use batch::grant;
-use batch::record_count;
+use batch::{grant, record_count};
 use batch_form::is_insert;
-use hash::Hash;
-use hash::hash_at;
-use hash::same_hash;
+use hash::{Hash, hash_at, same_hash};
 use place::Place;
-ghost use mathlib.Core.Path.{_≡_};
-ghost use Prim.Native.Nat.{_-_, _<_};
-ghost use Rattle·terms.specs.Bits.{sameBytes};
-ghost use Rattle·terms.specs.Records.{grant, askKey};
-ghost use Rattle·hash.specs.Hash.{hashBytes};
-ghost use Rattle·nodehash.specs.Node.{leafHash, innerHash};
-ghost use Rattle·place.specs.Place.{placeOf};
-ghost use Rattle·batch.specs.Batch.{count, asks};
-ghost use Rattle·batch.specs.Records.{askAt};
-ghost use Rattle·steps.specs.Step as step;
-ghost use Rattle·apply_outcome.specs.Outcomes.{Did};
-ghost use Rattle·apply_alone.specs.Alone.{OwnSays};
-ghost use Rattle·apply_leaf·specs.specs.Leaf.{isMore, stayingSays, AtLeaf};
 
 // Whether record i of a run asks for a key.
 fn asks_for(run: &[u8], i: usize, key: Hash) -> bool
-    requires { ⌜ i < count (now run) ⌝ }
-    ensures { λ r. ⌜ r ≡ sameBytes (askKey (askAt i (now (run .entry)))) (hashBytes key) ⌝ }
+    requires { i < count run.now }
+    ensures { result ≡ same_bytes (ask_key (ask_at i run.now)) (hash_bytes key) }
 {
     let k = batch::key(run, i);
     same_hash(hash_at(k, 0), key)
 }
 
 fn own_ask(run: &[u8], key: Hash) -> Own
-    ensures { λ r. ⌜ OwnSays r (step.ownAsk (hashBytes key) (asks (now (run .entry)))) ⌝ }
+    ensures { OwnSays result (step.own_ask (hash_bytes key) (asks run.now)) }
 {
     let n = record_count(run);
     let mut i = 0;
@@ -56,7 +54,7 @@ fn own_ask(run: &[u8], key: Hash) -> Own
 
 // Whether a run inserts another key.
 fn inserts_more(run: &[u8], key: Hash) -> bool
-    ensures { λ r. ⌜ r ≡ isMore (step.otherInserts (hashBytes key) (asks (now (run .entry)))) ⌝ }
+    ensures { result ≡ is_more (step.other_inserts (hash_bytes key) (asks run.now)) }
 {
     let n = record_count(run);
     let mut i = 0;
@@ -75,7 +73,7 @@ fn inserts_more(run: &[u8], key: Hash) -> bool
 
 // The leaf that stays beside inserts: one whose key nothing is asked for.
 fn staying(own: Own, key: Hash, value: Hash) -> Stays
-    ensures { λ r. ⌜ r ≡ stayingSays own key value ⌝ }
+    ensures { result ≡ staying_says own key value }
 {
     let Own::Nothing = own else {
         return Stays::Nothing;
@@ -95,8 +93,8 @@ pub fn at_leaf(
     value: Hash,
     run: &[u8],
 ) -> Outcome
-    requires { ⌜ AtLeaf new writes from (now store) place key (now run) ⌝ }
-    ensures { λ r. ⌜ Did new writes from (now (store .entry)) (now (store .exit)) (step.stepLeaf leafHash innerHash new (256 - place .count) (placeOf place) version (grant (hashBytes key) (hashBytes value)) (asks (now (run .entry)))) r ⌝ }
+    requires { AtLeaf new writes from store.old place key run.now }
+    ensures { Did new writes from store.old store.new (step.step_leaf leaf_hash inner_hash new (256 - place.count) (place_of place) version (grant (hash_bytes key) (hash_bytes value)) (asks run.now)) result }
 {
     let own = own_ask(run, key);
     if inserts_more(run, key) {

@@ -1,18 +1,19 @@
 // What a step leaves at a place, document 01, 'The tree of a set of grants': updated, deleted or unchanged, and the node that now stands there.
-use apply_place::Node;
-use apply_place::place_node;
-use hash::Hash;
-use hash::no_hash;
-use nodehash::grant_hash;
-use nodehash::inner_hash;
+#![tactic(auto)]
+
+ghost use Rattle.std.specs.Prelude.{◌≡◌};
+ghost use Rattle.place.specs.Place.{place_of};
+ghost use Rattle.slots.specs.Answer.{child_says};
+ghost use Rattle.apply_place.specs.Reach.{Places, Placed};
+ghost use Rattle.apply_outcome.specs.Outcomes.{node_child, updated_says, Kept, ChildAfter};
+
+use apply_place::{Node, place_node};
+use hash::{Hash, no_hash};
+use nodehash::{grant_hash, inner_hash};
 use place::Place;
 use slots::Child;
-ghost use mathlib.Core.Path.{_≡_};
-ghost use Rattle·place.specs.Place.{placeOf};
-ghost use Rattle·slots.specs.Answer.{childSays};
-ghost use Rattle·apply_place.specs.Reach.{Places, Placed};
-ghost use Rattle·apply_outcome·specs.specs.Outcomes.{nodeChild, updatedSays, Kept, ChildAfter};
 
+#[derive(Clone, Copy)]
 pub enum Change {
     Updated,
     Deleted,
@@ -20,6 +21,7 @@ pub enum Change {
 }
 
 // The node itself is for its parent to place; the reach is that of the new records strictly below it.
+#[derive(Clone, Copy)]
 pub struct Outcome {
     pub change: Change,
     pub node: Node,
@@ -28,7 +30,7 @@ pub struct Outcome {
 
 // What the parent's record says of a node.
 pub fn child_of(node: Node) -> Child
-    ensures { λ r. ⌜ childSays r ≡ nodeChild node ⌝ }
+    ensures { child_says result ≡ node_child node }
 {
     match node {
         Node::Nothing => {
@@ -59,8 +61,8 @@ pub fn child_of(node: Node) -> Child
 // What the new parent's record says of a child that has an outcome: of an unchanged one what the old record says. Nothing is hashed where nothing
 // is written.
 pub fn child_after(writes: bool, old: Child, out: Outcome) -> Child
-    requires { ⌜ Kept writes old out ⌝ }
-    ensures { λ r. ⌜ ChildAfter writes out r ⌝ }
+    requires { Kept writes old out }
+    ensures { ChildAfter writes out result }
 {
     if !writes {
         return old;
@@ -81,8 +83,8 @@ pub fn place_updated(
     place: Place,
     out: Outcome,
 ) -> usize
-    requires { ⌜ Places writes (now store) from place (updatedSays (placeOf place) out) ⌝ }
-    ensures { λ r. ⌜ Placed writes from (updatedSays (placeOf place) out) (now (store .entry)) (now (store .exit)) r ⌝ }
+    requires { Places writes store.old from place (updated_says (place_of place) out) }
+    ensures { Placed writes from (updated_says (place_of place) out) store.old store.new result }
 {
     let change = out.change;
     let Change::Updated = change else {

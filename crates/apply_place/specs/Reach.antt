@@ -1,34 +1,30 @@
 -- Document 01, 'Placing': how far new records reach. Counting goes on as if every slot were free, so a count is a reach
 -- too. Assumes nothing.
-use Prim.Native.Nat.{ℕ, _+_, _≤_, min}
-use mathlib.Core.Path.{_≡_}
-use mathlib.Core.Bool.{Bool, true, false}
-use mathlib.Core.List.{List}
-use lib.ListN.{length}
-use Rattle·terms.specs.Bits.{Bytes, All}
-use Rattle·terms.specs.Records.{Record, Slot}
-use Rattle·terms.specs.Form.{RecordForm}
-use Rattle·meaning.specs.Store.{placed}
-use Rattle·place.specs.declared.Place as place
-use Rattle·place.specs.Place.{Proper}
-use Rattle·layout.specs.Stores.{storeOf}
-use Rattle·apply_place·specs.specs.declared.Node as declared
-use Rattle·apply_place·specs.specs.declared.Node.the-variants.{Nothing, Leaf, Inner}
-use Rattle·apply_place·specs.specs.Placing.{Stored, Changed, whenWrites, NoneFree, Lowest}
+use Rattle.std.specs.Prelude.{ℕ, ◌+◌, ◌≤◌, min, ◌≡◌, Bool, true, false, List, length}
+use Rattle.terms.specs.Bits.{Bytes, All}
+use Rattle.terms.specs.Records.{Record, Slot}
+use Rattle.terms.specs.Form.{RecordForm}
+use Rattle.meaning.specs.Store.{placed}
+use Rattle.place.specs.declared.Place as place
+use Rattle.place.specs.Place.{Proper}
+use Rattle.layout.specs.Stores.{store_of}
+use Rattle.apply_place.specs.declared.Node as declared
+use Rattle.apply_place.specs.declared.Node.TheVariants.{Nothing, Leaf, Inner}
+use Rattle.apply_place.specs.Placing.{Stored, Changed, when_writes, NoneFree, Lowest}
 
 -- One more than the most slots of a store.
-abbrev pub overMost : ℕ
-overMost = 16385
+abbrev pub over_most : ℕ
+over_most = 16385
 
 -- A count, where those above the most slots of a store are not told apart.
 abbrev pub capped : ℕ → ℕ
-capped n = min n overMost
+capped n = min n over_most
 
 -- A node has one record, if there is a node.
-abbrev pub nodeSize : declared.Node → ℕ
-nodeSize Nothing = 0
-nodeSize (Leaf v k x) = 1
-nodeSize (Inner v l r m n) = 1
+abbrev pub node_size : declared.Node → ℕ
+node_size Nothing = 0
+node_size (Leaf v k x) = 1
+node_size (Inner v l r m n) = 1
 
 -- Where records are written, no slot below k is free.
 abbrev pub Clear : Bool → List Slot → ℕ → Type 0
@@ -37,7 +33,7 @@ Clear false s k = Unit {0}
 
 -- A reach that new records may go on from.
 pub record Starts (writes : Bool) (s : List Slot) (k : ℕ) : Type 0 where
-  pub few : k ≤ overMost
+  pub few : k ≤ over_most
   pub clear : Clear writes s k
 
 -- The reach k of n new records from another on: counted, they are n more.
@@ -53,17 +49,17 @@ pub record Reaches (writes : Bool) (from n : ℕ) (s : List Slot) (k : ℕ) : Ty
 pub record Puts (s : Bytes) (i : ℕ) (p : place.Place) (rs : List Record) : Type 0 where
   pub stored : Stored s
   pub proper : Proper p
-  pub lowest : Lowest (storeOf s .slots) i
+  pub lowest : Lowest (store_of s).slots i
   pub form : All RecordForm rs
 
 -- Records of a place that may be placed or counted.
 pub record Places (writes : Bool) (s : Bytes) (from : ℕ) (p : place.Place) (rs : List Record) : Type 0 where
   pub stored : Stored s
-  pub starts : Starts writes (storeOf s .slots) from
+  pub starts : Starts writes (store_of s).slots from
   pub proper : Proper p
   pub form : writes ≡ true → All RecordForm rs
 
 -- Records that were placed, or only counted.
-pub record Placed (writes : Bool) (from : ℕ) (rs : List Record) (s s′ : Bytes) (k : ℕ) : Type 0 where
-  pub bytes : Changed (whenWrites writes (placed rs)) s s′
-  pub reach : Reaches writes from (length rs) (storeOf s′ .slots) k
+pub record Placed (writes : Bool) (from : ℕ) (rs : List Record) (s s' : Bytes) (k : ℕ) : Type 0 where
+  pub bytes : Changed (when_writes writes (placed rs)) s s'
+  pub reach : Reaches writes from (length rs) (store_of s').slots k

@@ -1,30 +1,28 @@
 // Placing in lent memory, document 01: the record of a node goes to the lowest free slot. Where `writes` is false nothing is written, and the
 // records are counted as if every slot were free.
+#![tactic(auto)]
+
+ghost use Rattle.std.specs.Prelude.{◌≡◌, ◌++◌, ◌+◌, ◌≤◌, length};
+ghost use Rattle.terms.specs.Records.{used, leaf_body, no_tally};
+ghost use Rattle.meaning.specs.Store.{placed};
+ghost use Rattle.hash.specs.Hash.{hash_bytes};
+ghost use Rattle.place.specs.Place.{place_of, Proper};
+ghost use Rattle.layout.specs.Slots.{record_of};
+ghost use Rattle.layout.specs.Stores.{store_of, SlotWithin, with_slot};
+ghost use Rattle.apply_place.specs.Placing.{Stored, Changed, NoneFree, FreeIn, record_says};
+ghost use Rattle.apply_place.specs.Reach.{over_most, capped, node_size, Puts, Places, Placed};
+
 use fields::all_zero;
-use hash::Hash;
-use hash::put_hash;
+use hash::{Hash, put_hash};
 use lookup::Found;
 use place::Place;
 use slots::Child;
-use store::slot_count;
-use store::slot_of;
-use store_put::put_inner_at;
-use store_put::put_leaf_at;
+use store::{slot_count, slot_of};
+use store_put::{put_inner_at, put_leaf_at};
 use terms::Form;
-ghost use mathlib.Core.Path.{_≡_};
-ghost use mathlib.Core.List.{_++_};
-ghost use Prim.Native.Nat.{_+_, _≤_};
-ghost use lib.ListN.{length};
-ghost use Rattle·terms.specs.Records.{used, leafBody, noTally};
-ghost use Rattle·meaning.specs.Store.{placed};
-ghost use Rattle·hash.specs.Hash.{hashBytes};
-ghost use Rattle·place.specs.Place.{placeOf, Proper};
-ghost use Rattle·layout.specs.Slots.{recordOf};
-ghost use Rattle·layout.specs.Stores.{storeOf, SlotWithin, withSlot};
-ghost use Rattle·apply_place·specs.specs.Placing.{Stored, Changed, NoneFree, FreeIn, recordSays};
-ghost use Rattle·apply_place·specs.specs.Reach.{overMost, capped, nodeSize, Puts, Places, Placed};
 
 // The node that stands at a place: a leaf with its grant, an inner node with its children and how many leaves are below each.
+#[derive(Clone, Copy)]
 pub enum Node {
     Nothing,
     Leaf {
@@ -46,8 +44,8 @@ const BEYOND: usize = 16385;
 
 // Two counts together; those above the most slots of a store are not told apart.
 fn more(a: usize, b: usize) -> usize
-    requires { ⌜ (a ≤ overMost) × (b ≤ overMost) ⌝ }
-    ensures { λ r. ⌜ r ≡ capped (a + b) ⌝ }
+    requires { (a ≤ over_most) × (b ≤ over_most) }
+    ensures { result ≡ capped (a + b) }
 {
     let sum = a + b;
     if BEYOND < sum { BEYOND } else { sum }
@@ -55,7 +53,7 @@ fn more(a: usize, b: usize) -> usize
 
 // How many records a node has: one, if there is a node.
 fn size(node: Node) -> usize
-    ensures { λ r. ⌜ r ≡ nodeSize node ⌝ }
+    ensures { result ≡ node_size node }
 {
     match node {
         Node::Nothing => 0,
@@ -76,8 +74,8 @@ fn size(node: Node) -> usize
 
 // The lowest free slot, where none below a slot is free.
 fn find_free(store: &[u8], from: usize) -> Found
-    requires { ⌜ Stored (now store) × NoneFree (storeOf (now store) .slots) from ⌝ }
-    ensures { λ r. ⌜ FreeIn (storeOf (now (store .entry)) .slots) r ⌝ }
+    requires { Stored store.now × NoneFree (store_of store.now).slots from }
+    ensures { FreeIn (store_of store.now).slots result }
 {
     let n = slot_count(Form::Counted, store);
     let mut i = from;
@@ -94,8 +92,8 @@ fn find_free(store: &[u8], from: usize) -> Found
 
 // The 64 bytes of a grant: key and value.
 fn put_grant(grant: &mut [u8], key: Hash, value: Hash)
-    requires { ⌜ length (now grant) ≡ 64 ⌝ }
-    ensures { λ _. ⌜ now (grant .exit) ≡ hashBytes key ++ hashBytes value ⌝ }
+    requires { length grant.old ≡ 64 }
+    ensures { grant.new ≡ hash_bytes key ++ hash_bytes value }
 {
     put_hash(grant, key);
     put_hash(&mut grant[32..64], value);
@@ -103,8 +101,8 @@ fn put_grant(grant: &mut [u8], key: Hash, value: Hash)
 
 // Writes a leaf that isn't retired over slot i.
 fn put_leaf_new(store: &mut [u8], i: usize, place: Place, version: u32, key: Hash, value: Hash)
-    requires { ⌜ SlotWithin Form.Counted i (now store) × Proper place ⌝ }
-    ensures { λ _. ⌜ now (store .exit) ≡ withSlot Form.Counted i (used (recordOf (placeOf place) version 0 (leafBody (hashBytes key) (hashBytes value)) noTally)) (now (store .entry)) ⌝ }
+    requires { SlotWithin Form.Counted i store.old × Proper place }
+    ensures { store.new ≡ with_slot Form.Counted i (used (record_of (place_of place) version 0 (leaf_body (hash_bytes key) (hash_bytes value)) no_tally)) store.old }
 {
     let mut grant = [0u8; 64];
     put_grant(&mut grant, key, value);
@@ -113,8 +111,8 @@ fn put_leaf_new(store: &mut [u8], i: usize, place: Place, version: u32, key: Has
 
 // Writes the record of the node at a place over the lowest free slot, i.
 fn put_node(store: &mut [u8], i: usize, place: Place, node: Node)
-    requires { ⌜ Puts (now store) i place (recordSays (placeOf place) node) ⌝ }
-    ensures { λ _. ⌜ Changed (placed (recordSays (placeOf place) node)) (now (store .entry)) (now (store .exit)) ⌝ }
+    requires { Puts store.old i place (record_says (place_of place) node) }
+    ensures { Changed (placed (record_says (place_of place) node)) store.old store.new }
 {
     match node {
         Node::Nothing => {}
@@ -146,8 +144,8 @@ fn put_node(store: &mut [u8], i: usize, place: Place, node: Node)
 
 // Places the record of the node at a place, and answers how far the new records reach; with no free slot there is nothing to place it in.
 pub fn place_node(store: &mut [u8], writes: bool, from: usize, place: Place, node: Node) -> usize
-    requires { ⌜ Places writes (now store) from place (recordSays (placeOf place) node) ⌝ }
-    ensures { λ r. ⌜ Placed writes from (recordSays (placeOf place) node) (now (store .entry)) (now (store .exit)) r ⌝ }
+    requires { Places writes store.old from place (record_says (place_of place) node) }
+    ensures { Placed writes from (record_says (place_of place) node) store.old store.new result }
 {
     let n = size(node);
     if !writes {

@@ -1,33 +1,29 @@
 // The node that a slot holds, with its grant or what it says of its children, and the node (version, place) of a tree that stands.
+#![tactic(auto)]
+
+ghost use Rattle.std.specs.Prelude.{◌≡◌};
+ghost use Rattle.layout.specs.Slots.{kid_on};
+ghost use Rattle.layout.specs.Stores.{slot_in, SlotWithin};
+ghost use Rattle.slots.specs.Answer.{child_says};
+ghost use Rattle.apply_guess.specs.Guess.{Once};
+ghost use Rattle.apply_read.specs.Held.{Used, NodeHeld, UsedAt, GoesOn};
+ghost use Rattle.apply_read.specs.Standing.{tree_here, Standing, Unchanged};
+
 use apply_guess::find_near;
-use apply_outcome::Change;
-use apply_outcome::Outcome;
+use apply_outcome::{Change, Outcome};
 use apply_place::Node;
 use hash::hash_at;
 use lookup::Found;
 use place::Place;
-use slots::Child;
-use slots::child_hash;
-use slots::key_of;
-use slots::value_of;
+use slots::{Child, child_hash, key_of, value_of};
 use slots_form::is_leaf;
-use store::child_count_at;
-use store::child_version_at;
-use store::slot_of;
-use store::version_at;
+use store::{child_count_at, child_version_at, slot_of, version_at};
 use terms::Form;
-ghost use mathlib.Core.Path.{_≡_};
-ghost use Rattle·layout.specs.Slots.{kidOn};
-ghost use Rattle·layout.specs.Stores.{slotIn, SlotWithin};
-ghost use Rattle·slots.specs.Answer.{childSays};
-ghost use Rattle·apply_guess.specs.Guess.{Once};
-ghost use Rattle·apply_read·specs.specs.Held.{Used, NodeHeld, UsedAt, GoesOn};
-ghost use Rattle·apply_read·specs.specs.Standing.{treeHere, Standing, Unchanged};
 
 // What the inner record in slot i says of the child on a side.
 fn child_on(store: &[u8], i: usize, right: bool) -> Child
-    requires { ⌜ SlotWithin Form.Counted i (now store) ⌝ }
-    ensures { λ r. ⌜ childSays r ≡ kidOn right (slotIn Form.Counted i (now (store .entry))) ⌝ }
+    requires { SlotWithin Form.Counted i store.now }
+    ensures { child_says result ≡ kid_on right (slot_in Form.Counted i store.now) }
 {
     let version = child_version_at(Form::Counted, store, i, right);
     let hash = hash_at(child_hash(slot_of(Form::Counted, store, i), right), 0);
@@ -36,8 +32,8 @@ fn child_on(store: &[u8], i: usize, right: bool) -> Child
 
 // A slot that is used holds a leaf or an inner record.
 pub fn node_in(store: &[u8], i: usize) -> Node
-    requires { ⌜ Used (now store) i ⌝ }
-    ensures { λ r. ⌜ NodeHeld (now (store .entry)) i r ⌝ }
+    requires { Used store.now i }
+    ensures { NodeHeld store.now i result }
 {
     let s = slot_of(Form::Counted, store, i);
     let version = version_at(Form::Counted, store, i);
@@ -64,14 +60,15 @@ pub fn node_in(store: &[u8], i: usize) -> Node
 }
 
 // Where the steps go on to from what was found: the slot of an inner node and the versions of its children.
+#[derive(Clone, Copy)]
 pub enum Onward {
     End,
     Inner { slot: usize, left: u32, right: u32 },
 }
 
 pub fn onward_from(store: &[u8], found: Found) -> Onward
-    requires { ⌜ UsedAt (now store) found ⌝ }
-    ensures { λ r. ⌜ GoesOn (now (store .entry)) found r ⌝ }
+    requires { UsedAt store.now found }
+    ensures { GoesOn store.now found result }
 {
     let Found::At(slot) = found else {
         return Onward::End;
@@ -93,8 +90,8 @@ pub fn unchanged_at(
     version: u32,
     place: Place,
 ) -> Outcome
-    requires { ⌜ Standing (now store) place version × Once (now store) version place ⌝ }
-    ensures { λ r. ⌜ Unchanged from (treeHere (now (store .entry)) place version) r ⌝ }
+    requires { Standing store.now place version × Once store.now version place }
+    ensures { Unchanged from (tree_here store.now place version) result }
 {
     let found = find_near(store, guesses, version, place);
     let Found::At(i) = found else {

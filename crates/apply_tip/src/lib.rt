@@ -1,4 +1,9 @@
 // The step where no inner node stands, document 01: at no node a subtree grows, at a leaf the step is the leaf's.
+#![tactic(auto)]
+
+ghost use Rattle.apply_outcome.specs.Outcomes.{Did};
+ghost use Rattle.apply_tip.specs.Stepping.{AtTip, at_node};
+
 use apply_grow::grow;
 use apply_inserts::Stays;
 use apply_leaf::at_leaf;
@@ -7,8 +12,6 @@ use apply_place::Node;
 use apply_read::node_in;
 use lookup::Found;
 use place::Place;
-ghost use Rattle·apply_outcome.specs.Outcomes.{Did};
-ghost use Rattle·apply_tip·specs.specs.Stepping.{AtTip, atNode};
 
 pub fn at_tip(
     store: &mut [u8],
@@ -20,8 +23,8 @@ pub fn at_tip(
     found: Found,
     run: &[u8],
 ) -> Outcome
-    requires { ⌜ AtTip new writes from (now store) place version found (now run) ⌝ }
-    ensures { λ r. ⌜ Did new writes from (now (store .entry)) (now (store .exit)) (atNode new (now (store .entry)) place version (now (run .entry))) r ⌝ }
+    requires { AtTip new writes from store.old place version found run.now }
+    ensures { Did new writes from store.old store.new (at_node new store.old place version run.now) result }
 {
     let Found::At(i) = found else {
         return grow(store, writes, new, from, place, Stays::Nothing, run);

@@ -1,173 +1,173 @@
 -- A record of a batch there and back: the bytes of an ask in form are read as that ask, and a record in form is the bytes of what it asks for.
 -- The fields fill the record, and each is its number or its part. Assumes nothing.
-use Prim.Native.Nat.{ℕ, _+_, _<_, _≤_}
+use Prim.Native.Nat.{ℕ, ◌+◌, ◌<◌, ◌≤◌}
 use native.Mathlib.Omega.{arith}
-use mathlib.Core.Path.{_≡_, refl, ap, sym, _∙_}
-use mathlib.Core.Bool.{Bool, true, false, cond, _&&_, _||_}
-use mathlib.Core.List.{List, [], _∷_}
-use lib.ListN.{length, getD}
+use mathlib.Core.Path.{◌≡◌, refl, ap, sym, ◌∙◌}
+use mathlib.Core.Bool.{Bool, true, false, cond, ◌&&◌, ◌||◌}
+use mathlib.Core.List.{List, [], ◌∷◌}
+use lib.ListN.{length, get_or}
 use lib.Dec.{eqb}
-use borrow.Author.Tests.{eqb-true, eq-eqb, ne-eqb}
-use Rattle·terms.specs.Bits.{Bytes, Byte, All, Whole32}
-use Rattle·terms.specs.Fields.{le, num, field, slice, zeroBytes, allZero, flat, allOf}
-use Rattle·terms.specs.Records.{Ask, insert, delete, askKey, zeros}
-use Rattle·terms.specs.Form.{AskForm}
-use Rattle·terms.proofs.Tests.{and-left, and-right, and-true}
-use Rattle·terms.proofs.Fields.{num-le, length-le, le-field, length-slice, all-slice, zero-bytes, cuts, flat-cuts, all-of-tests, tests-all, test-passed, test-failed, Sized, cuts-flat, length-flat}
-use Rattle·batch·specs.specs.Sizes.{recordSize, insertLength, insertKind, deleteLength, deleteKind, kindAt, zeroAt, keyAt, valueAt}
-use Rattle·batch·specs.specs.Asked.{askBytes}
-use Rattle·batch·specs.specs.Batch.{headIs, isInsert, isDelete, askForm, ask}
-use Rattle·batch·specs.specs.Records.{inserts, askValue}
+use borrow.Author.Tests.{eqb-true, eq-eqb, ne_eqb}
+use Rattle.terms.specs.Bits.{Bytes, Byte, All, Whole32}
+use Rattle.terms.specs.Fields.{le, num, field, slice, zero_bytes, all_zero, flat, all_of}
+use Rattle.terms.specs.Records.{Ask, insert, delete, ask_key, zeros}
+use Rattle.terms.specs.Form.{AskForm}
+use Rattle.terms.proofs.Tests.{and_left, and_right, and_true}
+use Rattle.terms.proofs.Fields.{num_le, length_le, le_field, length_slice, all_slice, zero_bytes_lem, cuts, flat_cuts, all_of_tests, tests_all, test_passed, test_failed, Sized, cuts_flat, length_flat}
+use Rattle.batch.specs.Sizes.{record_size, insert_length, insert_kind, delete_length, delete_kind, kind_at, zero_at, key_at_lem, value_at}
+use Rattle.batch.specs.Asked.{ask_bytes}
+use Rattle.batch.specs.Batch.{head_is, is_insert, is_delete, ask_form, ask}
+use Rattle.batch.specs.Records.{inserts, ask_value}
 
 -- a record's length and kind, its fields, and their sizes
-abbrev askLength : Ask → ℕ
-askLength (insert k x) = insertLength
-askLength (delete k) = deleteLength
+abbrev ask_length : Ask → ℕ
+ask_length (insert k x) = insert_length
+ask_length (delete k) = delete_length
 
-abbrev askKind : Ask → ℕ
-askKind (insert k x) = insertKind
-askKind (delete k) = deleteKind
+abbrev ask_kind : Ask → ℕ
+ask_kind (insert k x) = insert_kind
+ask_kind (delete k) = delete_kind
 
 abbrev fields : Ask → List Bytes
-fields a = le 4 (askLength a) ∷ le 2 (askKind a) ∷ le 2 0 ∷ askKey a ∷ askValue a ∷ []
+fields a = le 4 (ask_length a) ∷ le 2 (ask_kind a) ∷ le 2 0 ∷ ask_key a ∷ ask_value a ∷ []
 
 abbrev sizes : List ℕ
 sizes = 4 ∷ 2 ∷ 2 ∷ 32 ∷ 32 ∷ []
 
-pub key-whole : (a : Ask) → AskForm a → Whole32 (askKey a)
-key-whole (insert k x) h = h .0
-key-whole (delete k) h = h
+pub key_whole : (a : Ask) → AskForm a → Whole32 (ask_key a)
+key_whole (insert k x) h = h.0
+key_whole (delete k) h = h
 
-value-length : (a : Ask) → AskForm a → length (askValue a) ≡ 32
+value_length : (a : Ask) → AskForm a → length (ask_value a) ≡ 32
 unfolding zeros
-value-length (insert k x) h = h .1 .0
-value-length (delete k) h = refl
+value_length (insert k x) h = h.1.0
+value_length (delete k) h = refl
 
 sized : (a : Ask) → AskForm a → Sized sizes (fields a)
-sized a h = (length-le 4 (askLength a), (length-le 2 (askKind a), (length-le 2 0, (key-whole a h .0, (value-length a h, tt)))))
+sized a h = (length_le 4 (ask_length a), (length_le 2 (ask_kind a), (length_le 2 0, ((key_whole a h).0, (value_length a h, tt)))))
 
-of-fields : (a : Ask) → askBytes a ≡ flat (fields a)
-unfolding askBytes
-of-fields (insert k x) = refl
-of-fields (delete k) = refl
+of_fields : (a : Ask) → ask_bytes a ≡ flat (fields a)
+unfolding ask_bytes
+of_fields (insert k x) = refl
+of_fields (delete k) = refl
 
-pub length-ask : (a : Ask) → AskForm a → length (askBytes a) ≡ recordSize
-length-ask a h = ap length (of-fields a) ∙ length-flat sizes (fields a) (sized a h)
+pub length_ask : (a : Ask) → AskForm a → length (ask_bytes a) ≡ record_size
+length_ask a h = ap length (of_fields a) ∙ length_flat sizes (fields a) (sized a h)
 
 -- field number n of the bytes of an ask
-cut : (a : Ask) → AskForm a → (n : ℕ) → getD (cuts sizes 0 (askBytes a)) n [] ≡ getD (fields a) n []
-cut a h n = ap (λ x. getD (cuts sizes 0 x) n []) (of-fields a) ∙ ap (λ l. getD l n []) (cuts-flat sizes (fields a) (sized a h))
+cut : (a : Ask) → AskForm a → (n : ℕ) → get_or (cuts sizes 0 (ask_bytes a)) n [] ≡ get_or (fields a) n []
+cut a h n = ap (λ x. get_or (cuts sizes 0 x) n []) (of_fields a) ∙ ap (λ l. get_or l n []) (cuts_flat sizes (fields a) (sized a h))
 
-length-small : (a : Ask) → askLength a < 4294967296
-length-small (insert k x) = omega arith
-length-small (delete k) = omega arith
+length_small : (a : Ask) → ask_length a < 4294967296
+length_small (insert k x) = omega arith
+length_small (delete k) = omega arith
 
-kind-small : (a : Ask) → askKind a < 65536
-kind-small (insert k x) = omega arith
-kind-small (delete k) = omega arith
+kind_small : (a : Ask) → ask_kind a < 65536
+kind_small (insert k x) = omega arith
+kind_small (delete k) = omega arith
 
 module _ (a : Ask) (h : AskForm a) where
-  length-says : field 0 4 (askBytes a) ≡ askLength a
+  length_says : field 0 4 (ask_bytes a) ≡ ask_length a
   unfolding field
-  length-says = ap num (cut a h 0) ∙ num-le 4 (askLength a) (length-small a)
+  length_says = ap num (cut a h 0) ∙ num_le 4 (ask_length a) (length_small a)
 
-  head-says : headIs (askLength a) (askKind a) (askBytes a) ≡ true
-  unfolding headIs field
-  head-says =
-      tests-all _ (
-        eq-eqb _ _ length-says,
-        (eq-eqb _ _ (ap num (cut a h 1) ∙ num-le 2 (askKind a) (kind-small a)), (eq-eqb _ _ (ap num (cut a h 2) ∙ num-le 2 0 (omega arith)), tt)),
+  head_says : head_is (ask_length a) (ask_kind a) (ask_bytes a) ≡ true
+  unfolding head_is field
+  head_says =
+      tests_all _ (
+        eq-eqb _ _ length_says,
+        (eq-eqb _ _ (ap num (cut a h 1) ∙ num_le 2 (ask_kind a) (kind_small a)), (eq-eqb _ _ (ap num (cut a h 2) ∙ num_le 2 0 (omega arith)), tt)),
       )
 
-  key-says : slice keyAt 32 (askBytes a) ≡ askKey a
-  key-says = cut a h 3
+  key_says : slice key_at_lem 32 (ask_bytes a) ≡ ask_key a
+  key_says = cut a h 3
 
-  value-says : slice valueAt 32 (askBytes a) ≡ askValue a
-  value-says = cut a h 4
+  value_says : slice value_at 32 (ask_bytes a) ≡ ask_value a
+  value_says = cut a h 4
 
 -- the head of a record, test by test
-pub head-length-off : (n k : ℕ) (x : Bytes) → (field 0 4 x ≡ n → ⊥) → headIs n k x ≡ false
-unfolding headIs
-head-length-off n k x f = test-failed _ (ne-eqb (field 0 4 x) n f)
+pub head_length_off : (n k : ℕ) (x : Bytes) → (field 0 4 x ≡ n → ⊥) → head_is n k x ≡ false
+unfolding head_is
+head_length_off n k x f = test_failed _ (ne_eqb (field 0 4 x) n f)
 
-pub head-kind-off : (n k : ℕ) (x : Bytes) → field 0 4 x ≡ n → (field kindAt 2 x ≡ k → ⊥) → headIs n k x ≡ false
-unfolding headIs
-head-kind-off n k x e f = test-passed _ (eq-eqb (field 0 4 x) n e) ∙ test-failed _ (ne-eqb (field kindAt 2 x) k f)
+pub head_kind_off : (n k : ℕ) (x : Bytes) → field 0 4 x ≡ n → (field kind_at 2 x ≡ k → ⊥) → head_is n k x ≡ false
+unfolding head_is
+head_kind_off n k x e f = test_passed _ (eq-eqb (field 0 4 x) n e) ∙ test_failed _ (ne_eqb (field kind_at 2 x) k f)
 
-pub head-zero : (n k : ℕ) (x : Bytes) → field 0 4 x ≡ n → field kindAt 2 x ≡ k → headIs n k x ≡ eqb (field zeroAt 2 x) 0
-unfolding headIs allOf
-head-zero n k x e f = rw (eq-eqb (field 0 4 x) n e, eq-eqb (field kindAt 2 x) k f) (and-true (eqb (field zeroAt 2 x) 0))
+pub head_zero : (n k : ℕ) (x : Bytes) → field 0 4 x ≡ n → field kind_at 2 x ≡ k → head_is n k x ≡ eqb (field zero_at 2 x) 0
+unfolding head_is all_of
+head_zero n k x e f = rw (eq-eqb (field 0 4 x) n e, eq-eqb (field kind_at 2 x) k f) (and_true (eqb (field zero_at 2 x) 0))
 
-pub insert-form : (a : Ask) → AskForm a → isInsert (askBytes a) ≡ inserts a
-unfolding isInsert
-insert-form (insert k x) h = head-says (insert k x) h
-insert-form (delete k) h = head-length-off insertLength insertKind (askBytes (delete k)) (λ e. omega (arith, length-says (delete k) h))
+pub insert_form : (a : Ask) → AskForm a → is_insert (ask_bytes a) ≡ inserts a
+unfolding is_insert
+insert_form (insert k x) h = head_says (insert k x) h
+insert_form (delete k) h = head_length_off insert_length insert_kind (ask_bytes (delete k)) (λ e. omega (arith, length_says (delete k) h))
 
-pub ask-form : (a : Ask) → AskForm a → askForm (askBytes a) ≡ true
-unfolding askForm isDelete zeros
-ask-form (insert k x) h = rw (insert-form (insert k x) h)
-ask-form (delete k) h = rw (insert-form (delete k) h, head-says (delete k) h, value-says (delete k) h)
+pub ask_form_lem : (a : Ask) → AskForm a → ask_form (ask_bytes a) ≡ true
+unfolding ask_form is_delete zeros
+ask_form_lem (insert k x) h = rw (insert_form (insert k x) h)
+ask_form_lem (delete k) h = rw (insert_form (delete k) h, head_says (delete k) h, value_says (delete k) h)
 
-pub ask-says : (a : Ask) → AskForm a → ask (askBytes a) ≡ a
+pub ask_says : (a : Ask) → AskForm a → ask (ask_bytes a) ≡ a
 unfolding ask
-ask-says (insert k x) h = rw (insert-form (insert k x) h, key-says (insert k x) h, value-says (insert k x) h)
-ask-says (delete k) h = rw (insert-form (delete k) h, key-says (delete k) h)
+ask_says (insert k x) h = rw (insert_form (insert k x) h, key_says (insert k x) h, value_says (insert k x) h)
+ask_says (delete k) h = rw (insert_form (delete k) h, key_says (delete k) h)
 
 -- what a record's head says, as bytes
-head-bytes : (n k : ℕ) (x : Bytes) → All Byte x → length x ≡ recordSize → headIs n k x ≡ true → flat (le 4 n ∷ le 2 k ∷ le 2 0 ∷ slice keyAt 32 x ∷ slice valueAt 32 x ∷ []) ≡ x
-unfolding headIs
-head-bytes n k x h l e =
-    let t = all-of-tests _ e in
-    let u : le 4 n ≡ slice 0 4 x = ap (le 4) (sym (eqb-true _ _ (t .0))) ∙ le-field 0 4 x (omega arith) h in
-    let v : le 2 k ≡ slice 4 2 x = ap (le 2) (sym (eqb-true _ _ (t .1 .0))) ∙ le-field kindAt 2 x (omega arith) h in
-    let w : le 2 0 ≡ slice 6 2 x = ap (le 2) (sym (eqb-true _ _ (t .1 .1 .0))) ∙ le-field zeroAt 2 x (omega arith) h in
-    rw (u, v, w) (flat-cuts sizes 0 x (omega arith))
+head_bytes : (n k : ℕ) (x : Bytes) → All Byte x → length x ≡ record_size → head_is n k x ≡ true → flat (le 4 n ∷ le 2 k ∷ le 2 0 ∷ slice key_at_lem 32 x ∷ slice value_at 32 x ∷ []) ≡ x
+unfolding head_is
+head_bytes n k x h l e =
+    let t = all_of_tests _ e in
+    let u : le 4 n ≡ slice 0 4 x = ap (le 4) (sym (eqb-true _ _ t.0)) ∙ le_field 0 4 x (omega arith) h in
+    let v : le 2 k ≡ slice 4 2 x = ap (le 2) (sym (eqb-true _ _ t.1.0)) ∙ le_field kind_at 2 x (omega arith) h in
+    let w : le 2 0 ≡ slice 6 2 x = ap (le 2) (sym (eqb-true _ _ t.1.1.0)) ∙ le_field zero_at 2 x (omega arith) h in
+    rw (u, v, w) (flat_cuts sizes 0 x (omega arith))
 
-zeros-are : zeroBytes 32 ≡ zeros
-unfolding zeros zeroBytes
-zeros-are = refl
+zeros_are : zero_bytes 32 ≡ zeros
+unfolding zeros zero_bytes
+zeros_are = refl
 
 -- a record in form is the bytes of what it asks for
-pub form-bytes : (x : Bytes) → All Byte x → length x ≡ recordSize → askForm x ≡ true → askBytes (ask x) ≡ x
-unfolding askBytes ask askForm isInsert isDelete
-form-bytes x h l e = go (headIs insertLength insertKind x) refl e
+pub form_bytes : (x : Bytes) → All Byte x → length x ≡ record_size → ask_form x ≡ true → ask_bytes (ask x) ≡ x
+unfolding ask_bytes ask ask_form is_insert is_delete
+form_bytes x h l e = go (head_is insert_length insert_kind x) refl e
   where
-    go : (t : Bool) → headIs insertLength insertKind x ≡ t → t || (headIs deleteLength deleteKind x && allZero (slice valueAt 32 x)) ≡ true → askBytes (cond t (insert (slice keyAt 32 x) (slice valueAt 32 x)) (delete (slice keyAt 32 x))) ≡ x
-    go true d f = head-bytes insertLength insertKind x h l d
+    go : (t : Bool) → head_is insert_length insert_kind x ≡ t → t || (head_is delete_length delete_kind x && all_zero (slice value_at 32 x)) ≡ true → ask_bytes (cond t (insert (slice key_at_lem 32 x) (slice value_at 32 x)) (delete (slice key_at_lem 32 x))) ≡ x
+    go true d f = head_bytes insert_length insert_kind x h l d
     go false d f =
-        let z : slice valueAt 32 x ≡ zeros =
-        zero-bytes (slice valueAt 32 x) (and-right (headIs deleteLength deleteKind x) _ f) ∙ ap zeroBytes (length-slice valueAt 32 x (omega arith)) ∙ zeros-are in
-        rw (← z) (head-bytes deleteLength deleteKind x h l (and-left (headIs deleteLength deleteKind x) _ f))
+        let z : slice value_at 32 x ≡ zeros =
+        zero_bytes_lem (slice value_at 32 x) (and_right (head_is delete_length delete_kind x) _ f) ∙ ap zero_bytes (length_slice value_at 32 x (omega arith)) ∙ zeros_are in
+        rw (← z) (head_bytes delete_length delete_kind x h l (and_left (head_is delete_length delete_kind x) _ f))
 
 -- what is read is in form
-pub ask-whole : (x : Bytes) → All Byte x → length x ≡ recordSize → AskForm (ask x)
+pub ask_whole : (x : Bytes) → All Byte x → length x ≡ record_size → AskForm (ask x)
 unfolding ask
-ask-whole x h l = go (isInsert x)
+ask_whole x h l = go (is_insert x)
   where
-    part : (i : ℕ) → i + 32 ≤ recordSize → Whole32 (slice i 32 x)
-    part i m = (length-slice i 32 x (omega arith), all-slice i 32 x h)
+    part : (i : ℕ) → i + 32 ≤ record_size → Whole32 (slice i 32 x)
+    part i m = (length_slice i 32 x (omega arith), all_slice i 32 x h)
 
-    go : (t : Bool) → AskForm (cond t (insert (slice keyAt 32 x) (slice valueAt 32 x)) (delete (slice keyAt 32 x)))
-    go true = (part keyAt (omega arith), part valueAt (omega arith))
-    go false = part keyAt (omega arith)
+    go : (t : Bool) → AskForm (cond t (insert (slice key_at_lem 32 x) (slice value_at 32 x)) (delete (slice key_at_lem 32 x)))
+    go true = (part key_at_lem (omega arith), part value_at (omega arith))
+    go false = part key_at_lem (omega arith)
 
 -- the key of a record, and whether it is an insert
-pub key-is : (x : Bytes) → askKey (ask x) ≡ slice keyAt 32 x
+pub key_is : (x : Bytes) → ask_key (ask x) ≡ slice key_at_lem 32 x
 unfolding ask
-key-is x = go (isInsert x)
+key_is x = go (is_insert x)
   where
-    go : (t : Bool) → askKey (cond t (insert (slice keyAt 32 x) (slice valueAt 32 x)) (delete (slice keyAt 32 x))) ≡ slice keyAt 32 x
+    go : (t : Bool) → ask_key (cond t (insert (slice key_at_lem 32 x) (slice value_at 32 x)) (delete (slice key_at_lem 32 x))) ≡ slice key_at_lem 32 x
     go true = refl
     go false = refl
 
-pub insert-is : (x : Bytes) → inserts (ask x) ≡ isInsert x
+pub insert_is : (x : Bytes) → inserts (ask x) ≡ is_insert x
 unfolding ask
-insert-is x = go (isInsert x)
+insert_is x = go (is_insert x)
   where
-    go : (t : Bool) → inserts (cond t (insert (slice keyAt 32 x) (slice valueAt 32 x)) (delete (slice keyAt 32 x))) ≡ t
+    go : (t : Bool) → inserts (cond t (insert (slice key_at_lem 32 x) (slice value_at 32 x)) (delete (slice key_at_lem 32 x))) ≡ t
     go true = refl
     go false = refl
 
-pub value-is : (x : Bytes) → isInsert x ≡ true → askValue (ask x) ≡ slice valueAt 32 x
+pub value_is : (x : Bytes) → is_insert x ≡ true → ask_value (ask x) ≡ slice value_at 32 x
 unfolding ask
-value-is x e = rw e
+value_is x e = rw e

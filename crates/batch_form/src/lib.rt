@@ -1,15 +1,13 @@
 // The form of a batch, document 01, 'Bytes': whether its bytes are whole records in form, and which of them are inserts.
-use batch::RECORD_SIZE;
-use batch::record_at;
-use fields::all_zero;
-use fields::get_u16;
-use fields::get_u32;
-ghost use mathlib.Core.Path.{_≡_};
-ghost use Prim.Native.Nat.{_<_};
-ghost use lib.ListN.{length};
-ghost use Rattle·batch.specs.Sizes.{recordSize};
-ghost use Rattle·batch.specs.Batch.{count, headIs, isInsert, isDelete, askForm, batchForm};
-ghost use Rattle·batch.specs.Records.{askAt, inserts};
+#![tactic(auto)]
+
+ghost use Rattle.std.specs.Prelude.{◌≡◌, ◌<◌, length};
+ghost use Rattle.batch.specs.Sizes.{record_size};
+ghost use Rattle.batch.specs.Batch.{count, head_is, is_insert, is_delete, ask_form, batch_form};
+ghost use Rattle.batch.specs.Records.{ask_at, inserts};
+
+use batch::{RECORD_SIZE, record_at};
+use fields::{all_zero, get_u16, get_u32};
 
 // Length 72 and kind 1 (insert) or length 40 and kind 2 (delete), 2 zero.
 const INSERT_LENGTH: u32 = 72;
@@ -31,8 +29,8 @@ const MOST_RECORDS: usize = 1024;
 
 // Whether a record begins with length n, kind k and 2 zero.
 fn head_is(x: &[u8], n: u32, k: u16) -> bool
-    requires { ⌜ length (now x) ≡ recordSize ⌝ }
-    ensures { λ r. ⌜ r ≡ headIs n k (now (x .entry)) ⌝ }
+    requires { length x.now ≡ record_size }
+    ensures { result ≡ head_is n k x.now }
 {
     if get_u32(x, 0) != n {
         return false;
@@ -44,15 +42,15 @@ fn head_is(x: &[u8], n: u32, k: u16) -> bool
 }
 
 fn insert_form(x: &[u8]) -> bool
-    requires { ⌜ length (now x) ≡ recordSize ⌝ }
-    ensures { λ r. ⌜ r ≡ isInsert (now (x .entry)) ⌝ }
+    requires { length x.now ≡ record_size }
+    ensures { result ≡ is_insert x.now }
 {
     head_is(x, INSERT_LENGTH, INSERT_KIND)
 }
 
 fn delete_form(x: &[u8]) -> bool
-    requires { ⌜ length (now x) ≡ recordSize ⌝ }
-    ensures { λ r. ⌜ r ≡ isDelete (now (x .entry)) ⌝ }
+    requires { length x.now ≡ record_size }
+    ensures { result ≡ is_delete x.now }
 {
     if !head_is(x, DELETE_LENGTH, DELETE_KIND) {
         return false;
@@ -62,8 +60,8 @@ fn delete_form(x: &[u8]) -> bool
 
 // Whether a record is in form.
 fn record_form(x: &[u8]) -> bool
-    requires { ⌜ length (now x) ≡ recordSize ⌝ }
-    ensures { λ r. ⌜ r ≡ askForm (now (x .entry)) ⌝ }
+    requires { length x.now ≡ record_size }
+    ensures { result ≡ ask_form x.now }
 {
     if insert_form(x) {
         return true;
@@ -73,7 +71,7 @@ fn record_form(x: &[u8]) -> bool
 
 // Whether a batch is whole records in form, at most 1,024.
 pub fn batch_form(b: &[u8]) -> bool
-    ensures { λ r. ⌜ r ≡ batchForm (now (b .entry)) ⌝ }
+    ensures { result ≡ batch_form b.now }
 {
     if b.len() % RECORD_SIZE != 0 {
         return false;
@@ -94,8 +92,8 @@ pub fn batch_form(b: &[u8]) -> bool
 
 // Whether record i of a batch is an insert.
 pub fn is_insert(b: &[u8], i: usize) -> bool
-    requires { ⌜ i < count (now b) ⌝ }
-    ensures { λ r. ⌜ r ≡ inserts (askAt i (now (b .entry))) ⌝ }
+    requires { i < count b.now }
+    ensures { result ≡ inserts (ask_at i b.now) }
 {
     insert_form(record_at(b, i))
 }

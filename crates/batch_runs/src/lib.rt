@@ -1,18 +1,17 @@
 // The order of a batch, and the runs of it that go to the left and the right child.
-use batch::RECORD_SIZE;
-use batch::key;
-use place::before;
-use place::key_bit;
-ghost use mathlib.Core.Path.{_≡_};
-ghost use mathlib.Core.Bool.{true, false};
-ghost use Prim.Native.Nat.{_≤_};
-ghost use Rattle·meaning.specs.Calls.{ascending};
-ghost use Rattle·batch.specs.Batch.{count, asks};
-ghost use Rattle·batch.specs.Runs.{RunAt, lefts, runOf};
+#![tactic(auto)]
+
+ghost use Rattle.std.specs.Prelude.{◌≡◌, true, false, ◌≤◌};
+ghost use Rattle.meaning.specs.Calls.{ascending};
+ghost use Rattle.batch.specs.Batch.{count, asks};
+ghost use Rattle.batch.specs.Runs.{RunAt, lefts, run_of};
+
+use batch::{RECORD_SIZE, key};
+use place::{before, key_bit};
 
 // Whether the keys of a batch are strictly ascending.
 pub fn batch_order(b: &[u8]) -> bool
-    ensures { λ r. ⌜ r ≡ ascending (asks (now (b .entry))) ⌝ }
+    ensures { result ≡ ascending (asks b.now) }
 {
     let n = b.len() / RECORD_SIZE;
     let mut i = 0;
@@ -29,8 +28,8 @@ pub fn batch_order(b: &[u8]) -> bool
 
 // How many records of a run go left at bit i, by halving: those that go right come after them.
 fn cut(run: &[u8], i: usize) -> usize
-    requires { ⌜ RunAt i (now run) ⌝ }
-    ensures { λ r. ⌜ (r ≡ lefts i (now (run .entry))) × (r ≤ count (now (run .entry))) ⌝ }
+    requires { RunAt i run.now }
+    ensures { (result ≡ lefts i run.now) × (result ≤ count run.now) }
 {
     let mut low = 0;
     let mut high = run.len() / RECORD_SIZE;
@@ -47,8 +46,8 @@ fn cut(run: &[u8], i: usize) -> usize
 
 // The part of a run whose keys go left at bit i.
 pub fn left_run(run: &[u8], i: usize) -> &[u8]
-    requires { ⌜ RunAt i (now run) ⌝ }
-    ensures { λ r. ⌜ now r ≡ runOf false i (now (run .entry)) ⌝ }
+    requires { RunAt i run.now }
+    ensures { result.now ≡ run_of false i run.now }
 {
     let end = RECORD_SIZE * cut(run, i);
     &run[0..end]
@@ -56,8 +55,8 @@ pub fn left_run(run: &[u8], i: usize) -> &[u8]
 
 // The part of a run whose keys go right at bit i.
 pub fn right_run(run: &[u8], i: usize) -> &[u8]
-    requires { ⌜ RunAt i (now run) ⌝ }
-    ensures { λ r. ⌜ now r ≡ runOf true i (now (run .entry)) ⌝ }
+    requires { RunAt i run.now }
+    ensures { result.now ≡ run_of true i run.now }
 {
     let at = RECORD_SIZE * cut(run, i);
     &run[at..]

@@ -1,98 +1,98 @@
 -- The theorems on what changed between two kept versions of a sound store: the list, the list the other way round, equal versions, and the
 -- visits. Their trees are shaped, so their grants ascend. Assumes nothing.
-use Prim.Native.Nat.{ℕ, _+_, _*_, _≤_}
+use Prim.Native.Nat.{ℕ, ◌+◌, ◌*◌, ◌≤◌}
 use native.Mathlib.Omega.{arith}
-use mathlib.Core.Path.{_≡_, refl, ap, _∙_}
+use mathlib.Core.Path.{◌≡◌, refl, ap, ◌∙◌}
 use mathlib.Core.Bool.{false}
-use mathlib.Core.List.{List, [], _∷_, map}
+use mathlib.Core.List.{List, [], ◌∷◌, map}
 use lib.ListN.{length}
-use Rattle·terms.specs.Bits.{Bytes}
-use Rattle·terms.specs.Records.{Store}
-use Rattle·meaning.specs.Tree.{unversioned, grantsIn}
-use Rattle·meaning.specs.Store.{rootOf, treeFound, treeFrom, treeAtVersion}
-use Rattle·meaning.specs.Sound.{Sound, Kept}
-use Rattle·meaning.proofs.Runs.{Ascending}
-use Rattle·meaning.proofs.Shaped.{shaped-ascending}
-use Rattle·histories.proofs.Trees.{kept-shaped}
-use Rattle·histories.proofs.Whole.{sound-whole}
-use Rattle·changed·specs.specs.Changes.{Change, changeKey, changed, undone, items}
-use Rattle·changed·specs.specs.Visits.{visits}
-use Rattle·changed·specs.specs.Compare.{changesOf, visitsOf}
-use Rattle·changed·specs.specs.Claims.{WhatChanged}
-use Rattle·changed·proofs.proofs.Parts.{part-changed, changed-order}
-use Rattle·changed·proofs.proofs.Lists.{changed-same, changed-undone, changed-applied}
-use Rattle·changed·proofs.proofs.Visits.{beyond, visits-comm, visits-same, visits-by-slots, at-most-all}
-use Rattle·changed·proofs.proofs.Walk.{stands-sits, listed-changed}
-use Rattle·changed·proofs.proofs.Few.{listed-counted}
+use Rattle.terms.specs.Bits.{Bytes}
+use Rattle.terms.specs.Records.{Store}
+use Rattle.meaning.specs.Tree.{unversioned, grants_in}
+use Rattle.meaning.specs.Store.{root_of, tree_found, tree_from, tree_at_version}
+use Rattle.meaning.specs.Sound.{Sound, Kept}
+use Rattle.meaning.proofs.Runs.{Ascending}
+use Rattle.meaning.proofs.Shaped.{shaped_ascending}
+use Rattle.histories.proofs.Trees.{kept_shaped}
+use Rattle.histories.proofs.Whole.{sound_whole}
+use Rattle.changed.specs.Changes.{Change, change_key, changed, undone, items}
+use Rattle.changed.specs.Visits.{visits}
+use Rattle.changed.specs.Compare.{changes_of, visits_of}
+use Rattle.changed.specs.Claims.{WhatChanged}
+use Rattle.changed.proofs.Parts.{part_changed, changed_order}
+use Rattle.changed.proofs.Lists.{changed_same, changed_undone, changed_applied}
+use Rattle.changed.proofs.Visits.{beyond, visits_comm, visits_same, visits_by_slots, at_most_all}
+use Rattle.changed.proofs.Walk.{stands_sits, listed_changed}
+use Rattle.changed.proofs.Few.{listed_counted}
 
-at-most : {n k : ℕ} → n ≤ 1 + 2 * k → k ≤ 16384 → n ≤ 32769
-at-most h l = omega arith
+at_most : {n k : ℕ} → n ≤ 1 + 2 * k → k ≤ 16384 → n ≤ 32769
+at_most h l = omega arith
 
-in-slots : {x y k n : ℕ} → x ≡ y → x ≤ 0 + 0 + k → k ≤ n → n ≤ 16384 → y ≤ 16384
-in-slots e h l m = omega arith
+in_slots : {x y k n : ℕ} → x ≡ y → x ≤ 0 + 0 + k → k ≤ n → n ≤ 16384 → y ≤ 16384
+in_slots e h l m = omega arith
 
-same-root-same-tree : (st : Store) (v w : ℕ) → rootOf st v ≡ rootOf st w → treeAtVersion st v ≡ treeAtVersion st w
-unfolding treeAtVersion
-same-root-same-tree st v w e = ap (λ o. treeFound o (λ b x. treeFrom 255 (st .slots) x (b ∷ []))) e
+same_root_same_tree : (st : Store) (v w : ℕ) → root_of st v ≡ root_of st w → tree_at_version st v ≡ tree_at_version st w
+unfolding tree_at_version
+same_root_same_tree st v w e = ap (λ o. tree_found o (λ b x. tree_from 255 st.slots x (b ∷ []))) e
 
-module _ (leafHash innerHash : Bytes → Bytes → Bytes) (st : Store) (sound : Sound leafHash innerHash st) where
-  ascends : (v : ℕ) → Kept st v → Ascending (grantsIn (treeAtVersion st v))
-  ascends v k = shaped-ascending [] (unversioned (treeAtVersion st v)) (kept-shaped leafHash innerHash st (sound-whole leafHash innerHash st sound) v k)
+module _ (leaf_hash inner_hash : Bytes → Bytes → Bytes) (st : Store) (sound : Sound leaf_hash inner_hash st) where
+  ascends : (v : ℕ) → Kept st v → Ascending (grants_in (tree_at_version st v))
+  ascends v k = shaped_ascending [] (unversioned (tree_at_version st v)) (kept_shaped leaf_hash inner_hash st (sound_whole leaf_hash inner_hash st sound) v k)
 
   -- Equal versions give none.
-  pub equal-versions-give-none : (v : ℕ) → Kept st v → changesOf st v v ≡ []
-  unfolding changesOf
-  equal-versions-give-none v k = changed-same (grantsIn (treeAtVersion st v)) (ascends v k)
+  pub equal_versions_give_none : (v : ℕ) → Kept st v → changes_of st v v ≡ []
+  unfolding changes_of
+  equal_versions_give_none v k = changed_same (grants_in (tree_at_version st v)) (ascends v k)
 
   -- Versions between two publishings share a root with the earlier one (2026-13): one visit, no record.
-  pub versions-that-share-a-root-give-none : (first second : ℕ) → Kept st second → rootOf st first ≡ rootOf st second →
-      (visitsOf st first second ≡ 1) × (items (changesOf st first second) ≡ [])
-  unfolding visitsOf changesOf
-  versions-that-share-a-root-give-none first second k e =
-      let same = same-root-same-tree st first second e in (
-        ap (λ t. visits t (treeAtVersion st second)) same ∙ visits-same (treeAtVersion st second),
-        ap (λ t. items (changed (grantsIn t) (grantsIn (treeAtVersion st second)))) same ∙ ap items (equal-versions-give-none second k),
+  pub versions_that_share_a_root_give_none : (first second : ℕ) → Kept st second → root_of st first ≡ root_of st second →
+      (visits_of st first second ≡ 1) × (items (changes_of st first second) ≡ [])
+  unfolding visits_of changes_of
+  versions_that_share_a_root_give_none first second k e =
+      let same = same_root_same_tree st first second e in (
+        ap (λ t. visits t (tree_at_version st second)) same ∙ visits_same (tree_at_version st second),
+        ap (λ t. items (changed (grants_in t) (grants_in (tree_at_version st second)))) same ∙ ap items (equal_versions_give_none second k),
       )
 
   module _ (first second : ℕ) (a : Kept st first) (b : Kept st second) where
     -- The list says what changed, in key order, each key once; applied to the first version's grants it gives the second's.
-    pub list-is-what-changed : WhatChanged (grantsIn (treeAtVersion st first)) (grantsIn (treeAtVersion st second)) (changesOf st first second)
-    unfolding changesOf
-    list-is-what-changed =
-        let x = grantsIn (treeAtVersion st first) in
-        let y = grantsIn (treeAtVersion st second) in
+    pub list_is_what_changed : WhatChanged (grants_in (tree_at_version st first)) (grants_in (tree_at_version st second)) (changes_of st first second)
+    unfolding changes_of
+    list_is_what_changed =
+        let x = grants_in (tree_at_version st first) in
+        let y = grants_in (tree_at_version st second) in
         record {
-          exact = λ k. part-changed k x y (ascends first a) (ascends second b);
-          ordered = changed-order x y (ascends first a) (ascends second b);
-          applied = changed-applied x y (ascends first a) (ascends second b);
+          exact = λ k. part_changed k x y (ascends first a) (ascends second b);
+          ordered = changed_order x y (ascends first a) (ascends second b);
+          applied = changed_applied x y (ascends first a) (ascends second b);
         }
 
     -- First and second swapped give the list that undoes it.
-    pub swapped-undoes : changesOf st second first ≡ map undone (changesOf st first second)
-    unfolding changesOf
-    swapped-undoes = changed-undone (grantsIn (treeAtVersion st first)) (grantsIn (treeAtVersion st second)) (ascends first a) (ascends second b)
+    pub swapped_undoes : changes_of st second first ≡ map undone (changes_of st first second)
+    unfolding changes_of
+    swapped_undoes = changed_undone (grants_in (tree_at_version st first)) (grants_in (tree_at_version st second)) (ascends first a) (ascends second b)
 
     -- Visits are at most 32,769.
-    pub visits-at-most-32769 : visitsOf st first second ≤ 32769
-    unfolding visitsOf
-    visits-at-most-32769 =
-        let w = sound-whole leafHash innerHash st sound in
-        at-most (visits-by-slots leafHash innerHash st (treeAtVersion st first) (treeAtVersion st second) (w .stands first a) (w .stands second b)) (w .size .1)
+    pub visits_at_most_32769 : visits_of st first second ≤ 32769
+    unfolding visits_of
+    visits_at_most_32769 =
+        let w = sound_whole leaf_hash inner_hash st sound in
+        at_most (visits_by_slots leaf_hash inner_hash st (tree_at_version st first) (tree_at_version st second) (w.stands first a) (w.stands second b)) w.size.1
 
     -- The list has at most 16,384 records: no more than the store has slots.
-    pub list-at-most-16384 : length (items (changesOf st first second)) ≤ 16384
-    unfolding changesOf
-    list-at-most-16384 =
-        let w = sound-whole leafHash innerHash st sound in
-        let t = treeAtVersion st first in
-        let u = treeAtVersion st second in
-        let few = listed-counted leafHash innerHash st 256 0 [] false false t u (w .stands first a) (w .stands second b) in
-        let same = listed-changed leafHash innerHash st (w .formed) 256 [] t u refl
-        (stands-sits leafHash innerHash st (w .formed) [] t (w .stands first a)) (stands-sits leafHash innerHash st (w .formed) [] u (w .stands second b))
+    pub list_at_most_16384 : length (items (changes_of st first second)) ≤ 16384
+    unfolding changes_of
+    list_at_most_16384 =
+        let w = sound_whole leaf_hash inner_hash st sound in
+        let t = tree_at_version st first in
+        let u = tree_at_version st second in
+        let few = listed_counted leaf_hash inner_hash st 256 0 [] false false t u (w.stands first a) (w.stands second b) in
+        let same = listed_changed leaf_hash inner_hash st w.formed 256 [] t u refl
+        (stands_sits leaf_hash inner_hash st w.formed [] t (w.stands first a)) (stands_sits leaf_hash inner_hash st w.formed [] u (w.stands second b))
         in
-        in-slots (ap (λ (cs : List Change). length (items cs)) same) few (at-most-all (beyond []) (st .slots)) (w .size .1)
+        in_slots (ap (λ (cs : List Change). length (items cs)) same) few (at_most_all (beyond []) st.slots) w.size.1
 
 -- Visits are the same for second and first.
-pub visits-symmetric : (st : Store) (first second : ℕ) → visitsOf st first second ≡ visitsOf st second first
-unfolding visitsOf
-visits-symmetric st first second = visits-comm (treeAtVersion st first) (treeAtVersion st second)
+pub visits_symmetric : (st : Store) (first second : ℕ) → visits_of st first second ≡ visits_of st second first
+unfolding visits_of
+visits_symmetric st first second = visits_comm (tree_at_version st first) (tree_at_version st second)

@@ -1,36 +1,34 @@
 -- Document 02, request 2026-01: what changed, in key order, each key once, and the list of it as batch records.
-use Prim.Native.Nat.{ℕ}
-use mathlib.Core.Bool.{true, false, cond}
-use mathlib.Core.List.{List, [], _∷_, _++_, map}
-use Rattle·terms.specs.Bits.{Bytes, sameBytes}
-use Rattle·terms.specs.Fields.{le, zeroBytes, flat}
-use Rattle·terms.specs.Records.{Grant, grant, Ask, insert, delete}
-use Rattle·meaning.specs.Tree.{smaller, greater}
-use Rattle·meaning.specs.Reading.{Verdict, present, absent, answerOf}
+use Rattle.std.specs.Prelude.{ℕ, true, false, cond, List, [], ◌∷◌, ◌++◌, map}
+use Rattle.terms.specs.Bits.{Bytes, same_bytes}
+use Rattle.terms.specs.Fields.{le, zero_bytes, flat}
+use Rattle.terms.specs.Records.{Grant, grant, Ask, insert, delete}
+use Rattle.meaning.specs.Tree.{smaller, greater}
+use Rattle.meaning.specs.Reading.{Verdict, present, absent, answer_of}
 
 -- A key is added, removed, or given another value: the old one, then the new one.
 pub data Change : Type 0 where
   added removed : Grant → Change
   another : Bytes → Bytes → Bytes → Change
 
-abbrev pub changeKey : Change → Bytes
-changeKey (added g) = g .key
-changeKey (removed g) = g .key
-changeKey (another k x y) = k
+abbrev pub change_key : Change → Bytes
+change_key (added g) = g.key
+change_key (removed g) = g.key
+change_key (another k x y) = k
 
 -- What became of a key, by what the first grants and the second say of it.
 abbrev pub between : Bytes → Verdict → Verdict → List Change
 between k absent absent = []
 between k absent (present y) = added (grant k y) ∷ []
 between k (present x) absent = removed (grant k x) ∷ []
-between k (present x) (present y) = cond (sameBytes x y) [] (another k x y ∷ [])
+between k (present x) (present y) = cond (same_bytes x y) [] (another k x y ∷ [])
 
 -- In key order: up to the first of the old grants all keys are added, then what became of its key, then what is beyond.
 abbrev pub changed : List Grant → List Grant → List Change
 changed [] new = map added new
 changed (g ∷ gs) new =
-    map added (smaller (g .key) new)
-    ++ (between (g .key) (present (g .value)) (answerOf (g .key) new) ++ changed gs (greater (g .key) new))
+    map added (smaller g.key new)
+    ++ (between g.key (present g.value) (answer_of g.key new) ++ changed gs (greater g.key new))
 
 -- The change the other way round: added and removed are exchanged, and so are the two values.
 abbrev pub undone : Change → Change
@@ -43,31 +41,31 @@ pub data Item : Type 0 where
   inserts deletes : Grant → Item
 
 -- The records of a change, where another value is a delete and then an insert; and those of all.
-abbrev pub itemsOf : Change → List Item
-itemsOf (added g) = inserts g ∷ []
-itemsOf (removed g) = deletes g ∷ []
-itemsOf (another k x y) = deletes (grant k x) ∷ inserts (grant k y) ∷ []
+abbrev pub items_of : Change → List Item
+items_of (added g) = inserts g ∷ []
+items_of (removed g) = deletes g ∷ []
+items_of (another k x y) = deletes (grant k x) ∷ inserts (grant k y) ∷ []
 
 abbrev pub items : List Change → List Item
 items [] = []
-items (c ∷ cs) = itemsOf c ++ items cs
+items (c ∷ cs) = items_of c ++ items cs
 
 -- What a record of the list asks for, as one of a batch would: the old value is left out.
-abbrev pub askOf : Item → Ask
-askOf (inserts g) = insert (g .key) (g .value)
-askOf (deletes g) = delete (g .key)
+abbrev pub ask_of : Item → Ask
+ask_of (inserts g) = insert g.key g.value
+ask_of (deletes g) = delete g.key
 
 -- Length 72, for this list also of a delete; kind (1 insert, 2 delete), 2 zero, key 32, value 32.
-unfoldable pub itemAs : ℕ → Grant → Bytes
-itemAs kind g = flat (le 4 72 ∷ le 2 kind ∷ zeroBytes 2 ∷ g .key ∷ g .value ∷ [])
+unfoldable pub item_as : ℕ → Grant → Bytes
+item_as kind g = flat (le 4 72 ∷ le 2 kind ∷ zero_bytes 2 ∷ g.key ∷ g.value ∷ [])
 
-abbrev pub itemBytes : Item → Bytes
-itemBytes (inserts g) = itemAs 1 g
-itemBytes (deletes g) = itemAs 2 g
+abbrev pub item_bytes : Item → Bytes
+item_bytes (inserts g) = item_as 1 g
+item_bytes (deletes g) = item_as 2 g
 
-abbrev pub listBytes : List Item → Bytes
-listBytes xs = flat (map itemBytes xs)
+abbrev pub list_bytes : List Item → Bytes
+list_bytes xs = flat (map item_bytes xs)
 
 -- The length by name, as the laws cite it.
-abbrev pub itemSize : ℕ
-itemSize = 72
+abbrev pub item_size : ℕ
+item_size = 72

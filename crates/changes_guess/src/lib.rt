@@ -1,19 +1,19 @@
 // The slot of a child by the guess that check left of it. A guess is looked at before it is believed, and where it is wrong the slots are searched, so a
 // wrong guess costs time and never an answer.
+#![tactic(auto)]
+
+ghost use Rattle.std.specs.Prelude.{◌≡◌, true, length};
+ghost use Rattle.place.specs.Place.{place_of, Proper};
+ghost use Rattle.layout.specs.Headers.{size_right};
+ghost use Rattle.layout.specs.Stores.{store_of};
+ghost use Rattle.lookup.specs.Lookup.{FoundIn};
+ghost use Rattle.changes_guess.specs.Apart.{Apart};
+
 use guess::holds;
-use lookup::Found;
-use lookup::find;
+use lookup::{Found, find};
 use place::Place;
 use store::wide;
 use terms::Form;
-ghost use mathlib.Core.Path.{_≡_};
-ghost use mathlib.Core.Bool.{true};
-ghost use lib.ListN.{length};
-ghost use Rattle·place.specs.Place.{placeOf, Proper};
-ghost use Rattle·layout.specs.Headers.{sizeRight};
-ghost use Rattle·layout.specs.Stores.{storeOf};
-ghost use Rattle·lookup.specs.Lookup.{FoundIn};
-ghost use Rattle·changes_guess·specs.specs.Apart.{Apart};
 
 // The guess for a side of slot i.
 pub fn guess_of(guess: &[u16; 32768], i: usize, right: bool) -> usize {
@@ -28,8 +28,8 @@ pub fn guess_of(guess: &[u16; 32768], i: usize, right: bool) -> usize {
 
 // The slot of the node (version, place), which is there once at most: slot i, if it is guessed right, or what a search finds.
 pub fn find_near(store: &[u8], i: usize, version: u32, place: Place) -> Found
-    requires { ⌜ ((sizeRight Form.Counted (length (now store)) ≡ true) × Apart (storeOf (now store))) × Proper place ⌝ }
-    ensures { λ r. ⌜ FoundIn (storeOf (now (store .entry)) .slots) version (placeOf place) r ⌝ }
+    requires { ((size_right Form.Counted (length store.now) ≡ true) × Apart (store_of store.now)) × Proper place }
+    ensures { FoundIn (store_of store.now).slots version (place_of place) result }
 {
     if holds(store, i, version, place) {
         return Found::At(i);

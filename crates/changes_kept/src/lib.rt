@@ -1,20 +1,21 @@
 // What changed between two kept versions of a sound store, request 2026-01: the two trees are walked together, once to count visits and records, once to write
 // the list.
+#![tactic(auto)]
+
+ghost use Rattle.std.specs.Prelude.{◌≡◌, true};
+ghost use Rattle.meaning.specs.Calls.{is_kept};
+ghost use Rattle.layout.specs.Stores.{store_of};
+ghost use Rattle.promises.specs.Calls.{SoundBytes};
+ghost use Rattle.changes_kept.specs.Parts.{compared_says, Compares};
+
 use changes_put::ITEM_SIZE;
 use changes_top::root_top;
-use changes_walk::Walked;
-use changes_walk::walk;
+use changes_walk::{Walked, walk};
 use place::Place;
-use refusal_numbers::NO_ROOM;
-use refusal_numbers::TOO_MANY_VISITS;
-ghost use mathlib.Core.Path.{_≡_};
-ghost use mathlib.Core.Bool.{true};
-ghost use Rattle·meaning.specs.Calls.{isKept};
-ghost use Rattle·layout.specs.Stores.{storeOf};
-ghost use Rattle·promises.specs.Calls.{SoundBytes};
-ghost use Rattle·changes_kept·specs.specs.Parts.{comparedSays, Compares};
+use refusal_numbers::{NO_ROOM, TOO_MANY_VISITS};
 
 // A number of refusal, or how many records the list has.
+#[derive(Clone, Copy)]
 pub enum Compared {
     Refused(u32),
     Listed(u32),
@@ -29,22 +30,14 @@ pub fn changes_kept(
     limit: u32,
     room: &mut [u8],
 ) -> Compared
-    requires { ⌜ SoundBytes (now store) × (isKept (storeOf (now store)) first ≡ true) × (isKept (storeOf (now store)) second ≡ true) ⌝ }
-    ensures { λ r. ⌜ Compares first second limit (now (store .entry)) (now (room .entry)) (comparedSays r) (now (room .exit)) ⌝ }
+    requires { SoundBytes store.now × (is_kept (store_of store.now) first ≡ true) × (is_kept (store_of store.now) second ≡ true) }
+    ensures { Compares first second limit store.now room.old (compared_says result) room.new }
 {
     let top = Place::top();
     let old = root_top(store, first, top);
     let new = root_top(store, second, top);
     let Walked::Done { budget: _, next: n } = walk(
-        store,
-        guess,
-        top,
-        old,
-        new,
-        limit,
-        false,
-        room,
-        0,
+        store, guess, top, old, new, limit, false, room, 0,
     ) else {
         return Compared::Refused(TOO_MANY_VISITS);
     };

@@ -1,25 +1,20 @@
 // The list of changes in a lent buffer, document 02, request 2026-01: records of 72 bytes, a delete with the old value. Where `writes` is
 // false nothing is written, and the records are only counted.
+#![tactic(auto)]
+
+ghost use Rattle.std.specs.Prelude.{◌≡◌, ◌++◌, ◌+◌, length};
+ghost use Rattle.layout.specs.Sizes.{grant_size};
+ghost use Rattle.layout.specs.Stores.{SlotWithin};
+ghost use Rattle.changed.specs.Changes.{item_size, item_as};
+ghost use Rattle.changes_top.specs.Tops.{grant_at};
+ghost use Rattle.changes_put.specs.Puts.{grant_of, two_items, end_items, put_into, Fits, Ends, Puts};
+
 use changes_top::Top;
-use fields::copy;
-use fields::put_u16;
-use fields::put_u32;
-use place::before;
-use place::same;
-use slots::grant_of;
-use slots::key_of;
-use slots::value_of;
+use fields::{copy, put_u16, put_u32};
+use place::{before, same};
+use slots::{grant_of, key_of, value_of};
 use store::slot_of;
 use terms::Form;
-ghost use mathlib.Core.Path.{_≡_};
-ghost use mathlib.Core.List.{_++_};
-ghost use Prim.Native.Nat.{_+_};
-ghost use lib.ListN.{length};
-ghost use Rattle·layout.specs.Sizes.{grantSize};
-ghost use Rattle·layout.specs.Stores.{SlotWithin};
-ghost use Rattle·changed.specs.Changes.{itemSize, itemAs};
-ghost use Rattle·changes_top.specs.Tops.{grantAt};
-ghost use Rattle·changes_put·specs.specs.Puts.{grantOf, twoItems, endItems, putInto, Fits, Ends, Puts};
 
 pub const ITEM_SIZE: usize = 72;
 
@@ -30,8 +25,8 @@ const DELETES: u16 = 2;
 
 // The 72 bytes of a record.
 fn put_item(part: &mut [u8], kind: u16, grant: &[u8])
-    requires { ⌜ (length (now part) ≡ itemSize) × (length (now grant) ≡ grantSize) ⌝ }
-    ensures { λ _. ⌜ now (part .exit) ≡ itemAs kind (grantOf (now (grant .entry))) ⌝ }
+    requires { (length part.old ≡ item_size) × (length grant.now ≡ grant_size) }
+    ensures { part.new ≡ item_as kind (grant_of grant.now) }
 {
     put_u32(part, 0, 72);
     put_u16(part, 4, kind);
@@ -41,8 +36,8 @@ fn put_item(part: &mut [u8], kind: u16, grant: &[u8])
 
 // The record with the grant of the leaf in slot i, as number `at` of the list.
 fn put_record(store: &[u8], i: usize, kind: u16, writes: bool, room: &mut [u8], at: usize)
-    requires { ⌜ SlotWithin Form.Counted i (now store) × Fits writes 1 at (now room) ⌝ }
-    ensures { λ _. ⌜ now (room .exit) ≡ putInto writes at (itemAs kind (grantAt i (now (store .entry)))) (now (room .entry)) ⌝ }
+    requires { SlotWithin Form.Counted i store.now × Fits writes 1 at room.old }
+    ensures { room.new ≡ put_into writes at (item_as kind (grant_at i store.now)) room.old }
 {
     if !writes {
         return;
@@ -67,9 +62,9 @@ fn put_pair(
     room: &mut [u8],
     at: usize,
 ) -> usize
-    requires { ⌜ (SlotWithin Form.Counted i (now store) × SlotWithin Form.Counted j (now store)) × Fits writes 2 at (now room) ⌝ }
-    ensures next { λ r. ⌜ r ≡ at + 2 ⌝ }
-    ensures bytes { λ _. ⌜ now (room .exit) ≡ putInto writes at (itemAs kind (grantAt i (now (store .entry))) ++ itemAs other (grantAt j (now (store .entry)))) (now (room .entry)) ⌝ }
+    requires { (SlotWithin Form.Counted i store.now × SlotWithin Form.Counted j store.now) × Fits writes 2 at room.old }
+    ensures next { result ≡ at + 2 }
+    ensures bytes { room.new ≡ put_into writes at (item_as kind (grant_at i store.now) ++ item_as other (grant_at j store.now)) room.old }
 {
     put_record(store, i, kind, writes, room, at);
     put_record(store, j, other, writes, room, at + 1);
@@ -78,8 +73,8 @@ fn put_pair(
 
 // What changed from the leaf in slot i to the one in slot j; answers the number of the next record.
 fn put_two(store: &[u8], i: usize, j: usize, writes: bool, room: &mut [u8], at: usize) -> usize
-    requires { ⌜ (SlotWithin Form.Counted i (now store) × SlotWithin Form.Counted j (now store)) × Fits writes (length (twoItems (now store) i j)) at (now room) ⌝ }
-    ensures { λ r. ⌜ Puts writes at (twoItems (now (store .entry)) i j) (now (room .entry)) r (now (room .exit)) ⌝ }
+    requires { (SlotWithin Form.Counted i store.now × SlotWithin Form.Counted j store.now) × Fits writes (length (two_items store.now i j)) at room.old }
+    ensures { Puts writes at (two_items store.now i j) room.old result room.new }
 {
     let old = slot_of(Form::Counted, store, i);
     let new = slot_of(Form::Counted, store, j);
@@ -104,8 +99,8 @@ pub fn put_ends(
     room: &mut [u8],
     at: usize,
 ) -> usize
-    requires { ⌜ Ends (now store) first second writes at (now room) ⌝ }
-    ensures { λ r. ⌜ Puts writes at (endItems (now (store .entry)) first second) (now (room .entry)) r (now (room .exit)) ⌝ }
+    requires { Ends store.now first second writes at room.old }
+    ensures { Puts writes at (end_items store.now first second) room.old result room.new }
 {
     let Top::Leaf(i) = first else {
         let Top::Leaf(j) = second else {

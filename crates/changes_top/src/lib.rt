@@ -1,30 +1,26 @@
 // What two trees are compared by at a place, read from lent memory, document 02, request 2026-01: the node there, or a leaf from further up
 // whose key goes there.
-use changes_guess::find_near;
-use changes_guess::guess_of;
+#![tactic(auto)]
+
+ghost use Rattle.std.specs.Prelude.{◌≡◌, true, [], ◌<◌, length};
+ghost use Rattle.meaning.specs.Store.{tree_at_version};
+ghost use Rattle.place.specs.Place.{Proper, Stands, Grown};
+ghost use Rattle.layout.specs.Headers.{size_right};
+ghost use Rattle.layout.specs.Stores.{store_of, SlotWithin};
+ghost use Rattle.changed.specs.Walk.{under};
+ghost use Rattle.changes_guess.specs.Apart.{Apart};
+ghost use Rattle.changes_top.specs.Tops.{top_in, tree_here, top_tree, TopRight, TopSays, DeeperSays};
+
+use changes_guess::{find_near, guess_of};
 use lookup::Found;
 use lookup_root::find_root;
-use place::Place;
-use place::key_bit;
+use place::{Place, key_bit};
 use slots::key_of;
 use slots_form::is_leaf;
-use store::child_version_at;
-use store::slot_of;
-use store::version_at;
+use store::{child_version_at, slot_of, version_at};
 use terms::Form;
-ghost use mathlib.Core.Path.{_≡_};
-ghost use mathlib.Core.Bool.{true};
-ghost use mathlib.Core.List.{[]};
-ghost use Prim.Native.Nat.{_<_};
-ghost use lib.ListN.{length};
-ghost use Rattle·meaning.specs.Store.{treeAtVersion};
-ghost use Rattle·place.specs.Place.{Proper, Stands, Grown};
-ghost use Rattle·layout.specs.Headers.{sizeRight};
-ghost use Rattle·layout.specs.Stores.{storeOf, SlotWithin};
-ghost use Rattle·changed.specs.Walk.{under};
-ghost use Rattle·changes_guess.specs.Apart.{Apart};
-ghost use Rattle·changes_top·specs.specs.Tops.{topIn, treeHere, topTree, TopRight, TopSays, DeeperSays};
 
+#[derive(Clone, Copy)]
 pub enum Top {
     Nothing,
     // The slot of a leaf.
@@ -40,8 +36,8 @@ pub enum Top {
 
 // The node whose record is in slot i.
 fn top_in(store: &[u8], i: usize) -> Top
-    requires { ⌜ SlotWithin Form.Counted i (now store) ⌝ }
-    ensures { λ r. ⌜ r ≡ topIn i (now (store .entry)) ⌝ }
+    requires { SlotWithin Form.Counted i store.now }
+    ensures { result ≡ top_in i store.now }
 {
     let slot = slot_of(Form::Counted, store, i);
     if is_leaf(slot) {
@@ -60,8 +56,8 @@ fn top_in(store: &[u8], i: usize) -> Top
 
 // The root of a version, at the empty place.
 pub fn root_top(store: &[u8], version: u32, top: Place) -> Top
-    requires { ⌜ (sizeRight Form.Counted (length (now store)) ≡ true) × Stands [] 0 top ⌝ }
-    ensures { λ r. ⌜ TopSays (now (store .entry)) top (treeAtVersion (storeOf (now (store .entry))) version) r ⌝ }
+    requires { (size_right Form.Counted (length store.now) ≡ true) × Stands [] 0 top }
+    ensures { TopSays store.now top (tree_at_version (store_of store.now) version) result }
 {
     let found = find_root(Form::Counted, store, version);
     let Found::At(i) = found else {
@@ -72,8 +68,8 @@ pub fn root_top(store: &[u8], version: u32, top: Place) -> Top
 
 // The child of a version at its place, which is guessed to stand in slot i; version 0 is no child.
 fn top_at(store: &[u8], i: usize, version: u32, place: Place) -> Top
-    requires { ⌜ ((sizeRight Form.Counted (length (now store)) ≡ true) × Apart (storeOf (now store))) × Proper place ⌝ }
-    ensures { λ r. ⌜ TopSays (now (store .entry)) place (treeHere (now (store .entry)) place version) r ⌝ }
+    requires { ((size_right Form.Counted (length store.now) ≡ true) × Apart (store_of store.now)) × Proper place }
+    ensures { TopSays store.now place (tree_here store.now place version) result }
 {
     if version == 0 {
         return Top::Nothing;
@@ -94,8 +90,8 @@ pub fn below(
     right: bool,
     longer: Place,
 ) -> Top
-    requires { ⌜ ((sizeRight Form.Counted (length (now store)) ≡ true) × Apart (storeOf (now store))) × (Proper place × (place .count < 256)) × TopRight (now store) place top × Grown right place longer ⌝ }
-    ensures { λ r. ⌜ TopSays (now (store .entry)) longer (under (place .count) right (topTree (now (store .entry)) place top)) r ⌝ }
+    requires { ((size_right Form.Counted (length store.now) ≡ true) × Apart (store_of store.now)) × (Proper place × (place.count < 256)) × TopRight store.now place top × Grown right place longer }
+    ensures { TopSays store.now longer (under place.count right (top_tree store.now place top)) result }
 {
     match top {
         Top::Nothing => Top::Nothing,
@@ -121,7 +117,7 @@ pub fn below(
 
 // Whether a comparison goes no deeper: the same record, or no inner node.
 pub fn no_deeper(first: Top, second: Top) -> bool
-    ensures { λ r. ⌜ DeeperSays first second r ⌝ }
+    ensures { DeeperSays first second result }
 {
     let Top::Inner {
         slot: _,

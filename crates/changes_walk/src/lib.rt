@@ -1,12 +1,14 @@
 // Two trees of a store walked together from a place on, document 02, request 2026-01.
+#![tactic(auto)]
+
+ghost use Rattle.changes_walk.specs.Walk.{Goes, WalkSays};
+
 use changes_put::put_ends;
-use changes_top::Top;
-use changes_top::below;
-use changes_top::no_deeper;
+use changes_top::{Top, below, no_deeper};
 use place::Place;
-ghost use Rattle·changes_walk·specs.specs.Walk.{Goes, WalkSays};
 
 // How a walk ended.
+#[derive(Clone, Copy)]
 pub enum Walked {
     // There were more visits than the budget.
     Passed,
@@ -27,8 +29,8 @@ pub fn walk(
     room: &mut [u8],
     at: usize,
 ) -> Walked
-    requires { ⌜ Goes (now store) place first second budget writes (now room) at ⌝ }
-    ensures { λ r. ⌜ WalkSays (now (store .entry)) place first second budget writes (now (room .entry)) at r (now (room .exit)) ⌝ }
+    requires { Goes store.now place first second budget writes room.old at }
+    ensures { WalkSays store.now place first second budget writes room.old at result room.new }
 {
     if budget == 0 {
         return Walked::Passed;

@@ -1,27 +1,26 @@
 -- What is tested above a record, in the words of the test of local's specs. No public promise reaches this file.
 -- Assumes nothing.
-use mathlib.Core.Path.{_≡_}
-use mathlib.Core.Bool.{Bool, true, _&&_}
-use Rattle·terms.specs.declared.Form.{Form}
-use Rattle·terms.specs.Bits.{Bytes}
-use Rattle·terms.specs.Records.{Body, Tally}
-use Rattle·meaning.specs.Reading.{bodyHash}
-use Rattle·local.specs.Test.{every, byRecord, linkTest, lifeCovered}
-use Rattle·hash.specs.declared.Hash.{Hash}
-use Rattle·hash.specs.Hash.{hashBytes}
-use Rattle·nodehash.specs.Node.{leafHash, innerHash}
-use Rattle·layout.specs.Stores.{storeIn}
-use Rattle·check_kin.specs.Kin.{isLeafBody}
-use Rattle·check_alone.specs.declared.Head as declared
-use Rattle·check_alone.specs.Parts.{recordOn}
+use Rattle.std.specs.Prelude.{◌≡◌, Bool, true, ◌&&◌}
+use Rattle.terms.specs.declared.Form.{Form}
+use Rattle.terms.specs.Bits.{Bytes}
+use Rattle.terms.specs.Records.{Body, Tally}
+use Rattle.meaning.specs.Reading.{body_hash}
+use Rattle.local.specs.Test.{every, by_record, link_test, life_covered}
+use Rattle.hash.specs.declared.Hash.{Hash}
+use Rattle.hash.specs.Hash.{hash_bytes}
+use Rattle.nodehash.specs.Node.{leaf_hash, inner_hash}
+use Rattle.layout.specs.Stores.{store_in}
+use Rattle.check_kin.specs.Kin.{is_leaf_body}
+use Rattle.check_alone.specs.declared.Head as declared
+use Rattle.check_alone.specs.Parts.{record_on}
 
 -- What its parents say of a record is right, and its life is covered.
-abbrev pub aboveTest : Form → Bytes → declared.Head → Body → Tally → Bool
-aboveTest fm s h o tl =
-    every (byRecord true (linkTest leafHash innerHash (storeIn fm s) (recordOn h o tl))) (storeIn fm s .slots) &&
-    lifeCovered (storeIn fm s) (recordOn h o tl)
+abbrev pub above_test : Form → Bytes → declared.Head → Body → Tally → Bool
+above_test fm s h o tl =
+    every (by_record true (link_test leaf_hash inner_hash (store_in fm s) (record_on h o tl))) (store_in fm s).slots &&
+    life_covered (store_in fm s) (record_on h o tl)
 
 -- The same of a record of that kind and hash.
 abbrev pub AboveSays : Form → Bytes → declared.Head → Bool → Hash → Bool → Type 0
-AboveSays fm s h leaf hash t = (o : Body) (tl : Tally) → isLeafBody o ≡ leaf →
-    bodyHash leafHash innerHash o ≡ hashBytes hash → t ≡ aboveTest fm s h o tl
+AboveSays fm s h leaf hash t = (o : Body) (tl : Tally) → is_leaf_body o ≡ leaf →
+    body_hash leaf_hash inner_hash o ≡ hash_bytes hash → t ≡ above_test fm s h o tl

@@ -1,23 +1,23 @@
 // What stands above a record, for the exact test of its slot, document 01, 'Sound': its parents, or, of a root, the other roots; no version is
 // tried.
+#![tactic(auto)]
+
+ghost use Rattle.check_alone.specs.Parts.{Headed};
+ghost use Rattle.check_above.specs.Above.{AboveSays};
+
 use check_alone::Head;
-use check_kin::Kept;
-use check_kin::ends_before;
-use check_kin::kept_life;
+use check_kin::{Kept, ends_before, kept_life};
 use check_link::Below;
 use check_parents::parents_right;
 use check_roots::roots_apart;
 use hash::Hash;
-use place::front;
-use place::key_bit;
+use place::{front, key_bit};
 use terms::Form;
-ghost use Rattle·check_alone.specs.Parts.{Headed};
-ghost use Rattle·check_above·specs.specs.Above.{AboveSays};
 
 // Whether a record of that kind and hash is right below its parents, or as a root beside the other roots.
 pub fn above_right(form: Form, store: &[u8], kept: Kept, head: Head, leaf: bool, hash: Hash) -> bool
-    requires { ⌜ Headed form (now store) kept head ⌝ }
-    ensures { λ r. ⌜ AboveSays form (now (store .entry)) head leaf hash r ⌝ }
+    requires { Headed form store.now kept head }
+    ensures { AboveSays form store.now head leaf hash result }
 {
     let place = head.place;
     let version = head.version;

@@ -1,40 +1,30 @@
 // Hashes ahead of the links: eight records at a time are hashed side by side, and the links that store them are known when the links are
 // looked at one by one. Which records are taken is a guess of anyone's; what is entered is right.
+#![tactic(auto)]
+
+ghost use Rattle.std.specs.Prelude.{◌≡◌, true, ◌+◌, ◌*◌, ◌<◌, ◌≤◌, length};
+ghost use Rattle.terms.specs.declared.Form.{Form};
+ghost use Rattle.terms.specs.Bits.{Bytes};
+ghost use Rattle.hash.specs.Hash.{hash_bytes};
+ghost use Rattle.layout.specs.Headers.{size_right};
+ghost use Rattle.layout.specs.Stores.{Has};
+ghost use Rattle.check_pass.specs.Passes.{Room, Passed};
+ghost use Rattle.check_hash.specs.Known.{HashIs, Known};
+ghost use Rattle.nodehash_eight.specs.Eight.{Lanes};
+ghost use Rattle.check_ahead.specs.Ahead.{LinkFits, AllSlots, AllLinks, MessageOf, HashAt};
+
 use check_hash::stored;
-use hash::Hash;
-use hash::hash_at;
-use hash::same_hash;
+use hash::{Hash, hash_at, same_hash};
 use layout::sizes::LEAF_KIND;
-use nodehash_eight::Message;
-use nodehash_eight::eight_hashes;
-use nodehash_eight::hash_in;
-use nodehash_eight::put_message;
-use slots::child_hash;
-use slots::grant_of;
-use store::child_version_at;
-use store::kind_at;
-use store::slot_count;
-use store::slot_of;
-use store::wide;
+use nodehash_eight::{Message, eight_hashes, hash_in, put_message};
+use slots::{child_hash, grant_of};
+use store::{child_version_at, kind_at, slot_count, slot_of, wide};
 use terms::Form;
-ghost use mathlib.Core.Path.{_≡_};
-ghost use mathlib.Core.Bool.{true};
-ghost use Prim.Native.Nat.{_+_, _*_, _<_, _≤_};
-ghost use lib.ListN.{length};
-ghost use Rattle·terms.specs.declared.Form.{Form};
-ghost use Rattle·terms.specs.Bits.{Bytes};
-ghost use Rattle·hash.specs.Hash.{hashBytes};
-ghost use Rattle·layout.specs.Headers.{sizeRight};
-ghost use Rattle·layout.specs.Stores.{Has};
-ghost use Rattle·check_pass.specs.Passes.{Room, Passed};
-ghost use Rattle·check_hash.specs.Known.{HashIs, Known};
-ghost use Rattle·nodehash_eight.specs.Eight.{Lanes};
-ghost use Rattle·check_ahead·specs.specs.Ahead.{LinkFits, AllSlots, AllLinks, MessageOf, HashAt};
 
 // The message of the record in slot c.
 fn message_of(form: Form, store: &[u8], c: usize) -> Message
-    requires { ⌜ Has form (now store) c ⌝ }
-    ensures { λ r. ⌜ MessageOf form (now (store .entry)) c r ⌝ }
+    requires { Has form store.now c }
+    ensures { MessageOf form store.now c result }
 {
     let s = slot_of(form, store, c);
     if kind_at(form, store, c) == LEAF_KIND {
@@ -63,8 +53,8 @@ fn enter(
     hash: Hash,
     known: &mut [u16; 16384],
 ) -> bool
-    requires { ⌜ Has form (now store) c × LinkFits form (now store) link × HashIs form (now store) c (hashBytes hash) × Known form (now store) (now known) ⌝ }
-    ensures { λ _. ⌜ Known form (now (store .entry)) (now (known .exit)) ⌝ }
+    requires { Has form store.now c × LinkFits form store.now link × HashIs form store.now c (hash_bytes hash) × Known form store.now known.old }
+    ensures { Known form store.now known.new }
 {
     if !same_hash(stored(form, store, link), hash) {
         return false;
@@ -75,8 +65,8 @@ fn enter(
 
 // The messages of the records in eight slots, each in its own lane.
 fn messages_of(form: Form, store: &[u8], slots: &[usize; 8]) -> [u32; 136]
-    requires { ⌜ AllSlots form (now store) (now slots) ⌝ }
-    ensures { λ r. ⌜ Lanes 8 (HashAt form (now (store .entry)) (now (slots .entry))) r ⌝ }
+    requires { AllSlots form store.now slots.now }
+    ensures { Lanes 8 (HashAt form store.now slots.now) result }
 {
     let mut x = [0u32; 136];
     for l in 0..8 {
@@ -94,8 +84,8 @@ fn enter_eight(
     links: &[u16; 8],
     known: &mut [u16; 16384],
 ) -> bool
-    requires { ⌜ AllSlots form (now store) (now slots) × AllLinks form (now store) (now links) × Known form (now store) (now known) ⌝ }
-    ensures { λ _. ⌜ Known form (now (store .entry)) (now (known .exit)) ⌝ }
+    requires { AllSlots form store.now slots.now × AllLinks form store.now links.now × Known form store.now known.old }
+    ensures { Known form store.now known.new }
 {
     let x = messages_of(form, store, slots);
     let h = eight_hashes(&x);
@@ -109,8 +99,8 @@ fn enter_eight(
 
 // Whether link w + 1 names a child, guessed in a slot c whose hash no link is known to store.
 fn is_wanted(form: Form, store: &[u8], n: usize, w: usize, c: usize, known: &[u16; 16384]) -> bool
-    requires { ⌜ Room form (now store) n × (w < 2 * n) ⌝ }
-    ensures { λ r. ⌜ Passed r (c < n) ⌝ }
+    requires { Room form store.now n × (w < 2 * n) }
+    ensures { Passed result (c < n) }
 {
     let j = w / 2;
     if n <= c {
@@ -137,9 +127,9 @@ fn taken(
     slots: &mut [usize; 8],
     links: &mut [u16; 8],
 ) -> usize
-    requires { ⌜ Room form (now store) n × (w < 2 * n) × (many < 8) × AllSlots form (now store) (now slots) × AllLinks form (now store) (now links) ⌝ }
-    ensures { λ _. ⌜ AllSlots form (now (store .entry)) (now (slots .exit)) × AllLinks form (now (store .entry)) (now (links .exit)) ⌝ }
-    ensures { λ r. ⌜ r ≤ 8 ⌝ }
+    requires { Room form store.now n × (w < 2 * n) × (many < 8) × AllSlots form store.now slots.old × AllLinks form store.now links.old }
+    ensures all_slots { AllSlots form store.now slots.new × AllLinks form store.now links.new }
+    ensures upper_bound { result ≤ 8 }
 {
     if !is_wanted(form, store, n, w, c, known) {
         return many;
@@ -160,9 +150,9 @@ fn next_eight(
     slots: &mut [usize; 8],
     links: &mut [u16; 8],
 ) -> usize
-    requires { ⌜ Room form (now store) n × AllSlots form (now store) (now slots) × AllLinks form (now store) (now links) ⌝ }
-    ensures { λ _. ⌜ AllSlots form (now (store .entry)) (now (slots .exit)) × AllLinks form (now (store .entry)) (now (links .exit)) ⌝ }
-    ensures { λ r. ⌜ (0 < r → from < r) ⌝ }
+    requires { Room form store.now n × AllSlots form store.now slots.old × AllLinks form store.now links.old }
+    ensures all_slots { AllSlots form store.now slots.new × AllLinks form store.now links.new }
+    ensures lower_bound { 0 < result → from < result }
 {
     let mut w = from;
     let mut many = 0;
@@ -179,8 +169,8 @@ fn next_eight(
 // The links in their order, as long as each stores the hash of the record that is guessed. Where one doesn't, the look at the links one by one
 // ends there too; the last few are left to it.
 pub fn hash_ahead(form: Form, store: &[u8], guess: &[u16; 32768], known: &mut [u16; 16384])
-    requires { ⌜ (sizeRight form (length (now store)) ≡ true) × Known form (now store) (now known) ⌝ }
-    ensures { λ _. ⌜ Known form (now (store .entry)) (now (known .exit)) ⌝ }
+    requires { (size_right form (length store.now) ≡ true) × Known form store.now known.old }
+    ensures { Known form store.now known.new }
 {
     let n = slot_count(form, store);
     let mut slots = [0usize; 8];

@@ -1,20 +1,20 @@
 // A record by itself, for the exact test of its slot, document 01, 'Sound': its version, its life, how many slots hold its node, and its
 // children; each with a pass over the slots at most.
-use check_holder::child_found;
-use check_holder::holders;
+#![tactic(auto)]
+
+ghost use Rattle.std.specs.Prelude.{◌≡◌, true, ◌&&◌, ◌<◌, length};
+ghost use Rattle.terms.specs.Bits.{left, right};
+ghost use Rattle.place.specs.Place.{Proper};
+ghost use Rattle.layout.specs.Headers.{size_right};
+ghost use Rattle.check_alone.specs.Parts.{Headed, life_right, found_on, AloneSays};
+
+use check_holder::{child_found, holders};
 use check_kin::Kept;
 use place::Place;
 use terms::Form;
-ghost use mathlib.Core.Path.{_≡_};
-ghost use mathlib.Core.Bool.{true, _&&_};
-ghost use Prim.Native.Nat.{_<_};
-ghost use lib.ListN.{length};
-ghost use Rattle·terms.specs.Bits.{left, right};
-ghost use Rattle·place.specs.Place.{Proper};
-ghost use Rattle·layout.specs.Headers.{sizeRight};
-ghost use Rattle·check_alone·specs.specs.Parts.{Headed, lifeRight, foundOn, AloneSays};
 
 // A record but for its body.
+#[derive(Clone, Copy)]
 pub struct Head {
     pub place: Place,
     pub version: u32,
@@ -23,7 +23,7 @@ pub struct Head {
 
 // Whether retired-since is 0, or above the version, above oldest and at most latest.
 pub fn life_right(kept: Kept, version: u32, retired: u32) -> bool
-    ensures { λ r. ⌜ r ≡ lifeRight kept version retired ⌝ }
+    ensures { result ≡ life_right kept version retired }
 {
     if retired == 0 {
         return true;
@@ -39,8 +39,8 @@ pub fn life_right(kept: Kept, version: u32, retired: u32) -> bool
 
 // Whether a record's version and life are right, and one slot alone holds its node.
 pub fn alone_right(form: Form, store: &[u8], kept: Kept, head: Head) -> bool
-    requires { ⌜ Headed form (now store) kept head ⌝ }
-    ensures { λ r. ⌜ AloneSays form (now (store .entry)) head r ⌝ }
+    requires { Headed form store.now kept head }
+    ensures { AloneSays form store.now head result }
 {
     if kept.latest < head.version {
         return false;
@@ -54,8 +54,8 @@ pub fn alone_right(form: Form, store: &[u8], kept: Kept, head: Head) -> bool
 
 // Whether the children of an inner record are missing or found.
 pub fn children_found(form: Form, store: &[u8], place: Place, a: u32, b: u32) -> bool
-    requires { ⌜ (sizeRight form (length (now store)) ≡ true) × Proper place × (place .count < 256) ⌝ }
-    ensures { λ r. ⌜ r ≡ (foundOn form (now (store .entry)) place left a && foundOn form (now (store .entry)) place right b) ⌝ }
+    requires { (size_right form (length store.now) ≡ true) × Proper place × (place.count < 256) }
+    ensures { result ≡ (found_on form store.now place left a && found_on form store.now place right b) }
 {
     if !child_found(form, store, a, place.left()) {
         return false;

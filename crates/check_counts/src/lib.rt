@@ -1,31 +1,29 @@
 // The leaves below the children of a record, 2026-09, by what the records found there say: 1 for a leaf, the counts summed for an inner
 // record, 0 for none. The plain form has no counts.
+#![tactic(auto)]
+
+ghost use Rattle.std.specs.Prelude.{◌≡◌, true, ◌<◌, ◌≤◌, length};
+ghost use Rattle.terms.specs.Bits.{left, right, longer};
+ghost use Rattle.terms.specs.Records.{Record, used, tally};
+ghost use Rattle.meaning.specs.Store.{find};
+ghost use Rattle.meaning.specs.Counting.{weight};
+ghost use Rattle.meaning.specs.Local.{weighed};
+ghost use Rattle.local.specs.Test.{counts_are};
+ghost use Rattle.place.specs.Place.{place_of, Proper};
+ghost use Rattle.layout.specs.Headers.{size_right};
+ghost use Rattle.layout.specs.Stores.{store_in, slot_no, Has};
+ghost use Rattle.check_counts.specs.Counts.{FitsAt};
+
 use layout::sizes::LEAF_KIND;
-use lookup::Found;
-use lookup::find;
+use lookup::{Found, find};
 use place::Place;
-use store::child_count_at;
-use store::kind_at;
+use store::{child_count_at, kind_at};
 use terms::Form;
-ghost use mathlib.Core.Path.{_≡_};
-ghost use mathlib.Core.Bool.{true};
-ghost use Prim.Native.Nat.{_<_, _≤_};
-ghost use lib.ListN.{length};
-ghost use Rattle·terms.specs.Bits.{left, right, longer};
-ghost use Rattle·terms.specs.Records.{Record, used, tally};
-ghost use Rattle·meaning.specs.Store.{find};
-ghost use Rattle·meaning.specs.Counting.{weight};
-ghost use Rattle·meaning.specs.Local.{weighed};
-ghost use Rattle·local.specs.Test.{countsAre};
-ghost use Rattle·place.specs.Place.{placeOf, Proper};
-ghost use Rattle·layout.specs.Headers.{sizeRight};
-ghost use Rattle·layout.specs.Stores.{storeIn, slotNo, Has};
-ghost use Rattle·check_counts·specs.specs.Counts.{FitsAt};
 
 // The leaves at the record in slot i.
 pub fn weight_at(form: Form, store: &[u8], i: usize) -> u64
-    requires { ⌜ Has form (now store) i ⌝ }
-    ensures { λ r. ⌜ ((q : Record) → slotNo form i (now (store .entry)) ≡ used q → r ≡ weight q) × (r ≤ 8589934590) ⌝ }
+    requires { Has form store.now i }
+    ensures { ((q : Record) → slot_no form i store.now ≡ used q → result ≡ weight q) × (result ≤ 8589934590) }
 {
     if kind_at(form, store, i) == LEAF_KIND {
         return 1;
@@ -37,8 +35,8 @@ pub fn weight_at(form: Form, store: &[u8], i: usize) -> u64
 
 // Whether a count is that of the leaves at the record in slot i; the plain form has none.
 pub fn count_fits(form: Form, store: &[u8], i: usize, count: u32) -> bool
-    requires { ⌜ Has form (now store) i ⌝ }
-    ensures { λ r. ⌜ (r ≡ true → FitsAt form (now (store .entry)) i count) ⌝ }
+    requires { Has form store.now i }
+    ensures { result ≡ true → FitsAt form store.now i count }
 {
     match form {
         Form::Plain => true,
@@ -48,8 +46,8 @@ pub fn count_fits(form: Form, store: &[u8], i: usize, count: u32) -> bool
 
 // The leaves at the node of a version and place, 0 where it is not found.
 pub fn weigh(form: Form, store: &[u8], version: u32, place: Place) -> u64
-    requires { ⌜ (sizeRight form (length (now store)) ≡ true) × Proper place ⌝ }
-    ensures { λ r. ⌜ r ≡ weighed (find version (placeOf place) (storeIn form (now (store .entry)) .slots)) ⌝ }
+    requires { (size_right form (length store.now) ≡ true) × Proper place }
+    ensures { result ≡ weighed (find version (place_of place) (store_in form store.now).slots) }
 {
     match find(form, store, version, place) {
         Found::At(i) => {
@@ -70,8 +68,8 @@ pub fn counts_right(
     lefts: u32,
     rights: u32,
 ) -> bool
-    requires { ⌜ (sizeRight form (length (now store)) ≡ true) × Proper place × (place .count < 256) ⌝ }
-    ensures { λ r. ⌜ r ≡ countsAre form (tally lefts rights) (tally (weighed (find a (longer left (placeOf place)) (storeIn form (now (store .entry)) .slots))) (weighed (find b (longer right (placeOf place)) (storeIn form (now (store .entry)) .slots)))) ⌝ }
+    requires { (size_right form (length store.now) ≡ true) × Proper place × (place.count < 256) }
+    ensures { result ≡ counts_are form (tally lefts rights) (tally (weighed (find a (longer left (place_of place)) (store_in form store.now).slots)) (weighed (find b (longer right (place_of place)) (store_in form store.now).slots))) }
 {
     match form {
         Form::Plain => true,

@@ -1,21 +1,19 @@
 // The last pass of the check: whether what the parents of each record add up to covers its kept life.
-use check_kin::Kept;
-use check_kin::ends_before;
-use check_kin::kept_life;
-use store::count_at;
-use store::retired_at;
-use store::slot_count;
-use store::version_at;
+#![tactic(auto)]
+
+ghost use Rattle.layout.specs.Stores.{Has};
+ghost use Rattle.check_kin.specs.Kin.{Keeps};
+ghost use Rattle.check_pass.specs.Passes.{Passed, Each};
+ghost use Rattle.check_cover.specs.Cover.{CoveredBy, CoveredAt};
+
+use check_kin::{Kept, ends_before, kept_life};
+use store::{count_at, retired_at, slot_count, version_at};
 use terms::Form;
-ghost use Rattle·layout.specs.Stores.{Has};
-ghost use Rattle·check_kin.specs.Kin.{Keeps};
-ghost use Rattle·check_pass.specs.Passes.{Passed, Each};
-ghost use Rattle·check_cover·specs.specs.Cover.{CoveredBy, CoveredAt};
 
 // Whether the kept life of slot i is at most a sum; a root needs none.
 fn slot_covered(form: Form, store: &[u8], kept: Kept, i: usize, sum: u32) -> bool
-    requires { ⌜ Has form (now store) i × Keeps form (now store) kept ⌝ }
-    ensures { λ r. ⌜ Passed r (CoveredBy form (now (store .entry)) sum i) ⌝ }
+    requires { Has form store.now i × Keeps form store.now kept }
+    ensures { Passed result (CoveredBy form store.now sum i) }
 {
     if count_at(form, store, i) == 0 {
         return true;
@@ -26,8 +24,8 @@ fn slot_covered(form: Form, store: &[u8], kept: Kept, i: usize, sum: u32) -> boo
 
 // How many slots, from the first on, have a kept life of at most their sum.
 pub fn covered(form: Form, store: &[u8], kept: Kept, sums: &[u32; 16384]) -> usize
-    requires { ⌜ Keeps form (now store) kept ⌝ }
-    ensures { λ r. ⌜ Each (CoveredAt form (now (store .entry)) (now (sums .entry))) r ⌝ }
+    requires { Keeps form store.now kept }
+    ensures { Each (CoveredAt form store.now sums.now) result }
 {
     let n = slot_count(form, store);
     let mut i = 0;

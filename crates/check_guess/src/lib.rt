@@ -1,22 +1,19 @@
 // A guess at the slot of each child that a record names, from a table of the slots in order. Nothing is promised of the guess but that it is
 // made; who uses it looks at what it gives. The children on one side stand in the order of their parents where the store is sound, so the
 // search for one goes on from where the last one ended.
-use hash::Hash;
-use hash::hash_at;
-use layout::sizes::INNER_BITS;
-use layout::sizes::LEAF_KIND;
+#![tactic(auto)]
+
+ghost use Rattle.std.specs.Prelude.{◌≤◌, ◌<◌};
+ghost use Rattle.check_pass.specs.Passes.{Room};
+
+use hash::{Hash, hash_at};
+use layout::sizes::{INNER_BITS, LEAF_KIND};
 use slots::bits_of;
-use store::child_version_at;
-use store::count_at;
-use store::kind_at;
-use store::slot_of;
-use store::version_at;
-use store::wide;
+use store::{child_version_at, count_at, kind_at, slot_of, version_at, wide};
 use terms::Form;
-ghost use Prim.Native.Nat.{_≤_, _<_};
-ghost use Rattle·check_pass.specs.Passes.{Room};
 
 // A node to look for: the bit count and the bits of its place, and its version.
+#[derive(Clone, Copy)]
 struct Node {
     count: u16,
     bits: Hash,
@@ -25,7 +22,7 @@ struct Node {
 
 // Whether slot i stands before a node; a slot that isn't there doesn't.
 fn stands_before(form: Form, store: &[u8], n: usize, i: usize, node: Node) -> bool
-    requires { ⌜ Room form (now store) n ⌝ }
+    requires { Room form store.now n }
 {
     if n <= i {
         return false;
@@ -62,8 +59,8 @@ fn halved(
     end: usize,
     node: Node,
 ) -> usize
-    requires { ⌜ Room form (now store) n × (from ≤ end) × (end ≤ 16384) ⌝ }
-    ensures { λ r. ⌜ r ≤ end ⌝ }
+    requires { Room form store.now n × (from ≤ end) × (end ≤ 16384) }
+    ensures { result ≤ end }
 {
     let mut low = from;
     let mut high = end;
@@ -88,8 +85,8 @@ fn galloped(
     many: usize,
     node: Node,
 ) -> usize
-    requires { ⌜ Room form (now store) n × (from ≤ many) × (many ≤ 16384) ⌝ }
-    ensures { λ r. ⌜ r ≤ many ⌝ }
+    requires { Room form store.now n × (from ≤ many) × (many ≤ 16384) }
+    ensures { result ≤ many }
 {
     let mut low = from;
     let mut high = from;
@@ -116,8 +113,8 @@ fn searched(
     many: usize,
     node: Node,
 ) -> usize
-    requires { ⌜ Room form (now store) n × (finger ≤ many) × (many ≤ 16384) ⌝ }
-    ensures { λ r. ⌜ r ≤ many ⌝ }
+    requires { Room form store.now n × (finger ≤ many) × (many ≤ 16384) }
+    ensures { result ≤ many }
 {
     if 0 < finger {
         if !stands_before(form, store, n, wide(table[finger - 1]), node) {
@@ -157,8 +154,8 @@ fn longer(bits: Hash, count: u16, right: bool) -> Hash {
 
 // Where the guess for one side of slot j stands.
 fn guess_at(j: usize, right: bool) -> usize
-    requires { ⌜ j < 65536 ⌝ }
-    ensures { λ r. ⌜ r < 131072 ⌝ }
+    requires { j < 65536 }
+    ensures { result < 131072 }
 {
     if right {
         return 2 * j + 1;
@@ -178,8 +175,8 @@ fn guess_side(
     right: bool,
     guess: &mut [u16; 32768],
 ) -> usize
-    requires { ⌜ Room form (now store) n × (finger ≤ many) × (many ≤ 16384) × (j < 65536) ⌝ }
-    ensures { λ r. ⌜ r ≤ many ⌝ }
+    requires { Room form store.now n × (finger ≤ many) × (many ≤ 16384) × (j < 65536) }
+    ensures { result ≤ many }
 {
     if n <= j {
         return finger;
@@ -222,7 +219,7 @@ pub fn guessed(
     many: usize,
     guess: &mut [u16; 32768],
 )
-    requires { ⌜ Room form (now store) n × (many ≤ 16384) ⌝ }
+    requires { Room form store.now n × (many ≤ 16384) }
 {
     let mut left = 0;
     let mut right = 0;

@@ -1,28 +1,24 @@
 // Whether a stored hash is that of a record, each record hashed once: the link whose stored hash was found to be right is kept for the
 // record's slot, and later links are compared with it. A link is one side of a slot, numbered from 1.
-use hash::Hash;
-use hash::hash_at;
-use hash::same_hash;
+#![tactic(auto)]
+
+ghost use Rattle.std.specs.Prelude.{◌≡◌, ◌≤◌};
+ghost use Rattle.hash.specs.Hash.{hash_bytes};
+ghost use Rattle.layout.specs.Stores.{Has};
+ghost use Rattle.check_pass.specs.Passes.{Passed};
+ghost use Rattle.check_hash.specs.Known.{HashIs, Stored, Known, link_slot, stored_at};
+
+use hash::{Hash, hash_at, same_hash};
 use layout::sizes::LEAF_KIND;
-use nodehash::inner_hash;
-use nodehash::leaf_hash;
-use slots::child_hash;
-use slots::grant_of;
-use store::kind_at;
-use store::slot_of;
-use store::wide;
+use nodehash::{inner_hash, leaf_hash};
+use slots::{child_hash, grant_of};
+use store::{kind_at, slot_of, wide};
 use terms::Form;
-ghost use mathlib.Core.Path.{_≡_};
-ghost use Prim.Native.Nat.{_≤_};
-ghost use Rattle·hash.specs.Hash.{hashBytes};
-ghost use Rattle·layout.specs.Stores.{Has};
-ghost use Rattle·check_pass.specs.Passes.{Passed};
-ghost use Rattle·check_hash·specs.specs.Known.{HashIs, Stored, Known, linkSlot, storedAt};
 
 // The hash that a link stores.
 pub fn stored(form: Form, store: &[u8], link: u16) -> Hash
-    requires { ⌜ (1 ≤ link) × Has form (now store) (linkSlot link) ⌝ }
-    ensures { λ r. ⌜ hashBytes r ≡ storedAt form (now (store .entry)) link ⌝ }
+    requires { (1 ≤ link) × Has form store.now (link_slot link) }
+    ensures { hash_bytes result ≡ stored_at form store.now link }
 {
     let k = wide(link) - 1;
     let s = slot_of(form, store, k / 2);
@@ -31,8 +27,8 @@ pub fn stored(form: Form, store: &[u8], link: u16) -> Hash
 
 // The hash of the record in slot c.
 fn record_hash(form: Form, store: &[u8], c: usize) -> Hash
-    requires { ⌜ Has form (now store) c ⌝ }
-    ensures { λ r. ⌜ HashIs form (now (store .entry)) c (hashBytes r) ⌝ }
+    requires { Has form store.now c }
+    ensures { HashIs form store.now c (hash_bytes result) }
 {
     let s = slot_of(form, store, c);
     if kind_at(form, store, c) == LEAF_KIND {
@@ -52,9 +48,9 @@ pub fn hash_right(
     hash: Hash,
     known: &mut [u16; 16384],
 ) -> bool
-    requires { ⌜ Has form (now store) c × Stored form (now store) link hash × Known form (now store) (now known) ⌝ }
-    ensures { λ _. ⌜ Known form (now (store .entry)) (now (known .exit)) ⌝ }
-    ensures { λ r. ⌜ Passed r (HashIs form (now (store .entry)) c (hashBytes hash)) ⌝ }
+    requires { Has form store.now c × Stored form store.now link hash × Known form store.now known.old }
+    ensures known { Known form store.now known.new }
+    ensures passed { Passed result (HashIs form store.now c (hash_bytes hash)) }
 {
     let first = known[c];
     if first != 0 {

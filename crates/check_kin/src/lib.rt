@@ -1,9 +1,11 @@
 // The life of one record among those of its store, document 01, 'Sound'.
-ghost use mathlib.Core.Path.{_≡_};
-ghost use Prim.Native.Nat.{_-_, _≤_, max};
-ghost use Rattle·check_kin·specs.specs.Kin.{endsAt};
+#![tactic(auto)]
+
+ghost use Rattle.std.specs.Prelude.{◌≡◌, ◌-◌, ◌≤◌, max};
+ghost use Rattle.check_kin.specs.Kin.{ends_at};
 
 // The kept versions of a store.
+#[derive(Clone, Copy)]
 pub struct Kept {
     pub oldest: u32,
     pub latest: u32,
@@ -11,7 +13,7 @@ pub struct Kept {
 
 // The larger of two versions.
 pub fn later(a: u32, b: u32) -> u32
-    ensures { λ r. ⌜ r ≡ max a b ⌝ }
+    ensures { result ≡ max a b }
 {
     if a < b {
         return b;
@@ -21,7 +23,7 @@ pub fn later(a: u32, b: u32) -> u32
 
 // The first version after a record's life; a record that is not retired lives past latest.
 pub fn ends_before(latest: u32, retired: u32) -> u64
-    ensures { λ r. ⌜ (r ≡ endsAt latest retired) × (r ≤ 4294967296) ⌝ }
+    ensures { (result ≡ ends_at latest retired) × (result ≤ 4294967296) }
 {
     if retired == 0 {
         return latest as u64 + 1;
@@ -31,7 +33,7 @@ pub fn ends_before(latest: u32, retired: u32) -> u64
 
 // How many kept versions there are from a record's version to the end of its life.
 pub fn kept_life(oldest: u32, version: u32, ends: u64) -> u64
-    ensures { λ r. ⌜ r ≡ ends - max oldest version ⌝ }
+    ensures { result ≡ ends - max oldest version }
 {
     let first = later(oldest, version) as u64;
     if ends <= first {

@@ -1,19 +1,17 @@
 // What one parent says of a record below it, document 01, 'Sound', from the fields of both.
-use check_kin::Kept;
-use check_kin::kept_life;
-use check_kin::later;
-use hash::Hash;
-use hash::same_hash;
+#![tactic(auto)]
+
+ghost use Rattle.std.specs.Prelude.{◌≡◌, false, cond, ◌-◌, ◌≤◌, max, eqb};
+ghost use Rattle.terms.specs.Fields.{all_of};
+ghost use Rattle.check_link.specs.Link.{link_tests, SaidOf, Short};
+
+use check_kin::{Kept, kept_life, later};
+use hash::{Hash, same_hash};
 use place::Place;
 use slots::Child;
-ghost use mathlib.Core.Path.{_≡_};
-ghost use mathlib.Core.Bool.{false, cond};
-ghost use Prim.Native.Nat.{_-_, _≤_, max};
-ghost use lib.Dec.{eqb};
-ghost use Rattle·terms.specs.Fields.{allOf};
-ghost use Rattle·check_link·specs.specs.Link.{linkTests, SaidOf, Short};
 
 // A record below the root, as its parents are asked about it: it stands one bit below `up`, on the left or the right.
+#[derive(Clone, Copy)]
 pub struct Below {
     pub up: Place,
     pub right: bool,
@@ -24,6 +22,7 @@ pub struct Below {
 }
 
 // What a slot says of a record below it.
+#[derive(Clone, Copy)]
 pub enum Said {
     // How many kept versions it lives at as a parent; it is none, or all that it says is right.
     Lived(u64),
@@ -33,7 +32,7 @@ pub enum Said {
 
 // Whether a record of that kind, beside a child of version `other`, is a lone leaf.
 fn lone_leaf(leaf: bool, other: u32) -> bool
-    ensures { λ r. ⌜ r ≡ cond leaf (eqb other 0) false ⌝ }
+    ensures { result ≡ cond leaf (eqb other 0) false }
 {
     if leaf {
         return other == 0;
@@ -43,8 +42,8 @@ fn lone_leaf(leaf: bool, other: u32) -> bool
 
 // What a parent of that version and end of life says, with the child that it names, beside a child of version `other`.
 pub fn link(kept: Kept, below: Below, version: u32, ends: u64, child: Child, other: u32) -> Said
-    requires { ⌜ ends ≤ 4294967296 ⌝ }
-    ensures { λ r. ⌜ Short r × SaidOf (allOf (linkTests kept below version ends child other)) (ends - max (kept .oldest) version) r ⌝ }
+    requires { ends ≤ 4294967296 }
+    ensures { Short result × SaidOf (all_of (link_tests kept below version ends child other)) (ends - max kept.oldest version) result }
 {
     if !same_hash(below.hash, child.hash) {
         return Said::Wrong;

@@ -1,31 +1,25 @@
 // The order of a store's records by bit count, bits and version: whether one slot stands before another, whether a table's entries ascend,
 // and whether they name each record. The roots stand first, by their versions; so that no two live together shows at each root and the next.
+#![tactic(auto)]
+
+ghost use Rattle.std.specs.Prelude.{◌≡◌, true, ◌≤◌, length};
+ghost use Rattle.terms.specs.Bits.{before};
+ghost use Rattle.layout.specs.Headers.{size_right};
+ghost use Rattle.layout.specs.Stores.{Has};
+ghost use Rattle.check_pass.specs.Passes.{Room, Passed, Each};
+ghost use Rattle.check_order.specs.Order.{node_key, key_no, PartedNo, Follows, InOrder, Named, NamedAt};
+
 use check_kin::ends_before;
-use hash::hash_at;
-use hash::same_hash;
+use hash::{hash_at, same_hash};
 use place::before;
 use slots::bits_of;
-use store::count_at;
-use store::retired_at;
-use store::slot_count;
-use store::slot_of;
-use store::version_at;
-use store::wide;
+use store::{count_at, retired_at, slot_count, slot_of, version_at, wide};
 use terms::Form;
-ghost use mathlib.Core.Path.{_≡_};
-ghost use mathlib.Core.Bool.{true};
-ghost use Prim.Native.Nat.{_≤_};
-ghost use lib.ListN.{length};
-ghost use Rattle·terms.specs.Bits.{before};
-ghost use Rattle·layout.specs.Headers.{sizeRight};
-ghost use Rattle·layout.specs.Stores.{Has};
-ghost use Rattle·check_pass.specs.Passes.{Room, Passed, Each};
-ghost use Rattle·check_order·specs.specs.Order.{nodeKey, keyNo, PartedNo, Follows, InOrder, Named, NamedAt};
 
 // Whether slot i stands before slot j: by the bit count, then by the bits, then by the version.
 fn ahead(form: Form, store: &[u8], i: usize, j: usize) -> bool
-    requires { ⌜ Has form (now store) i × Has form (now store) j ⌝ }
-    ensures { λ r. ⌜ r ≡ before (keyNo form nodeKey (now (store .entry)) i) (keyNo form nodeKey (now (store .entry)) j) ⌝ }
+    requires { Has form store.now i × Has form store.now j }
+    ensures { result ≡ before (key_no form node_key store.now i) (key_no form node_key store.now j) }
 {
     let c = count_at(form, store, i);
     let d = count_at(form, store, j);
@@ -42,8 +36,8 @@ fn ahead(form: Form, store: &[u8], i: usize, j: usize) -> bool
 
 // Whether, where slot j holds a root, the life of slot i's record ends by its version.
 fn parted(form: Form, store: &[u8], latest: u32, i: usize, j: usize) -> bool
-    requires { ⌜ Has form (now store) i × Has form (now store) j ⌝ }
-    ensures { λ r. ⌜ Passed r (PartedNo form latest (now (store .entry)) i j) ⌝ }
+    requires { Has form store.now i × Has form store.now j }
+    ensures { Passed result (PartedNo form latest store.now i j) }
 {
     if count_at(form, store, j) != 0 {
         return true;
@@ -53,8 +47,8 @@ fn parted(form: Form, store: &[u8], latest: u32, i: usize, j: usize) -> bool
 
 // Whether two entries name slots in order, two roots parted.
 fn in_order(form: Form, store: &[u8], latest: u32, n: usize, a: usize, b: usize) -> bool
-    requires { ⌜ Room form (now store) n ⌝ }
-    ensures { λ r. ⌜ Passed r (Follows form latest (now (store .entry)) a b) ⌝ }
+    requires { Room form store.now n }
+    ensures { Passed result (Follows form latest store.now a b) }
 {
     if n <= a {
         return false;
@@ -70,8 +64,8 @@ fn in_order(form: Form, store: &[u8], latest: u32, n: usize, a: usize, b: usize)
 
 // How many of the first `many` entries of a table, from the first on, name slots in ascending order, roots parted.
 pub fn ascending(form: Form, store: &[u8], latest: u32, table: &[u16; 16384], many: usize) -> usize
-    requires { ⌜ (sizeRight form (length (now store)) ≡ true) × (many ≤ 16384) ⌝ }
-    ensures { λ r. ⌜ InOrder form latest (now (store .entry)) (now (table .entry)) r ⌝ }
+    requires { (size_right form (length store.now) ≡ true) × (many ≤ 16384) }
+    ensures { InOrder form latest store.now table.now result }
 {
     let n = slot_count(form, store);
     let mut k = 1;
@@ -86,8 +80,8 @@ pub fn ascending(form: Form, store: &[u8], latest: u32, table: &[u16; 16384], ma
 
 // Whether a slot is named where its rank says.
 fn is_named(table: &[u16; 16384], many: usize, rank: u16, i: usize) -> bool
-    requires { ⌜ many ≤ 16384 ⌝ }
-    ensures { λ r. ⌜ Passed r (Named (now (table .entry)) many i) ⌝ }
+    requires { many ≤ 16384 }
+    ensures { Passed result (Named table.now many i) }
 {
     let k = wide(rank);
     if many <= k {
@@ -105,8 +99,8 @@ fn slot_named(
     rank: u16,
     i: usize,
 ) -> bool
-    requires { ⌜ Has form (now store) i × (many ≤ 16384) ⌝ }
-    ensures { λ r. ⌜ Passed r (NamedAt form (now (store .entry)) (now (table .entry)) many i) ⌝ }
+    requires { Has form store.now i × (many ≤ 16384) }
+    ensures { Passed result (NamedAt form store.now table.now many i) }
 {
     if version_at(form, store, i) == 0 {
         return true;
@@ -122,8 +116,8 @@ pub fn named(
     many: usize,
     ranks: &[u16; 16384],
 ) -> usize
-    requires { ⌜ (sizeRight form (length (now store)) ≡ true) × (many ≤ 16384) ⌝ }
-    ensures { λ r. ⌜ Each (NamedAt form (now (store .entry)) (now (table .entry)) many) r ⌝ }
+    requires { (size_right form (length store.now) ≡ true) × (many ≤ 16384) }
+    ensures { Each (NamedAt form store.now table.now many) result }
 {
     let n = slot_count(form, store);
     let mut i = 0;

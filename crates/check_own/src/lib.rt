@@ -1,32 +1,27 @@
 // The first pass of the check: whether the own fields of each slot's record are right, by its bytes alone.
+#![tactic(auto)]
+
+ghost use Rattle.std.specs.Prelude.{◌≡◌, true};
+ghost use Rattle.layout.specs.Slots.{is_leaf};
+ghost use Rattle.layout.specs.Stores.{slot_in, store_in, Has};
+ghost use Rattle.check_kin.specs.Kin.{Keeps};
+ghost use Rattle.check_pass.specs.Passes.{Passed, Each};
+ghost use Rattle.check_seen.specs.Seen.{OwnAt};
+ghost use Rattle.check_own.specs.Own.{HeadOwn, LeafOwn};
+
 use check_alone::life_right;
 use check_kin::Kept;
 use fields::all_zero;
-use place::begins;
-use place::place_at;
-use slots::bits_of;
-use slots::key_of;
-use slots_form::is_inner;
-use slots_form::is_leaf;
-use store::count_at;
-use store::retired_at;
-use store::slot_count;
-use store::slot_of;
-use store::version_at;
+use place::{begins, place_at};
+use slots::{bits_of, key_of};
+use slots_form::{is_inner, is_leaf};
+use store::{count_at, retired_at, slot_count, slot_of, version_at};
 use terms::Form;
-ghost use mathlib.Core.Path.{_≡_};
-ghost use mathlib.Core.Bool.{true};
-ghost use Rattle·layout.specs.Slots.{isLeaf};
-ghost use Rattle·layout.specs.Stores.{slotIn, storeIn, Has};
-ghost use Rattle·check_kin.specs.Kin.{Keeps};
-ghost use Rattle·check_pass.specs.Passes.{Passed, Each};
-ghost use Rattle·check_seen.specs.Seen.{OwnAt};
-ghost use Rattle·check_own·specs.specs.Own.{HeadOwn, LeafOwn};
 
 // Whether version and life of slot i's record are right.
 fn head_right(form: Form, store: &[u8], kept: Kept, i: usize) -> bool
-    requires { ⌜ Has form (now store) i ⌝ }
-    ensures { λ r. ⌜ Passed r (HeadOwn kept (slotIn form i (now (store .entry)))) ⌝ }
+    requires { Has form store.now i }
+    ensures { Passed result (HeadOwn kept (slot_in form i store.now)) }
 {
     let version = version_at(form, store, i);
     let retired = retired_at(form, store, i);
@@ -38,8 +33,8 @@ fn head_right(form: Form, store: &[u8], kept: Kept, i: usize) -> bool
 
 // The same of a leaf, and whether its key begins with its place.
 fn leaf_right(form: Form, store: &[u8], kept: Kept, i: usize) -> bool
-    requires { ⌜ Has form (now store) i × (isLeaf (slotIn form i (now store)) ≡ true) ⌝ }
-    ensures { λ r. ⌜ Passed r (LeafOwn kept (slotIn form i (now (store .entry)))) ⌝ }
+    requires { Has form store.now i × (is_leaf (slot_in form i store.now) ≡ true) }
+    ensures { Passed result (LeafOwn kept (slot_in form i store.now)) }
 {
     let s = slot_of(form, store, i);
     let count = count_at(form, store, i);
@@ -52,8 +47,8 @@ fn leaf_right(form: Form, store: &[u8], kept: Kept, i: usize) -> bool
 
 // Whether slot i is free, or holds a record whose own fields are right.
 fn slot_right(form: Form, store: &[u8], kept: Kept, i: usize) -> bool
-    requires { ⌜ Has form (now store) i × Keeps form (now store) kept ⌝ }
-    ensures { λ r. ⌜ Passed r (OwnAt (storeIn form (now (store .entry))) i) ⌝ }
+    requires { Has form store.now i × Keeps form store.now kept }
+    ensures { Passed result (OwnAt (store_in form store.now) i) }
 {
     let s = slot_of(form, store, i);
     if all_zero(s) {
@@ -70,8 +65,8 @@ fn slot_right(form: Form, store: &[u8], kept: Kept, i: usize) -> bool
 
 // How many slots, from the first on, are free or hold a record whose own fields are right.
 pub fn own_right(form: Form, store: &[u8], kept: Kept) -> usize
-    requires { ⌜ Keeps form (now store) kept ⌝ }
-    ensures { λ r. ⌜ Each (OwnAt (storeIn form (now (store .entry)))) r ⌝ }
+    requires { Keeps form store.now kept }
+    ensures { Each (OwnAt (store_in form store.now)) result }
 {
     let n = slot_count(form, store);
     let mut i = 0;

@@ -1,31 +1,24 @@
 // The parents of a record, document 01, 'Sound': what each slot says of a record below it, and whether all that is right and their kept lives add up.
-use check_kin::Kept;
-use check_kin::ends_before;
-use check_link::Below;
-use check_link::Said;
-use check_link::link;
+#![tactic(auto)]
+
+ghost use Rattle.std.specs.Prelude.{◌≡◌, cond};
+ghost use Rattle.place.specs.Place.{Proper};
+ghost use Rattle.layout.specs.Stores.{slot_in, Has};
+ghost use Rattle.check_kin.specs.Kin.{Keeps};
+ghost use Rattle.check_link.specs.Link.{Short};
+ghost use Rattle.check_parents.specs.Parents.{could_name, SlotSays, ParentsSay};
+
+use check_kin::{Kept, ends_before};
+use check_link::{Below, Said, link};
 use place::same;
-use slots::Child;
-use slots::Kind;
-use slots::bits_of;
-use slots::read_slot;
-use store::child_version_at;
-use store::count_at;
-use store::slot_count;
-use store::slot_of;
+use slots::{Child, Kind, bits_of, read_slot};
+use store::{child_version_at, count_at, slot_count, slot_of};
 use terms::Form;
-ghost use mathlib.Core.Path.{_≡_};
-ghost use mathlib.Core.Bool.{cond};
-ghost use Rattle·place.specs.Place.{Proper};
-ghost use Rattle·layout.specs.Stores.{slotIn, Has};
-ghost use Rattle·check_kin.specs.Kin.{Keeps};
-ghost use Rattle·check_link.specs.Link.{Short};
-ghost use Rattle·check_parents·specs.specs.Parents.{couldName, SlotSays, ParentsSay};
 
 // Whether slot j, were it an inner record, would name the record below it: most slots have another bit count.
 fn could_name(form: Form, store: &[u8], j: usize, below: Below) -> bool
-    requires { ⌜ Has form (now store) j ⌝ }
-    ensures { λ r. ⌜ r ≡ couldName below (slotIn form j (now (store .entry))) ⌝ }
+    requires { Has form store.now j }
+    ensures { result ≡ could_name below (slot_in form j store.now) }
 {
     let up = below.up;
     if count_at(form, store, j) as usize != up.count {
@@ -40,15 +33,15 @@ fn could_name(form: Form, store: &[u8], j: usize, below: Below) -> bool
 
 // The child on a side.
 fn on_side(side: bool, left: Child, right: Child) -> Child
-    ensures { λ r. ⌜ r ≡ cond side right left ⌝ }
+    ensures { result ≡ cond side right left }
 {
     if side { right } else { left }
 }
 
 // What slot j says of a record.
 fn parent_says(form: Form, store: &[u8], j: usize, kept: Kept, below: Below) -> Said
-    requires { ⌜ Has form (now store) j × Keeps form (now store) kept × Proper (below .up) ⌝ }
-    ensures { λ t. ⌜ Short t × SlotSays form (now (store .entry)) j below t ⌝ }
+    requires { Has form store.now j × Keeps form store.now kept × Proper below.up }
+    ensures { Short result × SlotSays form store.now j below result }
 {
     if !could_name(form, store, j, below) {
         return Said::Lived(0);
@@ -67,8 +60,8 @@ fn parent_says(form: Form, store: &[u8], j: usize, kept: Kept, below: Below) -> 
 
 // Whether all that its parents say of a record is right, and their kept lives add up to its own.
 pub fn parents_right(form: Form, store: &[u8], kept: Kept, below: Below, life: u64) -> bool
-    requires { ⌜ Keeps form (now store) kept × Proper (below .up) ⌝ }
-    ensures { λ t. ⌜ ParentsSay form (now (store .entry)) below life t ⌝ }
+    requires { Keeps form store.now kept × Proper below.up }
+    ensures { ParentsSay form store.now below life result }
 {
     let n = slot_count(form, store);
     let mut sum = 0;

@@ -1,29 +1,28 @@
 // The check in few passes over the slots: own fields, order, links, lives. It says that all is fine, or which slot to look at. Only that all
 // is fine is promised; a slot that it names is a suspect, and the exact test decides.
+#![tactic(auto)]
+
+ghost use Rattle.std.specs.Prelude.{◌≡◌, true, ◌≤◌, ◌<◌};
+ghost use Rattle.local.specs.Test.{slots_test};
+ghost use Rattle.nodehash.specs.Node.{leaf_hash, inner_hash};
+ghost use Rattle.layout.specs.Stores.{store_in, Has};
+ghost use Rattle.check_kin.specs.Kin.{Keeps};
+ghost use Rattle.check_child.specs.Child.{Ready};
+ghost use Rattle.check_quick.specs.Look.{Sure, Alone, Linked};
+
 use check_ahead::hash_ahead;
 use check_cover::covered;
 use check_guess::guessed;
 use check_kin::Kept;
-use check_order::ascending;
-use check_order::named;
+use check_order::{ascending, named};
 use check_own::own_right;
 use check_slot::slot_passes;
-use check_sort::rank;
-use check_sort::sort;
+use check_sort::{rank, sort};
 use check_tie::tie_all;
-use store::slot_count;
-use store::wide;
+use store::{slot_count, wide};
 use terms::Form;
-ghost use mathlib.Core.Path.{_≡_};
-ghost use mathlib.Core.Bool.{true};
-ghost use Prim.Native.Nat.{_≤_, _<_};
-ghost use Rattle·local.specs.Test.{slotsTest};
-ghost use Rattle·nodehash.specs.Node.{leafHash, innerHash};
-ghost use Rattle·layout.specs.Stores.{storeIn, Has};
-ghost use Rattle·check_kin.specs.Kin.{Keeps};
-ghost use Rattle·check_child.specs.Child.{Ready};
-ghost use Rattle·check_quick·specs.specs.Look.{Sure, Alone, Linked};
 
+#[derive(Clone, Copy)]
 pub enum Look {
     // Each slot passes.
     Fine,
@@ -40,8 +39,8 @@ fn in_order(
     table: &[u16; 16384],
     ranks: &[u16; 16384],
 ) -> Look
-    requires { ⌜ Ready form (now store) kept × (many ≤ 16384) ⌝ }
-    ensures { λ r. ⌜ Sure r (Alone (storeIn form (now (store .entry)))) ⌝ }
+    requires { Ready form store.now kept × (many ≤ 16384) }
+    ensures { Sure result (Alone (store_in form store.now)) }
 {
     let n = slot_count(form, store);
     let up = ascending(form, store, kept.latest, table, many);
@@ -57,8 +56,8 @@ fn in_order(
 
 // Whether no two records share their node, and no two roots live together; and a guess at the slots of the children that they name.
 fn alone(form: Form, store: &[u8], kept: Kept, guess: &mut [u16; 32768]) -> Look
-    requires { ⌜ Ready form (now store) kept ⌝ }
-    ensures { λ r. ⌜ Sure r (Alone (storeIn form (now (store .entry)))) ⌝ }
+    requires { Ready form store.now kept }
+    ensures { Sure result (Alone (store_in form store.now)) }
 {
     let n = slot_count(form, store);
     let mut table = [0u16; 16384];
@@ -71,7 +70,7 @@ fn alone(form: Form, store: &[u8], kept: Kept, guess: &mut [u16; 32768]) -> Look
 
 // Of a slot whose links are not right, the slot that fails the exact test: itself, or what was guessed for its children.
 fn suspect(form: Form, store: &[u8], kept: Kept, j: usize, a: usize, b: usize) -> usize
-    requires { ⌜ Has form (now store) j × Keeps form (now store) kept ⌝ }
+    requires { Has form store.now j × Keeps form store.now kept }
 {
     let n = slot_count(form, store);
     if !slot_passes(form, store, j, kept) {
@@ -87,8 +86,8 @@ fn suspect(form: Form, store: &[u8], kept: Kept, j: usize, a: usize, b: usize) -
 
 // Whether each record is tied to the children that it names, and its life covered by its parents.
 fn linked(form: Form, store: &[u8], kept: Kept, guess: &[u16; 32768]) -> Look
-    requires { ⌜ Ready form (now store) kept ⌝ }
-    ensures { λ r. ⌜ Sure r (Linked leafHash innerHash (storeIn form (now (store .entry)))) ⌝ }
+    requires { Ready form store.now kept }
+    ensures { Sure result (Linked leaf_hash inner_hash (store_in form store.now)) }
 {
     let n = slot_count(form, store);
     let mut known = [0u16; 16384];
@@ -110,8 +109,8 @@ fn linked(form: Form, store: &[u8], kept: Kept, guess: &[u16; 32768]) -> Look
 // Whether each slot passes; own fields first, so that no spoiled slot stands beside a right one in the order. The guesses of the children's slots stay in
 // the caller's room.
 pub fn quick_with(form: Form, store: &[u8], kept: Kept, guess: &mut [u16; 32768]) -> Look
-    requires { ⌜ Keeps form (now store) kept ⌝ }
-    ensures { λ r. ⌜ Sure r (slotsTest leafHash innerHash (storeIn form (now (store .entry))) ≡ true) ⌝ }
+    requires { Keeps form store.now kept }
+    ensures { Sure result (slots_test leaf_hash inner_hash (store_in form store.now) ≡ true) }
 {
     let n = slot_count(form, store);
     let i = own_right(form, store, kept);
@@ -127,8 +126,8 @@ pub fn quick_with(form: Form, store: &[u8], kept: Kept, guess: &mut [u16; 32768]
 
 // The same with room of its own for the guesses.
 pub fn quick(form: Form, store: &[u8], kept: Kept) -> Look
-    requires { ⌜ Keeps form (now store) kept ⌝ }
-    ensures { λ r. ⌜ Sure r (slotsTest leafHash innerHash (storeIn form (now (store .entry))) ≡ true) ⌝ }
+    requires { Keeps form store.now kept }
+    ensures { Sure result (slots_test leaf_hash inner_hash (store_in form store.now) ≡ true) }
 {
     let mut guess = [0u16; 32768];
     quick_with(form, store, kept, &mut guess)

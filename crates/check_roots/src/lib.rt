@@ -1,23 +1,19 @@
 // A root among the other roots of its store, document 01, 'Sound': no other lives when it does.
-use check_kin::Kept;
-use check_kin::ends_before;
-use check_kin::later;
+#![tactic(auto)]
+
+ghost use Rattle.std.specs.Prelude.{◌≡◌, true};
+ghost use Rattle.local.specs.Test.{every, by_record};
+ghost use Rattle.layout.specs.Stores.{store_in, slot_no, Has};
+ghost use Rattle.check_kin.specs.Kin.{Keeps, lives_apart, clear_of};
+
+use check_kin::{Kept, ends_before, later};
 use lookup::holds_record;
-use store::count_at;
-use store::retired_at;
-use store::slot_count;
-use store::slot_of;
-use store::version_at;
+use store::{count_at, retired_at, slot_count, slot_of, version_at};
 use terms::Form;
-ghost use mathlib.Core.Path.{_≡_};
-ghost use mathlib.Core.Bool.{true};
-ghost use Rattle·local.specs.Test.{every, byRecord};
-ghost use Rattle·layout.specs.Stores.{storeIn, slotNo, Has};
-ghost use Rattle·check_kin.specs.Kin.{Keeps, livesApart, clearOf};
 
 // Whether two lives, each from a version to an end, have no kept version in common, or begin at one version.
 fn lives_apart(oldest: u32, version: u32, ends: u64, other: u32, end: u64) -> bool
-    ensures { λ r. ⌜ r ≡ livesApart oldest version ends other end ⌝ }
+    ensures { result ≡ lives_apart oldest version ends other end }
 {
     if other == version {
         return true;
@@ -30,8 +26,8 @@ fn lives_apart(oldest: u32, version: u32, ends: u64, other: u32, end: u64) -> bo
 
 // Whether slot j holds no other root record that lives when the root of that version and end of life does: the cheap fields first.
 fn root_apart(form: Form, store: &[u8], j: usize, kept: Kept, version: u32, ends: u64) -> bool
-    requires { ⌜ Has form (now store) j × Keeps form (now store) kept ⌝ }
-    ensures { λ r. ⌜ r ≡ byRecord true (clearOf (storeIn form (now (store .entry))) version ends) (slotNo form j (now (store .entry))) ⌝ }
+    requires { Has form store.now j × Keeps form store.now kept }
+    ensures { result ≡ by_record true (clear_of (store_in form store.now) version ends) (slot_no form j store.now) }
 {
     if count_at(form, store, j) != 0 {
         return true;
@@ -45,8 +41,8 @@ fn root_apart(form: Form, store: &[u8], j: usize, kept: Kept, version: u32, ends
 
 // Whether no other root record lives when the root of that version and end of life does.
 pub fn roots_apart(form: Form, store: &[u8], kept: Kept, version: u32, ends: u64) -> bool
-    requires { ⌜ Keeps form (now store) kept ⌝ }
-    ensures { λ r. ⌜ r ≡ every (byRecord true (clearOf (storeIn form (now (store .entry))) version ends)) (storeIn form (now (store .entry)) .slots) ⌝ }
+    requires { Keeps form store.now kept }
+    ensures { result ≡ every (by_record true (clear_of (store_in form store.now) version ends)) (store_in form store.now).slots }
 {
     let n = slot_count(form, store);
     let mut j = 0;

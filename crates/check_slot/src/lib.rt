@@ -1,39 +1,31 @@
 // The exact test of one slot, document 01, 'Sound': its record is looked at with a pass over the slots for its node, its children and its
 // parents, or, of a root, the other roots; no version is tried, and the record is hashed once.
+#![tactic(auto)]
+
+ghost use Rattle.std.specs.Prelude.{◌≡◌, ◌<◌, length};
+ghost use Rattle.terms.specs.Records.{inner_body, tally, no_tally};
+ghost use Rattle.local.specs.Test.{record_test, slot_test, slots_test};
+ghost use Rattle.nodehash.specs.Node.{leaf_hash, inner_hash};
+ghost use Rattle.layout.specs.Slots.{leaf_in, counts_in, SlotLong};
+ghost use Rattle.layout.specs.Stores.{store_in, slot_no, Has};
+ghost use Rattle.slots.specs.Answer.{child_says};
+ghost use Rattle.check_kin.specs.Kin.{Keeps};
+ghost use Rattle.check_alone.specs.Parts.{record_on, Headed};
+
 use check_above::above_right;
-use check_alone::Head;
-use check_alone::alone_right;
-use check_alone::children_found;
+use check_alone::{Head, alone_right, children_found};
 use check_counts::counts_right;
 use check_kin::Kept;
-use nodehash::inner_hash;
-use nodehash::leaf_hash;
+use nodehash::{inner_hash, leaf_hash};
 use place::begins;
-use slots::Child;
-use slots::Kind;
-use slots::grant_of;
-use slots::key_of;
-use slots::read_slot;
-use store::child_count_at;
-use store::slot_count;
-use store::slot_of;
+use slots::{Child, Kind, grant_of, key_of, read_slot};
+use store::{child_count_at, slot_count, slot_of};
 use terms::Form;
-ghost use mathlib.Core.Path.{_≡_};
-ghost use Prim.Native.Nat.{_<_};
-ghost use lib.ListN.{length};
-ghost use Rattle·terms.specs.Records.{innerBody, tally, noTally};
-ghost use Rattle·local.specs.Test.{recordTest, slotTest, slotsTest};
-ghost use Rattle·nodehash.specs.Node.{leafHash, innerHash};
-ghost use Rattle·layout.specs.Slots.{leafIn, countsIn, SlotLong};
-ghost use Rattle·layout.specs.Stores.{storeIn, slotNo, Has};
-ghost use Rattle·slots.specs.Answer.{childSays};
-ghost use Rattle·check_kin.specs.Kin.{Keeps};
-ghost use Rattle·check_alone.specs.Parts.{recordOn, Headed};
 
 // Whether a leaf, whose slot is s, passes its tests.
 fn leaf_passes(form: Form, store: &[u8], kept: Kept, head: Head, s: &[u8]) -> bool
-    requires { ⌜ Headed form (now store) kept head × SlotLong (now s) × (countsIn (now s) ≡ noTally) ⌝ }
-    ensures { λ r. ⌜ r ≡ recordTest leafHash innerHash (storeIn form (now (store .entry))) (recordOn head (leafIn (now (s .entry))) (countsIn (now (s .entry)))) ⌝ }
+    requires { Headed form store.now kept head × SlotLong s.now × (counts_in s.now ≡ no_tally) }
+    ensures { result ≡ record_test leaf_hash inner_hash (store_in form store.now) (record_on head (leaf_in s.now) (counts_in s.now)) }
 {
     if !alone_right(form, store, kept, head) {
         return false;
@@ -56,8 +48,8 @@ fn inner_passes(
     lefts: u32,
     rights: u32,
 ) -> bool
-    requires { ⌜ Headed form (now store) kept head × (head .place .count < 256) ⌝ }
-    ensures { λ r. ⌜ r ≡ recordTest leafHash innerHash (storeIn form (now (store .entry))) (recordOn head (innerBody (childSays left) (childSays right)) (tally lefts rights)) ⌝ }
+    requires { Headed form store.now kept head × (head.place.count < 256) }
+    ensures { result ≡ record_test leaf_hash inner_hash (store_in form store.now) (record_on head (inner_body (child_says left) (child_says right)) (tally lefts rights)) }
 {
     if !alone_right(form, store, kept, head) {
         return false;
@@ -84,8 +76,8 @@ fn inner_passes(
 
 // Whether slot i is free, or holds a record that passes its tests.
 pub fn slot_passes(form: Form, store: &[u8], i: usize, kept: Kept) -> bool
-    requires { ⌜ Has form (now store) i × Keeps form (now store) kept ⌝ }
-    ensures { λ r. ⌜ r ≡ slotTest leafHash innerHash (storeIn form (now (store .entry))) (slotNo form i (now (store .entry))) ⌝ }
+    requires { Has form store.now i × Keeps form store.now kept }
+    ensures { result ≡ slot_test leaf_hash inner_hash (store_in form store.now) (slot_no form i store.now) }
 {
     let s = slot_of(form, store, i);
     let slot = read_slot(s);
@@ -110,8 +102,8 @@ pub fn slot_passes(form: Form, store: &[u8], i: usize, kept: Kept) -> bool
 
 // Whether each slot passes, by the exact test of each.
 pub fn each_passes(form: Form, store: &[u8], kept: Kept) -> bool
-    requires { ⌜ Keeps form (now store) kept ⌝ }
-    ensures { λ r. ⌜ r ≡ slotsTest leafHash innerHash (storeIn form (now (store .entry))) ⌝ }
+    requires { Keeps form store.now kept }
+    ensures { result ≡ slots_test leaf_hash inner_hash (store_in form store.now) }
 {
     let n = slot_count(form, store);
     let mut i = 0;

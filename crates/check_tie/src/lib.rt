@@ -1,39 +1,30 @@
 // Parents and their children, slot by slot: whether each child stands in the slot that was guessed, and all that is said of it is right.
-use check_child::Link;
-use check_child::Parent;
-use check_child::tie_link;
-use check_kin::Kept;
-use check_kin::ends_before;
-use check_kin::kept_life;
-use check_kin::later;
+#![tactic(auto)]
+
+ghost use Rattle.std.specs.Prelude.{◌≡◌, true};
+ghost use Rattle.layout.specs.Slots.{is_inner};
+ghost use Rattle.layout.specs.Stores.{slot_in, Has};
+ghost use Rattle.check_pass.specs.Passes.{Passed};
+ghost use Rattle.check_hash.specs.Known.{Known};
+ghost use Rattle.check_child.specs.Child.{Ready};
+ghost use Rattle.check_tie.specs.Side.{ParentIn, SlotTied, TiedTo};
+
+use check_child::{Link, Parent, tie_link};
+use check_kin::{Kept, ends_before, kept_life, later};
 use hash::hash_at;
 use layout::sizes::LEAF_KIND;
 use place::place_at;
-use slots::bits_of;
-use slots::child_hash;
-use store::child_count_at;
-use store::child_version_at;
-use store::count_at;
-use store::kind_at;
-use store::retired_at;
-use store::slot_count;
-use store::slot_of;
-use store::version_at;
-use store::wide;
+use slots::{bits_of, child_hash};
+use store::{
+    child_count_at, child_version_at, count_at, kind_at, retired_at, slot_count, slot_of,
+    version_at, wide,
+};
 use terms::Form;
-ghost use mathlib.Core.Path.{_≡_};
-ghost use mathlib.Core.Bool.{true};
-ghost use Rattle·layout.specs.Slots.{isInner};
-ghost use Rattle·layout.specs.Stores.{slotIn, Has};
-ghost use Rattle·check_pass.specs.Passes.{Passed};
-ghost use Rattle·check_hash.specs.Known.{Known};
-ghost use Rattle·check_child.specs.Child.{Ready};
-ghost use Rattle·check_tie·specs.specs.Side.{ParentIn, SlotTied, TiedTo};
 
 // The parent that the inner record in slot j is.
 fn parent_in(form: Form, store: &[u8], kept: Kept, j: usize) -> Parent
-    requires { ⌜ Has form (now store) j × (isInner (slotIn form j (now store)) ≡ true) ⌝ }
-    ensures { λ r. ⌜ ParentIn kept (slotIn form j (now (store .entry))) r ⌝ }
+    requires { Has form store.now j × (is_inner (slot_in form j store.now) ≡ true) }
+    ensures { ParentIn kept (slot_in form j store.now) result }
 {
     let up = place_at(
         bits_of(slot_of(form, store, j)),
@@ -62,9 +53,9 @@ fn tie_slot(
     known: &mut [u16; 16384],
     sums: &mut [u32; 16384],
 ) -> bool
-    requires { ⌜ Has form (now store) j × Ready form (now store) kept × Known form (now store) (now known) ⌝ }
-    ensures { λ _. ⌜ Known form (now (store .entry)) (now (known .exit)) ⌝ }
-    ensures { λ r. ⌜ Passed r (SlotTied form (now (store .entry)) j (now (sums .entry)) (now (sums .exit))) ⌝ }
+    requires { Has form store.now j × Ready form store.now kept × Known form store.now known.old }
+    ensures known { Known form store.now known.new }
+    ensures passed { Passed result (SlotTied form store.now j sums.old sums.new) }
 {
     if kind_at(form, store, j) <= LEAF_KIND {
         return true;
@@ -107,8 +98,8 @@ pub fn tie_all(
     known: &mut [u16; 16384],
     sums: &mut [u32; 16384],
 ) -> usize
-    requires { ⌜ Ready form (now store) kept × Known form (now store) (now known) ⌝ }
-    ensures { λ r. ⌜ TiedTo form (now (store .entry)) r (now (sums .entry)) (now (sums .exit)) ⌝ }
+    requires { Ready form store.now kept × Known form store.now known.old }
+    ensures { TiedTo form store.now result sums.old sums.new }
 {
     let n = slot_count(form, store);
     let mut j = 0;

@@ -1,47 +1,47 @@
 -- What the two reads answer on a sound store. From the definitions' own theorems, through the bytes. Assumes nothing.
 use Prim.Native.Nat.{ℕ}
-use mathlib.Core.Path.{_≡_, ap, sym, _∙_}
-use mathlib.Core.Logic.{_↔_}
+use mathlib.Core.Path.{◌≡◌, ap, sym, ◌∙◌}
+use mathlib.Core.Logic.{◌↔◌}
 use mathlib.Core.List.{[]}
 use mathlib.Core.Option.{none}
 use lib.ListN.{length}
 use borrow.Author.Tests.{eq-eqb}
-use Rattle·terms.specs.declared.Form.the-variants.{Counted as counted}
-use Rattle·terms.specs.Bits.{Bytes, Whole32}
-use Rattle·terms.specs.Records.{grant}
-use Rattle·meaning.specs.Tree.{grants, hash, unversioned, grantsIn}
-use Rattle·meaning.specs.Store.{treeAtVersion}
-use Rattle·meaning.specs.Sound.{Sound, Kept}
-use Rattle·meaning.specs.Calls.{accepted}
-use Rattle·meaning.specs.Reading.{present, answerOf, readKey, readRoot}
-use Rattle·shown.proofs.Standing.{version-seated}
-use Rattle·shown.proofs.Verdicts.{accepted-same}
-use Rattle·shown.proofs.Theorems.{root-read-is-hash, key-read-is-answer}
-use Rattle·nodehash.specs.Node.{leafHash, innerHash}
-use Rattle·layout.specs.Headers.{header, headerOf}
-use Rattle·layout.specs.Stores.{storeOf}
-use Rattle·contracts·specs.specs.Reads.{rootAnswer, keyAnswer}
-use Rattle·contracts·proofs.proofs.Granted.{Among, answered-among, among-answered}
+use Rattle.terms.specs.declared.Form.TheVariants.{Counted as counted}
+use Rattle.terms.specs.Bits.{Bytes, Whole32}
+use Rattle.terms.specs.Records.{grant}
+use Rattle.meaning.specs.Tree.{grants, hash, unversioned, grants_in}
+use Rattle.meaning.specs.Store.{tree_at_version}
+use Rattle.meaning.specs.Sound.{Sound, Kept}
+use Rattle.meaning.specs.Calls.{accepted}
+use Rattle.meaning.specs.Reading.{present, answer_of, read_key, read_root}
+use Rattle.shown.proofs.Standing.{version_seated}
+use Rattle.shown.proofs.Verdicts.{accepted_same}
+use Rattle.shown.proofs.Theorems.{root_read_is_hash, key_read_is_answer}
+use Rattle.nodehash.specs.Node.{leaf_hash, inner_hash}
+use Rattle.layout.specs.Headers.{header, header_of}
+use Rattle.layout.specs.Stores.{store_of}
+use Rattle.contracts.specs.Reads.{root_answer, key_answer}
+use Rattle.contracts.proofs.Granted.{Among, answered_among, among_answered}
 
 -- Bytes with a right header that hold a sound store, and a kept version:
-module _ (s : Bytes) {n o l : ℕ} (right : headerOf counted s ≡ header n o l) (ok : Sound leafHash innerHash (storeOf s)) (v : ℕ)
-    (kept : Kept (storeOf s) v) where
+module _ (s : Bytes) {n o l : ℕ} (right : header_of counted s ≡ header n o l) (ok : Sound leaf_hash inner_hash (store_of s)) (v : ℕ)
+    (kept : Kept (store_of s) v) where
   -- The root read answers the hash of the version's tree.
-  pub root-read-of-sound : rootAnswer s none v ≡ accepted (hash leafHash innerHash (unversioned (treeAtVersion (storeOf s) v)))
-  unfolding rootAnswer readRoot
-  root-read-of-sound = rw right (root-read-is-hash leafHash innerHash (storeOf s) ok v kept)
+  pub root_read_of_sound : root_answer s none v ≡ accepted (hash leaf_hash inner_hash (unversioned (tree_at_version (store_of s) v)))
+  unfolding root_answer read_root
+  root_read_of_sound = rw right (root_read_is_hash leaf_hash inner_hash (store_of s) ok v kept)
 
   -- The key read answers what the version's grants say of the key.
-  pub key-read-of-sound : (k : Bytes) → Whole32 k → keyAnswer s none v k ≡ accepted (answerOf k (grantsIn (treeAtVersion (storeOf s) v)))
-  unfolding keyAnswer readKey
-  key-read-of-sound k whole = rw (right, eq-eqb (length k) 32 (whole .0)) (key-read-is-answer leafHash innerHash (storeOf s) ok v kept k whole)
+  pub key_read_of_sound : (k : Bytes) → Whole32 k → key_answer s none v k ≡ accepted (answer_of k (grants_in (tree_at_version (store_of s) v)))
+  unfolding key_answer read_key
+  key_read_of_sound k whole = rw (right, eq-eqb (length k) 32 whole.0) (key_read_is_answer leaf_hash inner_hash (store_of s) ok v kept k whole)
 
   -- So it answers a value exactly if the version's tree has the key with that value.
-  pub value-exactly-if-granted : (k x : Bytes) → Whole32 k →
-      (keyAnswer s none v k ≡ accepted (present x)) ↔ Among (grant k x) (grantsIn (treeAtVersion (storeOf s) v))
-  value-exactly-if-granted k x whole =
-      let t = unversioned (treeAtVersion (storeOf s) v) in
-      let seated = version-seated leafHash innerHash (storeOf s) ok v kept in (
-        λ e. answered-among k x (grants t) (accepted-same _ _ (sym (key-read-of-sound k whole) ∙ e)),
-        λ m. key-read-of-sound k whole ∙ ap accepted (among-answered k x [] t seated m),
+  pub value_exactly_if_granted : (k x : Bytes) → Whole32 k →
+      (key_answer s none v k ≡ accepted (present x)) ↔ Among (grant k x) (grants_in (tree_at_version (store_of s) v))
+  value_exactly_if_granted k x whole =
+      let t = unversioned (tree_at_version (store_of s) v) in
+      let seated = version_seated leaf_hash inner_hash (store_of s) ok v kept in (
+        λ e. answered_among k x (grants t) (accepted_same _ _ (sym (key_read_of_sound k whole) ∙ e)),
+        λ m. key_read_of_sound k whole ∙ ap accepted (among_answered k x [] t seated m),
       )

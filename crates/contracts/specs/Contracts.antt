@@ -1,44 +1,41 @@
 -- The contracts of the public calls, over any bytes. Bytes that a call is lent to look at stay. Assumes nothing.
-use Prim.Native.Nat.{ℕ, _+_, _*_}
-use mathlib.Core.Path.{_≡_}
-use mathlib.Core.Bool.{cond}
-use lib.ListN.{length}
-use Rattle·terms.specs.declared.Form.the-variants.{Plain as plain, Counted as counted}
-use Rattle·terms.specs.Bits.{Bytes}
-use Rattle·meaning.specs.Store.{formatted}
-use Rattle·sha256.specs.Sha256.{sha256}
-use Rattle·layout.specs.Sizes.{roomOf}
-use Rattle·layout.specs.Headers.{sizeRight}
-use Rattle·layout.specs.Stores.{storeBytes}
-use Rattle·promises.specs.Check.{Checked}
-use Rattle·move_rules.specs.Moves as move
+use Rattle.std.specs.Prelude.{ℕ, ◌+◌, ◌*◌, ◌≡◌, cond, length}
+use Rattle.terms.specs.declared.Form.TheVariants.{Plain as plain, Counted as counted}
+use Rattle.terms.specs.Bits.{Bytes}
+use Rattle.meaning.specs.Store.{formatted}
+use Rattle.sha256.specs.Sha256.{sha256}
+use Rattle.layout.specs.Sizes.{room_of}
+use Rattle.layout.specs.Headers.{size_right}
+use Rattle.layout.specs.Stores.{store_bytes}
+use Rattle.promises.specs.Check.{Checked}
+use Rattle.move_rules.specs.Moves as move
 -- Applying a batch and pruning, also with a table of slot numbers (2026-05), which is built and told to be right.
-pub use Rattle·contracts·specs.specs.Apply.{ApplyExports as Applies}
-pub use Rattle·contracts·specs.specs.Prune.{PruneExports as Prunes}
-pub use Rattle·index_rules.specs.Tables.{Builds as Indexes, Tells as TellsIndex, FormatsBoth as FormatsIndexed}
-pub use Rattle·contracts·specs.specs.Tabled.{AppliesBoth as AppliesIndexed, PrunesBoth as PrunesIndexed}
+pub use Rattle.contracts.specs.Apply.{ApplyExports as Applies}
+pub use Rattle.contracts.specs.Prune.{PruneExports as Prunes}
+pub use Rattle.index_rules.specs.Tables.{Builds as Indexes, Tells as TellsIndex, FormatsBoth as FormatsIndexed}
+pub use Rattle.contracts.specs.Tabled.{AppliesBoth as AppliesIndexed, PrunesBoth as PrunesIndexed}
 -- Reading a root, a key, the number of grants, the grant at a position; proving; each by scans and by a table.
-pub use Rattle·contracts·specs.specs.Reads.{ReadsRoot, ReadsKey, ReadsRootBy, ReadsKeyBy}
-pub use Rattle·contracts·specs.specs.Numbers.{Counts, ReadsAt, CountsBy, ReadsAtBy}
-pub use Rattle·contracts·specs.specs.Proves.{Proves, ProvesBy}
-pub use Rattle·contracts·specs.specs.Palettes.{Palettes, PalettesBy}
+pub use Rattle.contracts.specs.Reads.{ReadsRoot, ReadsKey, ReadsRootBy, ReadsKeyBy}
+pub use Rattle.contracts.specs.Numbers.{Counts, ReadsAt, CountsBy, ReadsAtBy}
+pub use Rattle.contracts.specs.Proves.{Proves, ProvesBy}
+pub use Rattle.contracts.specs.Palettes.{Palettes, PalettesBy}
 -- Comparing two versions, rescuing, figures, the pocket prover, and what a forged proof would cost.
-pub use Rattle·contracts·specs.specs.Changes.{Changes}
-pub use Rattle·rescue_bytes.specs.Rescues.{RescueExports as Rescues}
-pub use Rattle·contracts·specs.specs.Figures.{Figures}
-pub use Rattle·contracts·specs.specs.Pocket.{PocketProves}
-pub use Rattle·contracts·specs.specs.Finds.{Finds}
+pub use Rattle.contracts.specs.Changes.{Changes}
+pub use Rattle.rescue_bytes.specs.Rescues.{RescueExports as Rescues}
+pub use Rattle.contracts.specs.Figures.{Figures}
+pub use Rattle.contracts.specs.Pocket.{PocketProves}
+pub use Rattle.contracts.specs.Finds.{Finds}
 -- Checking a proof, many at once, one of the pocket profile and one of a shelf; messages written and read.
-pub use Rattle·verify_rules.specs.Verify.{Verifies}
-pub use Rattle·verify_rows.specs.Rows.{VerifiesMany}
-pub use Rattle·verify_rules.specs.Pocket.{PocketVerifies}
-pub use Rattle·shelf_rules.specs.Shelf.{ShelfVerifies}
-pub use Rattle·message_rules.specs.Contracts.{WritesMessage, ReadsMessage}
+pub use Rattle.verify_rules.specs.Verify.{Verifies}
+pub use Rattle.verify_rows.specs.Rows.{VerifiesMany}
+pub use Rattle.verify_rules.specs.Pocket.{PocketVerifies}
+pub use Rattle.shelf_rules.specs.Shelf.{ShelfVerifies}
+pub use Rattle.message_rules.specs.Contracts.{WritesMessage, ReadsMessage}
 
 -- Formatting the bytes s answers r, 1 for a wrong size, and leaves the bytes t: a fresh store, or s where refused.
 pub record Formats (s : Bytes) (r : ℕ) (t : Bytes) : Type 0 where
-  pub answer : r ≡ cond (sizeRight counted (length s)) 0 1
-  pub bytes : t ≡ cond (sizeRight counted (length s)) (storeBytes (formatted (roomOf counted (length s)))) s
+  pub answer : r ≡ cond (size_right counted (length s)) 0 1
+  pub bytes : t ≡ cond (size_right counted (length s)) (store_bytes (formatted (room_of counted (length s)))) s
 
 -- Checking the bytes s answers r.
 abbrev pub Checks : Bytes → ℕ → Type 0

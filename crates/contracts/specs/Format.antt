@@ -1,17 +1,15 @@
 -- What format answers and leaves, as the code says it. Assumes nothing.
-use Prim.Native.Nat.{ℕ}
-use mathlib.Core.Bool.{cond}
-use lib.ListN.{length}
-use Rattle·terms.specs.declared.Form.the-variants.{Counted as counted}
-use Rattle·terms.specs.Bits.{Bytes}
-use Rattle·meaning.specs.Store.{formatted}
-use Rattle·layout.specs.Sizes.{roomOf}
-use Rattle·layout.specs.Headers.{sizeRight}
-use Rattle·layout.specs.Stores.{storeBytes}
+use Rattle.std.specs.Prelude.{ℕ, cond, length}
+use Rattle.terms.specs.declared.Form.TheVariants.{Counted as counted}
+use Rattle.terms.specs.Bits.{Bytes}
+use Rattle.meaning.specs.Store.{formatted}
+use Rattle.layout.specs.Sizes.{room_of}
+use Rattle.layout.specs.Headers.{size_right}
+use Rattle.layout.specs.Stores.{store_bytes}
 
-abbrev pub formatAnswer : Bytes → ℕ
-formatAnswer s = cond (sizeRight counted (length s)) 0 1
+abbrev pub format_answer : Bytes → ℕ
+format_answer s = cond (size_right counted (length s)) 0 1
 
 -- The store's bytes afterwards; refused, as they were.
-abbrev pub formatBytes : Bytes → Bytes
-formatBytes s = cond (sizeRight counted (length s)) (storeBytes (formatted (roomOf counted (length s)))) s
+abbrev pub format_bytes : Bytes → Bytes
+format_bytes s = cond (size_right counted (length s)) (store_bytes (formatted (room_of counted (length s)))) s

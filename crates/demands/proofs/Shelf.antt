@@ -1,24 +1,24 @@
 -- The check of a shelf's proof over its contract: two outcomes are equal, each number of refusal is given exactly if its
 -- row deserves it, a refused call writes nothing. Assumes nothing.
 use Prim.Native.Nat.{ℕ}
-use mathlib.Core.Path.{_≡_, refl, sym, subst}
-use Rattle·terms.specs.Bits.{Bytes}
-use Rattle·meaning.proofs.Told.{seen, exports-kept, one-exports}
-use Rattle·shelf_rules.proofs.Told.{one-shelf-told}
-use Rattle·refusals.specs.Exactly.{Exactly}
-use Rattle·refusals.proofs.Exactly.{First, exactly}
-use Rattle·refusals.proofs.Shelf.{shelf-first}
-use Rattle·contracts.specs.Contracts.{ShelfVerifies}
-use Rattle·refusals.specs.Tables.{shelfVerifyRows}
+use mathlib.Core.Path.{◌≡◌, refl, sym, subst}
+use Rattle.terms.specs.Bits.{Bytes}
+use Rattle.meaning.proofs.Told.{seen, exports_kept, one_exports}
+use Rattle.shelf_rules.proofs.Told.{one_shelf_told}
+use Rattle.refusals.specs.Exactly.{Exactly}
+use Rattle.refusals.proofs.Exactly.{First, exactly}
+use Rattle.refusals.proofs.Shelf.{shelf_first}
+use Rattle.contracts.specs.Contracts.{ShelfVerifies}
+use Rattle.refusals.specs.Tables.{shelf_verify_rows}
 
-pub one-shelf-verify : {a b c : ℕ} {root k x f g h : Bytes} → ShelfVerifies root c k x f a g → ShelfVerifies root c k x f b h →
+pub one_shelf_verify : {a b c : ℕ} {root k x f g h : Bytes} → ShelfVerifies root c k x f a g → ShelfVerifies root c k x f b h →
     (a ≡ b) × (g ≡ h)
-one-shelf-verify {c = c} {root} {k} {x} v w = one-exports (one-shelf-told root c k x) v w
+one_shelf_verify {c = c} {root} {k} {x} v w = one_exports (one_shelf_told root c k x) v w
 
 -- 12, 21, 10, 11.
-pub shelf-verify-exactly : {root k x f : Bytes} {b r : ℕ} {g : Bytes} → ShelfVerifies root b k x f r g → Exactly (shelfVerifyRows root b k x) r
-shelf-verify-exactly {root} {k} {x} {b = b} {r} w =
-    exactly (shelfVerifyRows root b k x) r refl (subst (First (shelfVerifyRows root b k x)) (sym (seen w .exported .number)) (shelf-first root b k x (seen w .said)))
+pub shelf_verify_exactly : {root k x f : Bytes} {b r : ℕ} {g : Bytes} → ShelfVerifies root b k x f r g → Exactly (shelf_verify_rows root b k x) r
+shelf_verify_exactly {root} {k} {x} {b = b} {r} w =
+    exactly (shelf_verify_rows root b k x) r refl (subst (First (shelf_verify_rows root b k x)) (sym (seen w).exported.number) (shelf_first root b k x (seen w).said))
 
-pub refused-shelf-verify-writes-nothing : {root k x f : Bytes} {b r : ℕ} {g : Bytes} → ShelfVerifies root b k x f r g → (r ≡ 0 → ⊥) → g ≡ f
-refused-shelf-verify-writes-nothing w = exports-kept w
+pub refused_shelf_verify_writes_nothing : {root k x f : Bytes} {b r : ℕ} {g : Bytes} → ShelfVerifies root b k x f r g → (r ≡ 0 → ⊥) → g ≡ f
+refused_shelf_verify_writes_nothing w = exports_kept w

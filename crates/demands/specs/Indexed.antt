@@ -1,31 +1,26 @@
 -- Document 02, 2026-05: the reads by a table of slot numbers lent with the store. Assumes nothing.
-use Prim.Native.Nat.{ℕ}
-use mathlib.Core.Path.{_≡_}
-use mathlib.Core.Bool.{true, cond}
-use mathlib.Core.List.{List, [], _∷_}
-use mathlib.Core.Option.{some}
-use lib.ListN.{length}
-use lib.Dec.{eqb}
-use Rattle·terms.specs.declared.Form.the-variants.{Counted as counted}
-use Rattle·terms.specs.Bits.{Bytes}
-use Rattle·meaning.specs.Calls.{isKept}
-use Rattle·index_reads.specs.Matching.{NoTwoMatch}
-use Rattle·layout.specs.Stores.{storeOf}
-use Rattle·refusals.specs.Exactly.{Table}
-use Rattle·refusals.specs.Tables.{HasSlots, WrongSize}
-use Rattle·contracts.specs.Contracts.{ReadsRoot, ReadsKey, Counts, ReadsAt, Proves, Palettes}
-use Rattle·contracts.specs.Contracts.{ReadsRootBy, ReadsKeyBy, CountsBy, ReadsAtBy, ProvesBy, PalettesBy}
+use Rattle.std.specs.Prelude.{ℕ, ◌≡◌, true, cond, List, [], ◌∷◌, length, eqb}
+use Rattle.std.proofs.Math.Option.{some}
+use Rattle.terms.specs.declared.Form.TheVariants.{Counted as counted}
+use Rattle.terms.specs.Bits.{Bytes}
+use Rattle.meaning.specs.Calls.{is_kept}
+use Rattle.index_reads.specs.Matching.{NoTwoMatch}
+use Rattle.layout.specs.Stores.{store_of}
+use Rattle.refusals.specs.Exactly.{Table}
+use Rattle.refusals.specs.Tables.{HasSlots, WrongSize}
+use Rattle.contracts.specs.Contracts.{ReadsRoot, ReadsKey, Counts, ReadsAt, Proves, Palettes}
+use Rattle.contracts.specs.Contracts.{ReadsRootBy, ReadsKeyBy, CountsBy, ReadsAtBy, ProvesBy, PalettesBy}
 
 -- The rows of a call that is lent a table: those of the plain call, but 'a table of another length gives 1' too.
-abbrev pub rowsBy : Bytes → List ℕ → Table → Table
-rowsBy s table [] = []
-rowsBy s table (row ∷ rows) =
+abbrev pub rows_by : Bytes → List ℕ → Table → Table
+rows_by s table [] = []
+rows_by s table (row ∷ rows) =
     let wrong = WrongSize (λ n. HasSlots counted s n × (length table ≡ n)) in
-    (row .0, cond (eqb (row .0) 1) wrong (row .1)) ∷ rowsBy s table rows
+    (row.0, cond (eqb row.0 1) wrong row.1) ∷ rows_by s table rows
 
 -- No two slots match where version v is read: nothing is looked for of a version that isn't kept.
 abbrev pub NoneTwice : Bytes → ℕ → Type 0
-NoneTwice s v = isKept (storeOf s) v ≡ true → NoTwoMatch (storeOf s) v
+NoneTwice s v = is_kept (store_of s) v ≡ true → NoTwoMatch (store_of s) v
 
 -- Every read of version v by the table answers, and leaves every byte, as the plain call does.
 pub record AsPlain (s : Bytes) (table : List ℕ) (v : ℕ) : Type 0 where

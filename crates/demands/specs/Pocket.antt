@@ -1,15 +1,12 @@
 -- Document 02, 2026-14: the pocket prover and check beside the full ones, over the contracts. Assumes nothing.
-use Prim.Native.Nat.{ℕ, _≤_}
-use mathlib.Core.Path.{_≡_}
-use mathlib.Core.Logic.{_↔_}
-use lib.ListN.{length, take}
-use Rattle·terms.specs.Bits.{Bytes}
-use Rattle·terms.specs.Fields.{num}
-use Rattle·meaning.specs.Reading.{answerOf}
-use Rattle·meaning.specs.Answers.{foundBytes}
-use Rattle·refusals.specs.Tables.{OutsidePocket, ProvedOutside}
-use Rattle·contracts.specs.Contracts.{ReadsRoot, Proves, Verifies, PocketProves, PocketVerifies}
-use Rattle·demands·specs.specs.Claims.{grantsOfVersion, SameOutcome}
+use Rattle.std.specs.Prelude.{ℕ, ◌≤◌, ◌≡◌, ◌↔◌, length, take}
+use Rattle.terms.specs.Bits.{Bytes}
+use Rattle.terms.specs.Fields.{num}
+use Rattle.meaning.specs.Reading.{answer_of}
+use Rattle.meaning.specs.Answers.{found_bytes}
+use Rattle.refusals.specs.Tables.{OutsidePocket, ProvedOutside}
+use Rattle.contracts.specs.Contracts.{ReadsRoot, Proves, Verifies, PocketProves, PocketVerifies}
+use Rattle.demands.specs.Claims.{grants_of_version, SameOutcome}
 
 -- The bytes x checked as a proof for key k against a root, by the pocket check and by the full one.
 pub record BesideTheFullCheck (root k x : Bytes) : Type 0 where
@@ -35,4 +32,4 @@ pub record PocketShown (s : Bytes) (v : ℕ) (k : Bytes) : Type 0 where
       PocketProves s v k room f r t g → r ≡ 0
   pub checked : {room f t g f₁ root f₂ found : Bytes} {r₁ r₂ : ℕ} → PocketProves s v k room f 0 t g →
       ReadsRoot s v f₁ r₁ root → PocketVerifies root k (take (num g) t) f₂ r₂ found →
-      (r₁ ≡ 0) × (r₂ ≡ 0) × (found ≡ foundBytes (answerOf k (grantsOfVersion s v)))
+      (r₁ ≡ 0) × (r₂ ≡ 0) × (found ≡ found_bytes (answer_of k (grants_of_version s v)))

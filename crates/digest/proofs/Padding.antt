@@ -1,40 +1,40 @@
 -- The blocks that the code reads are those of the padded message: a word before the message's end is the message's own, the next ones
 -- are 128 and zeros, and the last two hold its length. Assumes nothing.
-use Prim.Native.Nat.{ℕ, zero, suc, _+_, _*_, _-_, _/_, _%_, _^_, _≤_, _<_}
-use mathlib.Core.Path.{_≡_, refl, ap, _∙_, sym}
-use mathlib.Core.List.{[], _∷_, _++_, append-assoc}
+use Prim.Native.Nat.{ℕ, zero, suc, ◌+◌, ◌*◌, ◌-◌, ◌/◌, ◌%◌, ◌^◌, ◌≤◌, ◌<◌}
+use mathlib.Core.Path.{◌≡◌, refl, ap, ◌∙◌, sym}
+use mathlib.Core.List.{[], ◌∷◌, ◌++◌, append_assoc}
 use native.Mathlib.Omega.{arith}
 use native.Mathlib.Numerals.{add-one, one-add}
-use lib.ListN.{length, getD, replicate, length-append, length-replicate, List·getD-append, List·getD-eq-default}
-use lib.Seq.{getD-append-add}
-use Rattle·terms.specs.Bits.{Bytes}
-use Rattle·hash.specs.BigEndian.{big, wordAt}
-use Rattle·hash.proofs.Digits.{big-split, word-big}
-use Rattle·sha256.specs.declared.State.{State}
-use Rattle·sha256.specs.declared.Words.{Words}
-use Rattle·sha256.specs.Sha256.{marked, padded, hashValue}
-use Rattle·sha256.specs.Rolling.{folded, blockAt}
-use Rattle·digest·specs.specs.Tail.{lastOf}
-use Rattle·sha256.proofs.Blocks.{value-next}
+use lib.ListN.{length, get_or, replicate, length-append, length-replicate, get_or-append, get_or-eq_default}
+use lib.Seq.{get_or-append-add}
+use Rattle.terms.specs.Bits.{Bytes}
+use Rattle.hash.specs.BigEndian.{big, word_at}
+use Rattle.hash.proofs.Digits.{big_split, word_big}
+use Rattle.sha256.specs.declared.State.{State}
+use Rattle.sha256.specs.declared.Words.{Words}
+use Rattle.sha256.specs.Sha256.{marked, padded, hash_value}
+use Rattle.sha256.specs.Rolling.{folded, block_at}
+use Rattle.digest.specs.Tail.{last_of}
+use Rattle.sha256.proofs.Blocks.{value_next}
 
 -- The message and the byte 128.
 abbrev ended : Bytes → Bytes
 ended m = m ++ (128 ∷ [])
 
-pub word-append : (m t : Bytes) (p : ℕ) → p + 4 ≤ length m → wordAt (m ++ t) p ≡ wordAt m p
-unfolding wordAt
-word-append m t p h =
+pub word_append : (m t : Bytes) (p : ℕ) → p + 4 ≤ length m → word_at (m ++ t) p ≡ word_at m p
+unfolding word_at
+word_append m t p h =
     rw (
-      List·getD-append m t 0 p (omega arith),
-      List·getD-append m t 0 (p + 1) (omega arith),
-      List·getD-append m t 0 (p + 2) (omega arith),
-      List·getD-append m t 0 (p + 3) (omega arith),
+      get_or-append m t 0 p (omega arith),
+      get_or-append m t 0 (p + 1) (omega arith),
+      get_or-append m t 0 (p + 2) (omega arith),
+      get_or-append m t 0 (p + 3) (omega arith),
     )
 
-blocks-same : (l m : Bytes) (p : ℕ) → ((k : ℕ) → k < 61 → wordAt l (p + k) ≡ wordAt m (p + k)) → wordAt l p ≡ wordAt m p
-    → blockAt l p ≡ blockAt m p
-unfolding blockAt
-blocks-same l m p h h0 =
+blocks_same : (l m : Bytes) (p : ℕ) → ((k : ℕ) → k < 61 → word_at l (p + k) ≡ word_at m (p + k)) → word_at l p ≡ word_at m p
+    → block_at l p ≡ block_at m p
+unfolding block_at
+blocks_same l m p h h0 =
     rw (
       h0,
       h 4 (omega arith),
@@ -55,125 +55,125 @@ blocks-same l m p h h0 =
     )
 
 -- A block that the message fills is the message's own.
-block-whole : (m : Bytes) (p : ℕ) → p + 64 ≤ length m → blockAt (padded m) p ≡ blockAt m p
+block_whole : (m : Bytes) (p : ℕ) → p + 64 ≤ length m → block_at (padded m) p ≡ block_at m p
 unfolding padded
-block-whole m p h =
+block_whole m p h =
     let z : Bytes = 128 ∷ replicate ((119 - length m % 64) % 64) 0 in
     let t : Bytes = z ++ big 8 (length m * 8) in
-    rw (append-assoc m z (big 8 (length m * 8)))
-    (blocks-same (m ++ t) m p (λ k f. word-append m t (p + k) (omega arith)) (word-append m t p (omega arith)))
+    rw (append_assoc m z (big 8 (length m * 8)))
+    (blocks_same (m ++ t) m p (λ k f. word_append m t (p + k) (omega arith)) (word_append m t p (omega arith)))
 
-pub whole-next : (m : Bytes) (i : ℕ) (s r : State) (x : Words)
-    → i * 64 + 64 ≤ length m → s ≡ hashValue (padded m) i → x ≡ blockAt m (i * 64) → r ≡ folded s x → r ≡ hashValue (padded m) (i + 1)
-whole-next m i s r x f hs hx hr = rw (add-one i, value-next (padded m) i, hr, hs, hx, block-whole m (i * 64) f)
+pub whole_next : (m : Bytes) (i : ℕ) (s r : State) (x : Words)
+    → i * 64 + 64 ≤ length m → s ≡ hash_value (padded m) i → x ≡ block_at m (i * 64) → r ≡ folded s x → r ≡ hash_value (padded m) (i + 1)
+whole_next m i s r x f hs hx hr = rw (add-one i, value_next (padded m) i, hr, hs, hx, block_whole m (i * 64) f)
 
-zeros-at : (z p : ℕ) → _≡_ {A = ℕ} (getD (replicate z 0) p 0) 0
-zeros-at zero p = refl
-zeros-at (suc z) zero = refl
-zeros-at (suc z) (suc p) = zeros-at z p
+zeros_at : (z p : ℕ) → ◌≡◌ {A = ℕ} (get_or (replicate z 0) p 0) 0
+zeros_at zero p = refl
+zeros_at (suc z) zero = refl
+zeros_at (suc z) (suc p) = zeros_at z p
 
-marked-at : (m : Bytes) (z p : ℕ) → getD (m ++ (128 ∷ replicate z 0)) p 0 ≡ getD (ended m) p 0
-marked-at [] z zero = refl
-marked-at [] z (suc p) = zeros-at z p
-marked-at (x ∷ m) z zero = refl
-marked-at (x ∷ m) z (suc p) = marked-at m z p
+marked_at : (m : Bytes) (z p : ℕ) → get_or (m ++ (128 ∷ replicate z 0)) p 0 ≡ get_or (ended m) p 0
+marked_at [] z zero = refl
+marked_at [] z (suc p) = zeros_at z p
+marked_at (x ∷ m) z zero = refl
+marked_at (x ∷ m) z (suc p) = marked_at m z p
 
-length-marked : (m : Bytes) → length (marked m) ≡ length m + (1 + (119 - length m % 64) % 64)
-length-marked m =
+length_marked : (m : Bytes) → length (marked m) ≡ length m + (1 + (119 - length m % 64) % 64)
+length_marked m =
     length-append m _ ∙ ap (λ (k : ℕ). length m + k) (ap suc (length-replicate ((119 - length m % 64) % 64) 0) ∙ sym (one-add _))
 
 -- How many blocks the padded message has.
-blocks-of : (m : Bytes) → length (padded m) / 64 ≡ (length m + 72) / 64
+blocks_of : (m : Bytes) → length (padded m) / 64 ≡ (length m + 72) / 64
 unfolding padded
-blocks-of m =
+blocks_of m =
     let e = length-append (marked m) (big 8 (length m * 8)) in
-    let f = length-marked m in
+    let f = length_marked m in
     omega arith
 
 -- A word of the padded message before the message's length.
-word-before : (m : Bytes) (p : ℕ) → p + 4 ≤ length (marked m) → wordAt (padded m) p ≡ wordAt (ended m) p
-unfolding padded wordAt
-word-before m p h =
+word_before : (m : Bytes) (p : ℕ) → p + 4 ≤ length (marked m) → word_at (padded m) p ≡ word_at (ended m) p
+unfolding padded word_at
+word_before m p h =
     let z : ℕ = (119 - length m % 64) % 64 in
-    word-append (marked m) (big 8 (length m * 8)) p h
-    ∙ rw (marked-at m z p, marked-at m z (p + 1), marked-at m z (p + 2), marked-at m z (p + 3))
+    word_append (marked m) (big 8 (length m * 8)) p h
+    ∙ rw (marked_at m z p, marked_at m z (p + 1), marked_at m z (p + 2), marked_at m z (p + 3))
 
-block-before : (m : Bytes) (p : ℕ) → p + 64 ≤ length (marked m) → blockAt (padded m) p ≡ blockAt (ended m) p
-block-before m p h = blocks-same (padded m) (ended m) p (λ k f. word-before m (p + k) (omega arith)) (word-before m p (omega arith))
+block_before : (m : Bytes) (p : ℕ) → p + 64 ≤ length (marked m) → block_at (padded m) p ≡ block_at (ended m) p
+block_before m p h = blocks_same (padded m) (ended m) p (λ k f. word_before m (p + k) (omega arith)) (word_before m p (omega arith))
 
-at-seam : (x l : Bytes) (j i : ℕ) → j ≡ length x + i → getD (x ++ l) j 0 ≡ getD l i 0
-at-seam x l j i h = rw h (getD-append-add x l i 0)
+at_seam : (x l : Bytes) (j i : ℕ) → j ≡ length x + i → get_or (x ++ l) j 0 ≡ get_or l i 0
+at_seam x l j i h = rw h (get_or-append-add x l i 0)
 
-word-seam : (x l : Bytes) (p k : ℕ) → p ≡ length x + k → wordAt (x ++ l) p ≡ wordAt l k
-unfolding wordAt
-word-seam x l p k h =
-    rw (at-seam x l p k h, at-seam x l (p + 1) (k + 1) (omega arith), at-seam x l (p + 2) (k + 2) (omega arith), at-seam x l (p + 3) (k + 3) (omega arith))
+word_seam : (x l : Bytes) (p k : ℕ) → p ≡ length x + k → word_at (x ++ l) p ≡ word_at l k
+unfolding word_at
+word_seam x l p k h =
+    rw (at_seam x l p k h, at_seam x l (p + 1) (k + 1) (omega arith), at_seam x l (p + 2) (k + 2) (omega arith), at_seam x l (p + 3) (k + 3) (omega arith))
 
-high-word : (n : ℕ) → wordAt (big 8 (n * 8)) 0 ≡ n / 2 ^ 29 % 2 ^ 32
-unfolding wordAt
-high-word n =
-    ap (λ (l : Bytes). wordAt l 0) (big-split 4 4 (n * 8)) ∙ word-big (n * 8 / 2 ^ 32) ∙ ap (λ (k : ℕ). k % 2 ^ 32) (eighth n)
+high_word : (n : ℕ) → word_at (big 8 (n * 8)) 0 ≡ n / 2 ^ 29 % 2 ^ 32
+unfolding word_at
+high_word n =
+    ap (λ (l : Bytes). word_at l 0) (big_split 4 4 (n * 8)) ∙ word_big (n * 8 / 2 ^ 32) ∙ ap (λ (k : ℕ). k % 2 ^ 32) (eighth n)
   where
     eighth : (n : ℕ) → n * 8 / 2 ^ 32 ≡ n / 2 ^ 29
     eighth n = omega arith
 
-low-word : (n : ℕ) → wordAt (big 8 (n * 8)) 4 ≡ n % 2 ^ 29 * 8
-unfolding wordAt
-low-word n = word-big (n * 8) ∙ omega arith
+low_word : (n : ℕ) → word_at (big 8 (n * 8)) 4 ≡ n % 2 ^ 29 * 8
+unfolding word_at
+low_word n = word_big (n * 8) ∙ omega arith
 
-block-last : (m : Bytes) (p : ℕ) → p + 56 ≡ length (marked m) → blockAt (padded m) p ≡ lastOf (blockAt (ended m) p) (length m)
-unfolding blockAt padded
-block-last m p h =
+block_last : (m : Bytes) (p : ℕ) → p + 56 ≡ length (marked m) → block_at (padded m) p ≡ last_of (block_at (ended m) p) (length m)
+unfolding block_at padded
+block_last m p h =
     let l = big 8 (length m * 8) in
     rw (
-      word-before m p (omega arith),
-      word-before m (p + 4) (omega arith),
-      word-before m (p + 8) (omega arith),
-      word-before m (p + 12) (omega arith),
-      word-before m (p + 16) (omega arith),
-      word-before m (p + 20) (omega arith),
-      word-before m (p + 24) (omega arith),
-      word-before m (p + 28) (omega arith),
-      word-before m (p + 32) (omega arith),
-      word-before m (p + 36) (omega arith),
-      word-before m (p + 40) (omega arith),
-      word-before m (p + 44) (omega arith),
-      word-before m (p + 48) (omega arith),
-      word-before m (p + 52) (omega arith),
-      word-seam (marked m) l (p + 56) 0 (omega arith),
-      word-seam (marked m) l (p + 60) 4 (omega arith),
-      high-word (length m),
-      low-word (length m),
+      word_before m p (omega arith),
+      word_before m (p + 4) (omega arith),
+      word_before m (p + 8) (omega arith),
+      word_before m (p + 12) (omega arith),
+      word_before m (p + 16) (omega arith),
+      word_before m (p + 20) (omega arith),
+      word_before m (p + 24) (omega arith),
+      word_before m (p + 28) (omega arith),
+      word_before m (p + 32) (omega arith),
+      word_before m (p + 36) (omega arith),
+      word_before m (p + 40) (omega arith),
+      word_before m (p + 44) (omega arith),
+      word_before m (p + 48) (omega arith),
+      word_before m (p + 52) (omega arith),
+      word_seam (marked m) l (p + 56) 0 (omega arith),
+      word_seam (marked m) l (p + 60) 4 (omega arith),
+      high_word (length m),
+      low_word (length m),
     )
 
 -- The message's end and its length in one block.
-pub one-block-end : (m : Bytes) (s r : State) (x y : Words) → length m % 64 < 56 → s ≡ hashValue (padded m) (length m / 64)
-    → x ≡ blockAt (ended m) (length m / 64 * 64) → y ≡ lastOf x (length m) → r ≡ folded s y → r ≡ hashValue (padded m) (length (padded m) / 64)
-one-block-end m s r x y h hs hx hy hr =
+pub one_block_end : (m : Bytes) (s r : State) (x y : Words) → length m % 64 < 56 → s ≡ hash_value (padded m) (length m / 64)
+    → x ≡ block_at (ended m) (length m / 64 * 64) → y ≡ last_of x (length m) → r ≡ folded s y → r ≡ hash_value (padded m) (length (padded m) / 64)
+one_block_end m s r x y h hs hx hy hr =
     let e : (length m + 72) / 64 ≡ suc (length m / 64) = omega arith in
-    let g : length m / 64 * 64 + 56 ≡ length (marked m) = omega (arith, length-marked m) in
-    rw (blocks-of m, e, value-next (padded m) (length m / 64), hr, hs, hy, hx, block-last m (length m / 64 * 64) g)
+    let g : length m / 64 * 64 + 56 ≡ length (marked m) = omega (arith, length_marked m) in
+    rw (blocks_of m, e, value_next (padded m) (length m / 64), hr, hs, hy, hx, block_last m (length m / 64 * 64) g)
 
 -- The message's end in one block, its length in the next.
-pub two-blocks-end : (m : Bytes) (s t r : State) (x x2 y : Words) → 56 ≤ length m % 64 → s ≡ hashValue (padded m) (length m / 64)
-    → x ≡ blockAt (ended m) (length m / 64 * 64) → t ≡ folded s x
-    → x2 ≡ blockAt (ended m) (length m / 64 * 64 + 64) → y ≡ lastOf x2 (length m) → r ≡ folded t y → r ≡ hashValue (padded m) (length (padded m) / 64)
-two-blocks-end m s t r x x2 y h hs hx ht hx2 hy hr =
+pub two_blocks_end : (m : Bytes) (s t r : State) (x x2 y : Words) → 56 ≤ length m % 64 → s ≡ hash_value (padded m) (length m / 64)
+    → x ≡ block_at (ended m) (length m / 64 * 64) → t ≡ folded s x
+    → x2 ≡ block_at (ended m) (length m / 64 * 64 + 64) → y ≡ last_of x2 (length m) → r ≡ folded t y → r ≡ hash_value (padded m) (length (padded m) / 64)
+two_blocks_end m s t r x x2 y h hs hx ht hx2 hy hr =
     let i : ℕ = length m / 64 in
     let e : (length m + 72) / 64 ≡ suc (suc i) = omega arith in
-    let g : i * 64 + 64 + 56 ≡ length (marked m) = omega (arith, length-marked m) in
+    let g : i * 64 + 64 + 56 ≡ length (marked m) = omega (arith, length_marked m) in
     let q : suc i * 64 ≡ i * 64 + 64 = omega arith in
-    let last : y ≡ blockAt (padded m) (suc i * 64) = hy ∙ rw (hx2, q) (sym (block-last m (i * 64 + 64) g)) in
-    let before : x ≡ blockAt (padded m) (i * 64) = hx ∙ sym (block-before m (i * 64) (omega arith)) in
-    rw (blocks-of m, e, value-next (padded m) (suc i), value-next (padded m) i, hr, ht, hs, last, before)
+    let last : y ≡ block_at (padded m) (suc i * 64) = hy ∙ rw (hx2, q) (sym (block_last m (i * 64 + 64) g)) in
+    let before : x ≡ block_at (padded m) (i * 64) = hx ∙ sym (block_before m (i * 64) (omega arith)) in
+    rw (blocks_of m, e, value_next (padded m) (suc i), value_next (padded m) i, hr, ht, hs, last, before)
 
 -- What the code reads past the message's end.
-pub tail-inside : (m : Bytes) (p : ℕ) → p < length m → getD (ended m) p 0 ≡ getD m p 0
-tail-inside m p h = List·getD-append m (128 ∷ []) 0 p h
+pub tail_inside : (m : Bytes) (p : ℕ) → p < length m → get_or (ended m) p 0 ≡ get_or m p 0
+tail_inside m p h = get_or-append m (128 ∷ []) 0 p h
 
-pub tail-past : (m : Bytes) (p : ℕ) → length m < p → _≡_ {A = ℕ} (getD (ended m) p 0) 0
-tail-past m p h = List·getD-eq-default (ended m) 0 {n = p} (simp length-append (omega arith))
+pub tail_past : (m : Bytes) (p : ℕ) → length m < p → ◌≡◌ {A = ℕ} (get_or (ended m) p 0) 0
+tail_past m p h = get_or-eq_default (ended m) 0 {n = p} (simp length-append (omega arith))
 
-pub word-past : (m : Bytes) (p : ℕ) → length m < p → _≡_ {A = ℕ} (wordAt (ended m) p) 0
-unfolding wordAt
-word-past m p h = rw (tail-past m p h, tail-past m (p + 1) (omega arith), tail-past m (p + 2) (omega arith), tail-past m (p + 3) (omega arith))
+pub word_past : (m : Bytes) (p : ℕ) → length m < p → ◌≡◌ {A = ℕ} (word_at (ended m) p) 0
+unfolding word_at
+word_past m p h = rw (tail_past m p h, tail_past m (p + 1) (omega arith), tail_past m (p + 2) (omega arith), tail_past m (p + 3) (omega arith))

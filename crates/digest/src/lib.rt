@@ -1,26 +1,19 @@
 // SHA-256 of a slice of bytes of any length.
-ghost use mathlib.Core.Path.{_≡_};
-ghost use mathlib.Core.List.{_++_, _∷_, []};
-ghost use Prim.Native.Nat.{_+_, _/_, _<_, _≤_};
-ghost use lib.ListN.{length, getD};
-ghost use Rattle·hash.specs.BigEndian.{wordAt};
-ghost use Rattle·hash.specs.Hash.{hashBytes};
-ghost use Rattle·sha256.specs.Sha256.{hashValue, padded, sha256};
-ghost use Rattle·sha256.specs.Rolling.{blockAt};
-ghost use Rattle·digest·specs.specs.Tail.{lastOf};
-use hash::Hash;
-use hash::pack;
-use hash::wide;
-use hash::word_at;
-use sha256::State;
-use sha256::Words;
-use sha256::compress;
-use sha256::start;
-use sha256::to_hash;
+#![tactic(auto)]
+
+ghost use Rattle.std.specs.Prelude.{◌≡◌, ◌++◌, ◌∷◌, [], ◌+◌, ◌/◌, ◌<◌, ◌≤◌, length, get_or};
+ghost use Rattle.hash.specs.BigEndian.{word_at};
+ghost use Rattle.hash.specs.Hash.{hash_bytes};
+ghost use Rattle.sha256.specs.Sha256.{hash_value, padded, sha256};
+ghost use Rattle.sha256.specs.Rolling.{block_at};
+ghost use Rattle.digest.specs.Tail.{last_of};
+
+use hash::{Hash, pack, wide, word_at};
+use sha256::{State, Words, compress, start, to_hash};
 
 fn words_at(b: &[u8], at: usize) -> Words
-    requires { ⌜ at + 64 ≤ length (now b) ⌝ }
-    ensures { λ r. ⌜ r ≡ blockAt (now (b .entry)) at ⌝ }
+    requires { at + 64 ≤ length b.now }
+    ensures { result ≡ block_at b.now at }
 {
     Words {
         w0: word_at(b, at),
@@ -44,7 +37,7 @@ fn words_at(b: &[u8], at: usize) -> Words
 
 // A byte of the message with the byte 128 after it, and then zeros for ever.
 fn tail_byte(b: &[u8], at: usize) -> u32
-    ensures { λ r. ⌜ (r ≡ getD (now (b .entry) ++ (128 ∷ [])) at 0) × (r < 256) ⌝ }
+    ensures { (result ≡ get_or (b.now ++ (128 ∷ [])) at 0) × (result < 256) }
 {
     if at < b.len() {
         return wide(b[at]);
@@ -57,8 +50,8 @@ fn tail_byte(b: &[u8], at: usize) -> u32
 
 // The word that begins there. Only one word of a message needs to be read byte by byte.
 fn tail_word(b: &[u8], at: usize) -> u32
-    requires { ⌜ at ≤ length (now b) + 128 ⌝ }
-    ensures { λ r. ⌜ r ≡ wordAt (now (b .entry) ++ (128 ∷ [])) at ⌝ }
+    requires { at ≤ length b.now + 128 }
+    ensures { result ≡ word_at (b.now ++ (128 ∷ [])) at }
 {
     if at + 4 <= b.len() {
         return word_at(b, at);
@@ -75,8 +68,8 @@ fn tail_word(b: &[u8], at: usize) -> u32
 }
 
 fn tail_words(b: &[u8], at: usize) -> Words
-    requires { ⌜ at ≤ length (now b) + 64 ⌝ }
-    ensures { λ r. ⌜ r ≡ blockAt (now (b .entry) ++ (128 ∷ [])) at ⌝ }
+    requires { at ≤ length b.now + 64 }
+    ensures { result ≡ block_at (b.now ++ (128 ∷ [])) at }
 {
     Words {
         w0: tail_word(b, at),
@@ -100,7 +93,7 @@ fn tail_words(b: &[u8], at: usize) -> Words
 
 // The last two words of the last block say how many bits a message of n bytes has.
 fn last_words(x: Words, n: usize) -> Words
-    ensures { λ r. ⌜ r ≡ lastOf x n ⌝ }
+    ensures { result ≡ last_of x n }
 {
     let mut y = x;
     y.w14 = (n / 0x2000_0000 % 0x1_0000_0000) as u32;
@@ -109,7 +102,7 @@ fn last_words(x: Words, n: usize) -> Words
 }
 
 fn whole_blocks(b: &[u8]) -> State
-    ensures { λ r. ⌜ r ≡ hashValue (padded (now (b .entry))) (length (now (b .entry)) / 64) ⌝ }
+    ensures { result ≡ hash_value (padded b.now) (length b.now / 64) }
 {
     let n = b.len() / 64;
     let mut s = start();
@@ -123,7 +116,7 @@ fn whole_blocks(b: &[u8]) -> State
 
 // The last hash value: the blocks that the message fills, then one or two with what is left of it and the padding.
 fn hash_value(b: &[u8]) -> State
-    ensures { λ r. ⌜ r ≡ hashValue (padded (now (b .entry))) (length (padded (now (b .entry))) / 64) ⌝ }
+    ensures { result ≡ hash_value (padded b.now) (length (padded b.now) / 64) }
 {
     let n = b.len();
     let at = n / 64 * 64;
@@ -137,7 +130,7 @@ fn hash_value(b: &[u8]) -> State
 
 // SHA-256 of the slice.
 pub fn digest(b: &[u8]) -> Hash
-    ensures { λ r. ⌜ hashBytes r ≡ sha256 (now (b .entry)) ⌝ }
+    ensures { hash_bytes result ≡ sha256 b.now }
 {
     to_hash(hash_value(b))
 }

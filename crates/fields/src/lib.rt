@@ -1,20 +1,20 @@
 // Little-endian fields in lent memory, document 01, 'Bytes'. Each function reads or writes its own bytes and nothing else.
-ghost use mathlib.Core.Path.{_≡_};
-ghost use Prim.Native.Nat.{_+_, _<_, _≤_};
-ghost use lib.ListN.{length};
-ghost use Rattle·terms.specs.Fields.{le, field, zeroBytes, allZero};
-ghost use Rattle·fields·specs.specs.Written.{written};
+#![tactic(auto)]
+
+ghost use Rattle.std.specs.Prelude.{◌≡◌, ◌+◌, ◌<◌, ◌≤◌, length};
+ghost use Rattle.terms.specs.Fields.{le, field, zero_bytes, all_zero};
+ghost use Rattle.fields.specs.Written.{written};
 
 fn wide(x: u8) -> u32
-    ensures { λ r. ⌜ (r ≡ x) × (r < 256) ⌝ }
+    ensures { (result ≡ x) × (result < 256) }
 {
     x as u32
 }
 
 // The number in the two bytes from `at` on.
 pub fn get_u16(s: &[u8], at: usize) -> u16
-    requires { ⌜ at + 2 ≤ length (now s) ⌝ }
-    ensures { λ r. ⌜ r ≡ field at 2 (now (s .entry)) ⌝ }
+    requires { at + 2 ≤ length s.now }
+    ensures { result ≡ field at 2 s.now }
 {
     let a = wide(s[at]);
     let b = wide(s[at + 1]);
@@ -23,8 +23,8 @@ pub fn get_u16(s: &[u8], at: usize) -> u16
 
 // The number in the four bytes from `at` on.
 pub fn get_u32(s: &[u8], at: usize) -> u32
-    requires { ⌜ at + 4 ≤ length (now s) ⌝ }
-    ensures { λ r. ⌜ r ≡ field at 4 (now (s .entry)) ⌝ }
+    requires { at + 4 ≤ length s.now }
+    ensures { result ≡ field at 4 s.now }
 {
     let a = wide(s[at]);
     let b = wide(s[at + 1]);
@@ -35,8 +35,8 @@ pub fn get_u32(s: &[u8], at: usize) -> u32
 
 // Writes a number in the two bytes from `at` on.
 pub fn put_u16(s: &mut [u8], at: usize, x: u16)
-    requires { ⌜ at + 2 ≤ length (now s) ⌝ }
-    ensures { λ _. ⌜ now (s .exit) ≡ written at (le 2 x) (now (s .entry)) ⌝ }
+    requires { at + 2 ≤ length s.old }
+    ensures { s.new ≡ written at (le 2 x) s.old }
 {
     let low = (x % 256) as u8;
     let high = (x / 256) as u8;
@@ -46,8 +46,8 @@ pub fn put_u16(s: &mut [u8], at: usize, x: u16)
 
 // Writes a number in the four bytes from `at` on.
 pub fn put_u32(s: &mut [u8], at: usize, x: u32)
-    requires { ⌜ at + 4 ≤ length (now s) ⌝ }
-    ensures { λ _. ⌜ now (s .exit) ≡ written at (le 4 x) (now (s .entry)) ⌝ }
+    requires { at + 4 ≤ length s.old }
+    ensures { s.new ≡ written at (le 4 x) s.old }
 {
     s[at] = (x % 256) as u8;
     s[at + 1] = (x / 256 % 256) as u8;
@@ -57,7 +57,7 @@ pub fn put_u32(s: &mut [u8], at: usize, x: u32)
 
 // Whether all bytes of a part are zero.
 pub fn all_zero(s: &[u8]) -> bool
-    ensures { λ r. ⌜ r ≡ allZero (now (s .entry)) ⌝ }
+    ensures { result ≡ all_zero s.now }
 {
     let mut i = 0;
     while i < s.len() {
@@ -71,7 +71,7 @@ pub fn all_zero(s: &[u8]) -> bool
 
 // Fills a part with zero bytes.
 pub fn clear(s: &mut [u8])
-    ensures { λ _. ⌜ now (s .exit) ≡ zeroBytes (length (now (s .entry))) ⌝ }
+    ensures { s.new ≡ zero_bytes (length s.old) }
 {
     let mut i = 0;
     while i < s.len() {
@@ -82,8 +82,8 @@ pub fn clear(s: &mut [u8])
 
 // Fills a part with the bytes of another of its length.
 pub fn copy(s: &mut [u8], from: &[u8])
-    requires { ⌜ length (now from) ≡ length (now s) ⌝ }
-    ensures { λ _. ⌜ now (s .exit) ≡ now (from .entry) ⌝ }
+    requires { length from.now ≡ length s.old }
+    ensures { s.new ≡ from.now }
 {
     let mut i = 0;
     while i < from.len() {

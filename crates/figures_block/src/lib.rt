@@ -1,13 +1,12 @@
 // The figures of the versions of a block, document 02, request 2026-14: one scan counts what lives at each of them and lists what lives at some, so that a version adds
 // the listed slots alone.
-ghost use mathlib.Core.Path.{_≡_};
-ghost use Prim.Native.Nat.{_≤_};
-ghost use lib.ListN.{length};
-ghost use Rattle·figures_count.specs.Count.{Whole};
-ghost use Rattle·figures_block·specs.specs.Block.{Right, None, Counts};
-use figures_count::Figures;
-use figures_count::add_slot;
-use figures_count::lives;
+#![tactic(auto)]
+
+ghost use Rattle.std.specs.Prelude.{◌≡◌, ◌≤◌, length};
+ghost use Rattle.figures_count.specs.Count.{Whole};
+ghost use Rattle.figures_block.specs.Block.{Right, None, Counts};
+
+use figures_count::{Figures, add_slot, lives};
 use store::slot_count;
 use terms::Form;
 
@@ -15,6 +14,7 @@ use terms::Form;
 const MORE_VERSIONS: u32 = 31;
 
 // A block of versions: the numbers of what lives at each of them, and how many slots are listed for what lives at some.
+#[derive(Clone, Copy)]
 pub struct Block {
     pub first: u32,
     pub last: u32,
@@ -24,7 +24,7 @@ pub struct Block {
 
 // A block without a version.
 pub fn no_block() -> Block
-    ensures { λ r. ⌜ None r ⌝ }
+    ensures { None result }
 {
     let all = Figures {
         leaves: 0,
@@ -42,8 +42,8 @@ pub fn no_block() -> Block
 
 // The block from first to last: the slots one by one from the last, each counted at once, listed or passed over.
 fn split(store: &[u8], list: &mut [u16; 16384], first: u32, last: u32) -> Block
-    requires { ⌜ Whole (now store) × (length (now list) ≡ 16384) ⌝ }
-    ensures { λ r. ⌜ Right (now (store .entry)) (now (list .exit)) r × (r .first ≡ first) × (r .last ≡ last) × (length (now (list .exit)) ≡ 16384) ⌝ }
+    requires { Whole store.now × (length list.old ≡ 16384) }
+    ensures { Right store.now list.new result × (result.first ≡ first) × (result.last ≡ last) × (length list.new ≡ 16384) }
 {
     let n = slot_count(Form::Counted, store);
     let mut all = Figures {
@@ -73,8 +73,8 @@ fn split(store: &[u8], list: &mut [u16; 16384], first: u32, last: u32) -> Block
 
 // The last version of the block that begins at a version of a range that ends at last.
 fn block_end(version: u32, last: u32) -> u32
-    requires { ⌜ version ≤ last ⌝ }
-    ensures { λ r. ⌜ version ≤ r ⌝ }
+    requires { version ≤ last }
+    ensures { version ≤ result }
 {
     let more = last - version;
     if more < MORE_VERSIONS {
@@ -91,8 +91,8 @@ pub fn block_with(
     version: u32,
     last: u32,
 ) -> Block
-    requires { ⌜ Whole (now store) × (length (now list) ≡ 16384) × Right (now store) (now list) block × (version ≤ last) ⌝ }
-    ensures { λ r. ⌜ Right (now (store .entry)) (now (list .exit)) r × (r .first ≤ version) × (version ≤ r .last) × (length (now (list .exit)) ≡ 16384) ⌝ }
+    requires { Whole store.now × (length list.old ≡ 16384) × Right store.now list.old block × (version ≤ last) }
+    ensures { Right store.now list.new result × (result.first ≤ version) × (version ≤ result.last) × (length list.new ≡ 16384) }
 {
     if block.first <= version {
         if version <= block.last {
@@ -104,8 +104,8 @@ pub fn block_with(
 
 // The four numbers of a version of a block: what lives at each, and the listed slots.
 pub fn figures_in(store: &[u8], list: &[u16; 16384], block: Block, version: u32) -> Figures
-    requires { ⌜ Whole (now store) × Right (now store) (now list) block × (block .first ≤ version) × (version ≤ block .last) ⌝ }
-    ensures { λ r. ⌜ Counts (now (store .entry)) version r ⌝ }
+    requires { Whole store.now × Right store.now list.now block × (block.first ≤ version) × (version ≤ block.last) }
+    ensures { Counts store.now version result }
 {
     let mut f = block.all;
     let mut j = 0;

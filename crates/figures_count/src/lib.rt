@@ -1,18 +1,17 @@
 // Slots of a sound store counted by the lifetimes of their records, document 02, request 2026-14: what a slot adds to the figures of a version, and the records of a range.
-ghost use Prim.Native.Nat.{max};
-ghost use mathlib.Core.Path.{_≡_};
-ghost use Rattle·layout.specs.Stores.{storeOf, slotNo};
-ghost use Rattle·quarter.specs.Living.{slotLives, slotAdds, livingRecords, withLeaf, withInner};
-ghost use Rattle·figures_count·specs.specs.Count.{figuresSay, Plain, Countable, Few, Whole};
+#![tactic(auto)]
+
+ghost use Rattle.std.specs.Prelude.{max, ◌≡◌};
+ghost use Rattle.layout.specs.Stores.{store_of, slot_no};
+ghost use Rattle.quarter.specs.Living.{slot_lives, slot_adds, living_records, with_leaf, with_inner};
+ghost use Rattle.figures_count.specs.Count.{figures_say, Plain, Countable, Few, Whole};
+
 use layout::sizes::LEAF_KIND;
-use store::count_at;
-use store::kind_at;
-use store::retired_at;
-use store::slot_count;
-use store::version_at;
+use store::{count_at, kind_at, retired_at, slot_count, version_at};
 use terms::Form;
 
 // The four numbers of a version.
+#[derive(Clone, Copy)]
 pub struct Figures {
     pub leaves: u32,
     pub inners: u32,
@@ -22,8 +21,8 @@ pub struct Figures {
 
 // Whether slot i holds a record that lives at some version from first to last.
 pub fn lives(store: &[u8], i: usize, first: u32, last: u32) -> bool
-    requires { ⌜ Plain (now store) i ⌝ }
-    ensures { λ r. ⌜ r ≡ slotLives first last (slotNo Form.Counted i (now (store .entry))) ⌝ }
+    requires { Plain store.now i }
+    ensures { result ≡ slot_lives first last (slot_no Form.Counted i store.now) }
 {
     let version = version_at(Form::Counted, store, i);
     if version == 0 {
@@ -40,7 +39,7 @@ pub fn lives(store: &[u8], i: usize, first: u32, last: u32) -> bool
 }
 
 fn longer(a: u32, b: u32) -> u32
-    ensures { λ r. ⌜ r ≡ max a b ⌝ }
+    ensures { result ≡ max a b }
 {
     if a < b {
         return b;
@@ -50,8 +49,8 @@ fn longer(a: u32, b: u32) -> u32
 
 // The numbers with a leaf more, and with an inner node more.
 fn with_leaf(f: Figures, steps: u32) -> Figures
-    requires { ⌜ Few f steps ⌝ }
-    ensures { λ r. ⌜ figuresSay r ≡ withLeaf steps (figuresSay f) ⌝ }
+    requires { Few f steps }
+    ensures { figures_say result ≡ with_leaf steps (figures_say f) }
 {
     Figures {
         leaves: f.leaves + 1,
@@ -62,8 +61,8 @@ fn with_leaf(f: Figures, steps: u32) -> Figures
 }
 
 fn with_inner(f: Figures) -> Figures
-    requires { ⌜ Few f 0 ⌝ }
-    ensures { λ r. ⌜ figuresSay r ≡ withInner (figuresSay f) ⌝ }
+    requires { Few f 0 }
+    ensures { figures_say result ≡ with_inner (figures_say f) }
 {
     Figures {
         leaves: f.leaves,
@@ -75,8 +74,8 @@ fn with_inner(f: Figures) -> Figures
 
 // The numbers of a version with slot i.
 pub fn add_slot(store: &[u8], i: usize, version: u32, f: Figures) -> Figures
-    requires { ⌜ Countable (now store) i f ⌝ }
-    ensures { λ r. ⌜ figuresSay r ≡ slotAdds version (slotNo Form.Counted i (now (store .entry))) (figuresSay f) ⌝ }
+    requires { Countable store.now i f }
+    ensures { figures_say result ≡ slot_adds version (slot_no Form.Counted i store.now) (figures_say f) }
 {
     if !lives(store, i, version, version) {
         return f;
@@ -90,8 +89,8 @@ pub fn add_slot(store: &[u8], i: usize, version: u32, f: Figures) -> Figures
 
 // How many records live at some version from first to last.
 pub fn records_in(store: &[u8], first: u32, last: u32) -> u32
-    requires { ⌜ Whole (now store) ⌝ }
-    ensures { λ r. ⌜ r ≡ livingRecords first last (storeOf (now (store .entry)) .slots) ⌝ }
+    requires { Whole store.now }
+    ensures { result ≡ living_records first last (store_of store.now).slots }
 {
     let n = slot_count(Form::Counted, store);
     let mut records = 0;

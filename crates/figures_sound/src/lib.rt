@@ -1,14 +1,15 @@
 // The figures of a range of versions of a sound store, request 2026-14.
+#![tactic(auto)]
+
+ghost use Rattle.promises.specs.Calls.{SoundBytes};
+ghost use Rattle.figures_sound.specs.Figures.{figured_says, Tells};
+
 use figures_count::records_in;
-use figures_write::FIGURES_SIZE;
-use figures_write::range_right;
-use figures_write::write_each;
-use refusal_numbers::NO_ROOM;
-use refusal_numbers::NOT_KEPT;
-ghost use Rattle·promises.specs.Calls.{SoundBytes};
-ghost use Rattle·figures_sound·specs.specs.Figures.{figuredSays, Tells};
+use figures_write::{FIGURES_SIZE, range_right, write_each};
+use refusal_numbers::{NO_ROOM, NOT_KEPT};
 
 // A number of refusal, or the distinct records of the range and the sum of records over versions.
+#[derive(Clone, Copy)]
 pub enum Figured {
     Refused(u32),
     Told { distinct: u32, records: u32 },
@@ -16,8 +17,8 @@ pub enum Figured {
 
 // The figures of a range of a sound store.
 pub fn figures_sound(store: &[u8], first: u32, last: u32, room: &mut [u8]) -> Figured
-    requires { ⌜ SoundBytes (now store) ⌝ }
-    ensures { λ r. ⌜ Tells first last (now (store .entry)) (now (room .entry)) (figuredSays r) (now (room .exit)) ⌝ }
+    requires { SoundBytes store.now }
+    ensures { Tells first last store.now room.old (figured_says result) room.new }
 {
     if !range_right(store, first, last) {
         return Figured::Refused(NOT_KEPT);

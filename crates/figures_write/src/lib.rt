@@ -1,16 +1,16 @@
 // Which ranges of versions have figures, and the numbers of each version of a range written one after the other, request 2026-14.
+#![tactic(auto)]
+
+ghost use Rattle.std.specs.Prelude.{◌≡◌, length};
+ghost use Rattle.layout.specs.Stores.{store_of, HeaderWithin};
+ghost use Rattle.quarter.specs.Figures.{range_right, figures_bytes};
+ghost use Rattle.figures_count.specs.Count.{figures_say};
+ghost use Rattle.figures_write.specs.Parts.{Range, Writes};
+
 use fields::put_u32;
-use figures_block::block_with;
-use figures_block::figures_in;
-use figures_block::no_block;
+use figures_block::{block_with, figures_in, no_block};
 use figures_count::Figures;
 use prune_free::is_kept;
-ghost use mathlib.Core.Path.{_≡_};
-ghost use lib.ListN.{length};
-ghost use Rattle·layout.specs.Stores.{storeOf, HeaderWithin};
-ghost use Rattle·quarter.specs.Figures.{rangeRight, figuresBytes};
-ghost use Rattle·figures_count.specs.Count.{figuresSay};
-ghost use Rattle·figures_write·specs.specs.Parts.{Range, Writes};
 
 // Four numbers of 4 bytes for each version.
 pub const FIGURES_SIZE: usize = 16;
@@ -20,8 +20,8 @@ const MOST_VERSIONS: u32 = 1024;
 
 // Whether the range has 1 to 1,024 versions, all of them kept.
 pub fn range_right(store: &[u8], first: u32, last: u32) -> bool
-    requires { ⌜ HeaderWithin (now store) ⌝ }
-    ensures { λ r. ⌜ r ≡ rangeRight (storeOf (now (store .entry))) first last ⌝ }
+    requires { HeaderWithin store.now }
+    ensures { result ≡ range_right (store_of store.now) first last }
 {
     if !is_kept(store, first) {
         return false;
@@ -38,8 +38,8 @@ pub fn range_right(store: &[u8], first: u32, last: u32) -> bool
 
 // Writes the four numbers of a version.
 fn put_figures(part: &mut [u8], f: Figures)
-    requires { ⌜ length (now part) ≡ 16 ⌝ }
-    ensures { λ _. ⌜ now (part .exit) ≡ figuresBytes (figuresSay f) ⌝ }
+    requires { length part.old ≡ 16 }
+    ensures { part.new ≡ figures_bytes (figures_say f) }
 {
     put_u32(part, 0, f.leaves);
     put_u32(part, 4, f.inners);
@@ -55,8 +55,8 @@ pub fn write_each(
     first: u32,
     last: u32,
 ) -> u32
-    requires { ⌜ Range first last (now store) (now part) × (length (now list) ≡ 16384) ⌝ }
-    ensures { λ r. ⌜ Writes first last (now (store .entry)) r (now (part .exit)) ⌝ }
+    requires { Range first last store.now part.old × (length list.old ≡ 16384) }
+    ensures { Writes first last store.now result part.new }
 {
     let n = part.len() / FIGURES_SIZE;
     let mut block = no_block();

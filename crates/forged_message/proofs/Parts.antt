@@ -1,75 +1,75 @@
 -- Messages by their parts: SHA-256 of one is the hash of its node, and two are the same if their parts are. Assumes nothing.
 use Prim.Native.Nat.{ℕ}
 use native.Mathlib.Omega.{arith}
-use mathlib.Core.Path.{_≡_, refl, ap, sym, _∙_}
-use mathlib.Core.Bool.{Bool, true, false, cond, _&&_, not, Bool·beq, false≢true}
-use mathlib.Core.List.{List, [], _∷_, _++_}
+use mathlib.Core.Path.{◌≡◌, refl, ap, sym, ◌∙◌}
+use mathlib.Core.Bool.{Bool, true, false, cond, ◌&&◌, not, beq, false≢true}
+use mathlib.Core.List.{List, [], ◌∷◌, ◌++◌}
 use lib.ListN.{length}
 use lib.Dec.{eqb}
-use Rattle·terms.specs.Bits.{Bytes, sameBytes}
-use Rattle·terms.proofs.Tests.{and-assoc}
-use Rattle·hash.specs.declared.Hash.{Hash}
-use Rattle·hash.specs.Hash.{hashBytes, hashOf, Fits}
-use Rattle·hash.proofs.Laws.{hash-of-bytes}
-use Rattle·sha256.specs.Sha256.{sha256}
-use Rattle·nodehash.specs.Node.{leafHash, innerHash}
-use Rattle·forged_message·specs.specs.declared.Message.{Message}
-use Rattle·forged_message·specs.specs.Parts.{messageBytes, firstWord}
+use Rattle.terms.specs.Bits.{Bytes, same_bytes}
+use Rattle.terms.proofs.Tests.{and_assoc}
+use Rattle.hash.specs.declared.Hash.{Hash}
+use Rattle.hash.specs.Hash.{hash_bytes, hash_of, Fits}
+use Rattle.hash.proofs.Laws.{hash_of_bytes}
+use Rattle.sha256.specs.Sha256.{sha256}
+use Rattle.nodehash.specs.Node.{leaf_hash, inner_hash}
+use Rattle.forged_message.specs.declared.Message.{Message}
+use Rattle.forged_message.specs.Parts.{message_bytes, first_word}
 
-pub hash-long : (h : Hash) → length (hashBytes h) ≡ 32
-unfolding hashBytes
-hash-long h = refl
+pub hash_long : (h : Hash) → length (hash_bytes h) ≡ 32
+unfolding hash_bytes
+hash_long h = refl
 
 -- the first number of a hash is its first word
-pub first-number : (h : Hash) → Fits h → h .a ≡ firstWord (hashBytes h)
-unfolding firstWord hashOf
-first-number h f = sym (ap (λ (g : Hash). g .a) (hash-of-bytes h f))
+pub first_number : (h : Hash) → Fits h → h.a ≡ first_word (hash_bytes h)
+unfolding first_word hash_of
+first_number h f = sym (ap (λ (g : Hash). g.a) (hash_of_bytes h f))
 
 -- two strings of two parts, the first ones equally long
-same-append : (a b c d : Bytes) → length a ≡ length c → sameBytes (a ++ b) (c ++ d) ≡ sameBytes a c && sameBytes b d
-same-append [] b [] d e = refl
-same-append [] b (y ∷ c) d e = absurd (omega arith)
-same-append (x ∷ a) b [] d e = absurd (omega arith)
-same-append (x ∷ a) b (y ∷ c) d e =
-    ap (eqb x y &&_) (same-append a b c d (omega arith)) ∙ sym (and-assoc (eqb x y) (sameBytes a c) (sameBytes b d))
+same_append : (a b c d : Bytes) → length a ≡ length c → same_bytes (a ++ b) (c ++ d) ≡ same_bytes a c && same_bytes b d
+same_append [] b [] d e = refl
+same_append [] b (y ∷ c) d e = absurd (omega arith)
+same_append (x ∷ a) b [] d e = absurd (omega arith)
+same_append (x ∷ a) b (y ∷ c) d e =
+    ap (eqb x y &&◌) (same_append a b c d (omega arith)) ∙ sym (and_assoc (eqb x y) (same_bytes a c) (same_bytes b d))
 
 -- the first byte tells which of the two a message is
-tells : (a b : Bool) (x y : Bytes) → sameBytes (cond a (1 ∷ x) (0 ∷ x)) (cond b (1 ∷ y) (0 ∷ y)) ≡ Bool·beq a b && sameBytes x y
+tells : (a b : Bool) (x y : Bytes) → same_bytes (cond a (1 ∷ x) (0 ∷ x)) (cond b (1 ∷ y) (0 ∷ y)) ≡ beq a b && same_bytes x y
 tells true true x y = refl
 tells true false x y = refl
 tells false true x y = refl
 tells false false x y = refl
 
-by-parts : (m n : Message) →
-    sameBytes (messageBytes m) (messageBytes n)
-    ≡ Bool·beq (m .leaf) (n .leaf)
-    && (sameBytes (hashBytes (m .first)) (hashBytes (n .first)) && sameBytes (hashBytes (m .second)) (hashBytes (n .second)))
-unfolding messageBytes
-by-parts m n =
-    tells (m .leaf) (n .leaf) (hashBytes (m .first) ++ hashBytes (m .second)) (hashBytes (n .first) ++ hashBytes (n .second))
-    ∙ ap (Bool·beq (m .leaf) (n .leaf) &&_)
-    (same-append (hashBytes (m .first)) (hashBytes (m .second)) (hashBytes (n .first)) (hashBytes (n .second))
-    (hash-long (m .first) ∙ sym (hash-long (n .first))))
+by_parts : (m n : Message) →
+    same_bytes (message_bytes m) (message_bytes n)
+    ≡ beq m.leaf n.leaf
+    && (same_bytes (hash_bytes m.first) (hash_bytes n.first) && same_bytes (hash_bytes m.second) (hash_bytes n.second))
+unfolding message_bytes
+by_parts m n =
+    tells m.leaf n.leaf (hash_bytes m.first ++ hash_bytes m.second) (hash_bytes n.first ++ hash_bytes n.second)
+    ∙ ap (beq m.leaf n.leaf &&◌)
+    (same_append (hash_bytes m.first) (hash_bytes m.second) (hash_bytes n.first) (hash_bytes n.second)
+    (hash_long m.first ∙ sym (hash_long n.first)))
 
-pub other-kind : (m n : Message) → Bool·beq (m .leaf) (n .leaf) ≡ false → sameBytes (messageBytes m) (messageBytes n) ≡ false
-other-kind m n e = by-parts m n ∙ rw e
+pub other_kind : (m n : Message) → beq m.leaf n.leaf ≡ false → same_bytes (message_bytes m) (message_bytes n) ≡ false
+other_kind m n e = by_parts m n ∙ rw e
 
-pub other-first : (m n : Message) → Bool·beq (m .leaf) (n .leaf) ≡ true → sameBytes (hashBytes (m .first)) (hashBytes (n .first)) ≡ false →
-    sameBytes (messageBytes m) (messageBytes n) ≡ false
-other-first m n e f = by-parts m n ∙ rw (e, f)
+pub other_first : (m n : Message) → beq m.leaf n.leaf ≡ true → same_bytes (hash_bytes m.first) (hash_bytes n.first) ≡ false →
+    same_bytes (message_bytes m) (message_bytes n) ≡ false
+other_first m n e f = by_parts m n ∙ rw (e, f)
 
-pub same-first : (m n : Message) → Bool·beq (m .leaf) (n .leaf) ≡ true → sameBytes (hashBytes (m .first)) (hashBytes (n .first)) ≡ true →
-    sameBytes (messageBytes m) (messageBytes n) ≡ sameBytes (hashBytes (m .second)) (hashBytes (n .second))
-same-first m n e f = by-parts m n ∙ rw (e, f)
+pub same_first : (m n : Message) → beq m.leaf n.leaf ≡ true → same_bytes (hash_bytes m.first) (hash_bytes n.first) ≡ true →
+    same_bytes (message_bytes m) (message_bytes n) ≡ same_bytes (hash_bytes m.second) (hash_bytes n.second)
+same_first m n e f = by_parts m n ∙ rw (e, f)
 
 -- its hash is that of its node
-pub leaf-hashed : (m : Message) → m .leaf ≡ true → sha256 (messageBytes m) ≡ leafHash (hashBytes (m .first)) (hashBytes (m .second))
-unfolding messageBytes leafHash
-leaf-hashed m e = rw e
+pub leaf_hashed : (m : Message) → m.leaf ≡ true → sha256 (message_bytes m) ≡ leaf_hash (hash_bytes m.first) (hash_bytes m.second)
+unfolding message_bytes leaf_hash
+leaf_hashed m e = rw e
 
-pub inner-hashed : (m : Message) → m .leaf ≡ false → sha256 (messageBytes m) ≡ innerHash (hashBytes (m .first)) (hashBytes (m .second))
-unfolding messageBytes innerHash
-inner-hashed m e = rw e
+pub inner_hashed : (m : Message) → m.leaf ≡ false → sha256 (message_bytes m) ≡ inner_hash (hash_bytes m.first) (hash_bytes m.second)
+unfolding message_bytes inner_hash
+inner_hashed m e = rw e
 
 -- a message doesn't collide with itself
 pub itself : (a b : Bool) → a ≡ true → false ≡ not a && b

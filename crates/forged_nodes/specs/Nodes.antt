@@ -1,42 +1,38 @@
 -- Request 2026-12: what the search over a store's slots names, case by case. Assumes nothing.
-use Prim.Native.Nat.{ℕ, _<_}
-use mathlib.Core.Path.{_≡_}
-use mathlib.Core.List.{List}
-use lib.ListN.{length, getD}
-use mathlib.Core.Bool.{Bool, true, _&&_}
-use Rattle·terms.specs.Bits.{Bytes, sameBytes}
-use Rattle·terms.specs.Records.{zeros}
-use Rattle·sha256.specs.Sha256.{sha256}
-use Rattle·terms.specs.declared.Form.the-variants.{Counted as counted}
-use Rattle·layout.specs.Sizes.{roomOf}
-use Rattle·layout.specs.Headers.{sizeRight}
-use Rattle·layout.specs.Slots.{slotOf}
-use Rattle·layout.specs.Stores.{slotIn}
-use Rattle·forgery.specs.Finding.{Finding, nothing, twoEqual, oneZero}
-use Rattle·forged_message.specs.Parts.{messageBytes, firstWord}
-use Rattle·forged_slot.specs.Slot.{standsHere, messageIn}
-use Rattle·forged_nodes·specs.specs.declared.Named as declared
-use Rattle·forged_nodes·specs.specs.declared.Named.the-variants.{Nothing, Two, Zero}
+use Rattle.std.specs.Prelude.{ℕ, ◌<◌, ◌≡◌, List, length, get_or, Bool, true, ◌&&◌}
+use Rattle.terms.specs.Bits.{Bytes, same_bytes}
+use Rattle.terms.specs.Records.{zeros}
+use Rattle.sha256.specs.Sha256.{sha256}
+use Rattle.terms.specs.declared.Form.TheVariants.{Counted as counted}
+use Rattle.layout.specs.Sizes.{room_of}
+use Rattle.layout.specs.Headers.{size_right}
+use Rattle.layout.specs.Slots.{slot_of}
+use Rattle.layout.specs.Stores.{slot_in}
+use Rattle.forgery.specs.Finding.{Finding, nothing, two_equal, one_zero}
+use Rattle.forged_message.specs.Parts.{message_bytes, first_word}
+use Rattle.forged_slot.specs.Slot.{stands_here, message_in}
+use Rattle.forged_nodes.specs.declared.Named as declared
+use Rattle.forged_nodes.specs.declared.Named.TheVariants.{Nothing, Two, Zero}
 
 -- What is named.
-unfoldable pub namedSays : declared.Named → Finding
-namedSays Nothing = nothing
-namedSays (Two n m) = twoEqual (messageBytes n) (messageBytes m)
-namedSays (Zero m) = oneZero (messageBytes m)
+unfoldable pub named_says : declared.Named → Finding
+named_says Nothing = nothing
+named_says (Two n m) = two_equal (message_bytes n) (message_bytes m)
+named_says (Zero m) = one_zero (message_bytes m)
 
 -- A number is the first word of a node's hash; of what is no node it may be any.
 abbrev pub WordHere : ℕ → Bytes → ℕ → Type 0
-WordHere v x w = standsHere v (slotOf x) ≡ true → w ≡ firstWord (sha256 (messageIn x))
+WordHere v x w = stands_here v (slot_of x) ≡ true → w ≡ first_word (sha256 (message_in x))
 
 -- The first words of the first n slots are noted, and of all.
 pub record NotedTo (v : ℕ) (s : Bytes) (words : List ℕ) (n : ℕ) : Type 0 where
-  pub size : sizeRight counted (length s) ≡ true
+  pub size : size_right counted (length s) ≡ true
   pub long : length words ≡ 16384
-  pub each : (i : ℕ) → i < n → WordHere v (slotIn counted i s) (getD words i 0)
+  pub each : (i : ℕ) → i < n → WordHere v (slot_in counted i s) (get_or words i 0)
 
 abbrev pub Noted : ℕ → Bytes → List ℕ → Type 0
-Noted v s words = NotedTo v s words (roomOf counted (length s))
+Noted v s words = NotedTo v s words (room_of counted (length s))
 
 -- It is a node with hash zero.
-unfoldable pub zeroHere : ℕ → Bytes → Bool
-zeroHere v x = standsHere v (slotOf x) && sameBytes (sha256 (messageIn x)) zeros
+unfoldable pub zero_here : ℕ → Bytes → Bool
+zero_here v x = stands_here v (slot_of x) && same_bytes (sha256 (message_in x)) zeros

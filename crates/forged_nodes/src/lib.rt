@@ -1,24 +1,22 @@
 // The messages of a version's nodes, request 2026-12, read slot by slot: each node is hashed once, and the first word of its hash noted; the first whose
 // hash is zero. A node is hashed again only where that word agrees.
-use forged_message::Message;
-use forged_message::hash_word;
-use forged_message::hashes_to_zero;
-use forged_slot::record_message;
-use forged_slot::stands_in;
-use store::slot_count;
-use store::slot_of;
+#![tactic(auto)]
+
+ghost use Rattle.std.specs.Prelude.{◌≡◌, true, length};
+ghost use Rattle.sha256.specs.Sha256.{sha256};
+ghost use Rattle.layout.specs.Headers.{size_right};
+ghost use Rattle.layout.specs.Stores.{slot_in, store_of, Has};
+ghost use Rattle.forgery.specs.Messages.{node_messages};
+ghost use Rattle.forgery.specs.Finding.{zero_among};
+ghost use Rattle.forged_nodes.specs.Nodes.{named_says, WordHere, Noted, zero_here};
+
+use forged_message::{Message, hash_word, hashes_to_zero};
+use forged_slot::{record_message, stands_in};
+use store::{slot_count, slot_of};
 use terms::Form;
-ghost use mathlib.Core.Path.{_≡_};
-ghost use mathlib.Core.Bool.{true};
-ghost use lib.ListN.{length};
-ghost use Rattle·sha256.specs.Sha256.{sha256};
-ghost use Rattle·layout.specs.Headers.{sizeRight};
-ghost use Rattle·layout.specs.Stores.{slotIn, storeOf, Has};
-ghost use Rattle·forgery.specs.Messages.{nodeMessages};
-ghost use Rattle·forgery.specs.Finding.{zeroAmong};
-ghost use Rattle·forged_nodes·specs.specs.Nodes.{namedSays, WordHere, Noted, zeroHere};
 
 // What was found: nothing, two different messages with equal hash, or one whose hash is zero.
+#[derive(Clone, Copy)]
 pub enum Named {
     Nothing,
     Two { node: Message, checked: Message },
@@ -27,8 +25,8 @@ pub enum Named {
 
 // The first word of the node's hash; 0 where it is no node.
 fn word_here(store: &[u8], i: usize, version: u32) -> u64
-    requires { ⌜ Has Form.Counted (now store) i ⌝ }
-    ensures { λ r. ⌜ WordHere version (slotIn Form.Counted i (now (store .entry))) r ⌝ }
+    requires { Has Form.Counted store.now i }
+    ensures { WordHere version (slot_in Form.Counted i store.now) result }
 {
     if !stands_in(store, i, version) {
         return 0;
@@ -38,8 +36,8 @@ fn word_here(store: &[u8], i: usize, version: u32) -> u64
 
 // Notes the first word of each node's hash.
 pub fn note_words(store: &[u8], version: u32, words: &mut [u64; 16384])
-    requires { ⌜ (sizeRight Form.Counted (length (now store)) ≡ true) × (length (now words) ≡ 16384) ⌝ }
-    ensures { λ _. ⌜ Noted version (now (store .entry)) (now (words .exit)) ⌝ }
+    requires { (size_right Form.Counted (length store.now) ≡ true) × (length words.old ≡ 16384) }
+    ensures { Noted version store.now words.new }
 {
     let n = slot_count(Form::Counted, store);
     let mut i = 0;
@@ -51,8 +49,8 @@ pub fn note_words(store: &[u8], version: u32, words: &mut [u64; 16384])
 
 // Whether it is a node whose hash is zero; noted is the first word of its hash.
 fn zero_here(store: &[u8], i: usize, version: u32, noted: u64) -> bool
-    requires { ⌜ Has Form.Counted (now store) i × WordHere version (slotIn Form.Counted i (now store)) noted ⌝ }
-    ensures { λ r. ⌜ r ≡ zeroHere version (slotIn Form.Counted i (now (store .entry))) ⌝ }
+    requires { Has Form.Counted store.now i × WordHere version (slot_in Form.Counted i store.now) noted }
+    ensures { result ≡ zero_here version (slot_in Form.Counted i store.now) }
 {
     if noted != 0 {
         return false;
@@ -65,8 +63,8 @@ fn zero_here(store: &[u8], i: usize, version: u32, noted: u64) -> bool
 
 // The first node of a version whose hash is zero.
 pub fn zero_node(store: &[u8], version: u32, words: &[u64; 16384]) -> Named
-    requires { ⌜ Noted version (now store) (now words) ⌝ }
-    ensures { λ r. ⌜ namedSays r ≡ zeroAmong sha256 (nodeMessages version (storeOf (now (store .entry)) .slots)) ⌝ }
+    requires { Noted version store.now words.now }
+    ensures { named_says result ≡ zero_among sha256 (node_messages version (store_of store.now).slots) }
 {
     let n = slot_count(Form::Counted, store);
     let mut i = 0;

@@ -1,28 +1,26 @@
 // The message of a record, request 2026-12, and whether a slot's record is in a version's tree.
+#![tactic(auto)]
+
+ghost use Rattle.std.specs.Prelude.{◌≡◌, length};
+ghost use Rattle.layout.specs.Sizes.{slot_size};
+ghost use Rattle.layout.specs.Slots.{slot_of};
+ghost use Rattle.layout.specs.Stores.{slot_in, Has};
+ghost use Rattle.forged_message.specs.Parts.{message_bytes};
+ghost use Rattle.forged_slot.specs.Slot.{stands_here, message_in};
+
 use forged_message::Message;
 use hash::hash_at;
 use lifetime::covers;
 use lookup::holds_record;
-use slots::child_hash;
-use slots::key_of;
-use slots::value_of;
+use slots::{child_hash, key_of, value_of};
 use slots_form::is_leaf;
-use store::retired_at;
-use store::slot_of;
-use store::version_at;
+use store::{retired_at, slot_of, version_at};
 use terms::Form;
-ghost use mathlib.Core.Path.{_≡_};
-ghost use lib.ListN.{length};
-ghost use Rattle·layout.specs.Sizes.{slotSize};
-ghost use Rattle·layout.specs.Slots.{slotOf};
-ghost use Rattle·layout.specs.Stores.{slotIn, Has};
-ghost use Rattle·forged_message.specs.Parts.{messageBytes};
-ghost use Rattle·forged_slot·specs.specs.Slot.{standsHere, messageIn};
 
 // The message of a record, from what it holds.
 pub fn record_message(slot: &[u8]) -> Message
-    requires { ⌜ length (now slot) ≡ slotSize Form.Counted ⌝ }
-    ensures { λ r. ⌜ messageBytes r ≡ messageIn (now (slot .entry)) ⌝ }
+    requires { length slot.now ≡ slot_size Form.Counted }
+    ensures { message_bytes result ≡ message_in slot.now }
 {
     if is_leaf(slot) {
         let first = hash_at(key_of(slot), 0);
@@ -44,8 +42,8 @@ pub fn record_message(slot: &[u8]) -> Message
 
 // Whether slot i holds a record that is in a version's tree.
 pub fn stands_in(store: &[u8], i: usize, version: u32) -> bool
-    requires { ⌜ Has Form.Counted (now store) i ⌝ }
-    ensures { λ r. ⌜ r ≡ standsHere version (slotOf (slotIn Form.Counted i (now (store .entry)))) ⌝ }
+    requires { Has Form.Counted store.now i }
+    ensures { result ≡ stands_here version (slot_of (slot_in Form.Counted i store.now)) }
 {
     if !covers(
         version_at(Form::Counted, store, i),

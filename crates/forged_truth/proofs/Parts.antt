@@ -1,63 +1,63 @@
 -- What a proof says by its parts: of its key, and of the neighbours by the flags. Assumes nothing.
-use Prim.Native.Nat.{ℕ, _≤_, _<_}
+use Prim.Native.Nat.{ℕ, ◌≤◌, ◌<◌}
 use native.Mathlib.Omega.{arith}
-use mathlib.Core.Path.{_≡_, refl, ap, sym, _∙_}
-use mathlib.Core.Bool.{Bool, true, false, _&&_, true≢false}
+use mathlib.Core.Path.{◌≡◌, refl, ap, sym, ◌∙◌}
+use mathlib.Core.Bool.{Bool, true, false, ◌&&◌, true≢false}
 use mathlib.Core.List.{List, []}
 use lib.ListN.{drop}
 use lib.Dec.{eqb}
-use borrow.Author.Tests.{eq-eqb, ne-eqb, eqb-true}
-use Rattle·terms.specs.Bits.{Bytes}
-use Rattle·terms.specs.Records.{Grant, Presence, presence, absence}
-use Rattle·terms.proofs.Tests.{and-true}
-use Rattle·meaning.specs.Reading.{present, absent, answerOf}
-use Rattle·proofrecords.specs.ProofBytes.{presenceIn, flags, leftPart, rightPart, isAbsence, absenceIn}
-use Rattle·proofrecords.proofs.Forms.{above-two, flags-both}
-use Rattle·forgery.specs.Finding.{says, sameVerdict, allTrue}
-use Rattle·forged_truth·specs.specs.Truth.{leafTrue, neighboursTrue}
+use borrow.Author.Tests.{eq-eqb, ne_eqb, eqb-true}
+use Rattle.terms.specs.Bits.{Bytes}
+use Rattle.terms.specs.Records.{Grant, Presence, presence, absence}
+use Rattle.terms.proofs.Tests.{and_true}
+use Rattle.meaning.specs.Reading.{present, absent, answer_of}
+use Rattle.proofrecords.specs.ProofBytes.{presence_in, flags, left_part, right_part, is_absence, absence_in}
+use Rattle.proofrecords.proofs.Forms.{above_two, flags_both}
+use Rattle.forgery.specs.Finding.{says, same_verdict, all_true}
+use Rattle.forged_truth.specs.Truth.{leaf_true, neighbours_true}
 
 module _ (gs : List Grant) where
   -- a presence proof shows one leaf
-  pub leaf-decides : (p : Presence) → leafTrue gs p ≡ allTrue gs (says (presence p))
-  unfolding leafTrue
-  leaf-decides p = sym (and-true (leafTrue gs p))
+  pub leaf_decides : (p : Presence) → leaf_true gs p ≡ all_true gs (says (presence p))
+  unfolding leaf_true
+  leaf_decides p = sym (and_true (leaf_true gs p))
 
   module _ (x : Bytes) where
     -- an absence proof speaks of its key first
-    pub key-there : sameVerdict (answerOf (absenceIn x .key) gs) absent ≡ false → false ≡ allTrue gs (says (absence (absenceIn x)))
-    key-there e = sym (rw e refl)
+    pub key_there : same_verdict (answer_of (absence_in x).key gs) absent ≡ false → false ≡ all_true gs (says (absence (absence_in x)))
+    key_there e = sym (rw e refl)
 
-    pub neighbours-decide : sameVerdict (answerOf (absenceIn x .key) gs) absent ≡ true →
-        neighboursTrue gs (absenceIn x) ≡ allTrue gs (says (absence (absenceIn x)))
-    unfolding neighboursTrue
-    neighbours-decide e = sym (rw e refl)
+    pub neighbours_decide : same_verdict (answer_of (absence_in x).key gs) absent ≡ true →
+        neighbours_true gs (absence_in x) ≡ all_true gs (says (absence (absence_in x)))
+    unfolding neighbours_true
+    neighbours_decide e = sym (rw e refl)
 
     -- and shows one neighbour, on either side, or two
-    module _ (whole : isAbsence x ≡ true) where
-      pub one-true : flags x ≤ 2 → leafTrue gs (presenceIn (drop 40 x)) ≡ neighboursTrue gs (absenceIn x)
-      unfolding absenceIn leafTrue neighboursTrue
-      one-true h = go (eqb (flags x) 1) (eqb (flags x) 2) refl refl
+    module _ (whole : is_absence x ≡ true) where
+      pub one_true : flags x ≤ 2 → leaf_true gs (presence_in (drop 40 x)) ≡ neighbours_true gs (absence_in x)
+      unfolding absence_in leaf_true neighbours_true
+      one_true h = go (eqb (flags x) 1) (eqb (flags x) 2) refl refl
         where
-          go : (a b : Bool) → eqb (flags x) 1 ≡ a → eqb (flags x) 2 ≡ b → leafTrue gs (presenceIn (drop 40 x)) ≡ neighboursTrue gs (absenceIn x)
+          go : (a b : Bool) → eqb (flags x) 1 ≡ a → eqb (flags x) 2 ≡ b → leaf_true gs (presence_in (drop 40 x)) ≡ neighbours_true gs (absence_in x)
           go true b e f =
               let one = eqb-true (flags x) 1 e in
-              sym (rw (eq-eqb (flags x) 1 one, ne-eqb (flags x) 2 (λ z. omega arith), ne-eqb (flags x) 3 (λ z. omega arith)) (and-true (leafTrue gs (presenceIn (drop 40 x)))))
+              sym (rw (eq-eqb (flags x) 1 one, ne_eqb (flags x) 2 (λ z. omega arith), ne_eqb (flags x) 3 (λ z. omega arith)) (and_true (leaf_true gs (presence_in (drop 40 x)))))
           go false true e f =
               let two = eqb-true (flags x) 2 f in
-              sym (rw (ne-eqb (flags x) 1 (λ z. omega arith), eq-eqb (flags x) 2 two, ne-eqb (flags x) 3 (λ z. omega arith)) (and-true (leafTrue gs (presenceIn (drop 40 x)))))
+              sym (rw (ne_eqb (flags x) 1 (λ z. omega arith), eq-eqb (flags x) 2 two, ne_eqb (flags x) 3 (λ z. omega arith)) (and_true (leaf_true gs (presence_in (drop 40 x)))))
           go false false e f =
-              absurd (omega (arith, h, above-two x whole (λ z. true≢false (sym (eq-eqb (flags x) 1 z) ∙ e)) (λ z. true≢false (sym (eq-eqb (flags x) 2 z) ∙ f))))
+              absurd (omega (arith, h, above_two x whole (λ z. true≢false (sym (eq-eqb (flags x) 1 z) ∙ e)) (λ z. true≢false (sym (eq-eqb (flags x) 2 z) ∙ f))))
 
-      both-true : 2 < flags x →
-          neighboursTrue gs (absenceIn x) ≡ leafTrue gs (presenceIn (leftPart x)) && (leafTrue gs (presenceIn (rightPart x)) && true)
-      unfolding absenceIn leafTrue neighboursTrue
-      both-true h =
-          let three = flags-both x whole h in
-          rw (ne-eqb (flags x) 1 (λ z. omega arith), ne-eqb (flags x) 2 (λ z. omega arith), eq-eqb (flags x) 3 three) refl
+      both_true : 2 < flags x →
+          neighbours_true gs (absence_in x) ≡ leaf_true gs (presence_in (left_part x)) && (leaf_true gs (presence_in (right_part x)) && true)
+      unfolding absence_in leaf_true neighbours_true
+      both_true h =
+          let three = flags_both x whole h in
+          rw (ne_eqb (flags x) 1 (λ z. omega arith), ne_eqb (flags x) 2 (λ z. omega arith), eq-eqb (flags x) 3 three) refl
 
       module _ (h : 2 < flags x) where
-        pub left-false : leafTrue gs (presenceIn (leftPart x)) ≡ false → false ≡ neighboursTrue gs (absenceIn x)
-        left-false e = sym (both-true h ∙ rw e refl)
+        pub left_false : leaf_true gs (presence_in (left_part x)) ≡ false → false ≡ neighbours_true gs (absence_in x)
+        left_false e = sym (both_true h ∙ rw e refl)
 
-        pub right-decides : leafTrue gs (presenceIn (leftPart x)) ≡ true → leafTrue gs (presenceIn (rightPart x)) ≡ neighboursTrue gs (absenceIn x)
-        right-decides e = sym (both-true h ∙ rw e (and-true (leafTrue gs (presenceIn (rightPart x)))))
+        pub right_decides : leaf_true gs (presence_in (left_part x)) ≡ true → leaf_true gs (presence_in (right_part x)) ≡ neighbours_true gs (absence_in x)
+        right_decides e = sym (both_true h ∙ rw e (and_true (leaf_true gs (presence_in (right_part x)))))

@@ -1,80 +1,80 @@
 -- A key read of a kept version of a sound store answers what its grants say: `shown` says so, and here each case of the answer. Assumes nothing.
 use Prim.Native.Nat.{ℕ}
 use native.Mathlib.Omega.{arith}
-use mathlib.Core.Path.{_≡_, refl, ap, sym, _∙_}
+use mathlib.Core.Path.{◌≡◌, refl, ap, sym, ◌∙◌}
 use mathlib.Core.Bool.{true, false, cond}
 use mathlib.Core.List.{[]}
 use lib.ListN.{length}
 use borrow.Author.Tests.{le-leb}
-use Rattle·terms.specs.declared.Form.the-variants.{Counted as counted}
-use Rattle·terms.specs.Bits.{Bytes, Whole32, sameBytes}
-use Rattle·meaning.specs.Calls.{Answer, refused, accepted, isKept}
-use Rattle·meaning.specs.Reading.{seen, walk, Verdict, present, absent, readEnd, answerOf, readKey}
-use Rattle·indexed.proofs.Scanned.{without-table}
-use Rattle·shown.proofs.Theorems.{key-read-is-answer}
-use Rattle·nodehash.specs.Node.{leafHash, innerHash}
-use Rattle·hash.specs.declared.Hash as declared-hash
-use Rattle·hash.specs.Hash.{hashBytes}
-use Rattle·layout.specs.Headers.{sizeRight}
-use Rattle·layout.specs.Stores.{storeOf}
-use Rattle·layout.proofs.Headers.{accepted as header-accepted, size-right-of}
-use Rattle·promises.specs.Calls.{SoundBytes}
-use Rattle·read_key.specs.Parts.{readSays, walkRead}
-use Rattle·read_key.specs.declared.KeyRead as declared
-use Rattle·read_key.specs.declared.KeyRead.the-variants.{Refused, Present, Absent}
-use Rattle·forgery.specs.Finding.{sameVerdict}
-use Rattle·forged_truth·specs.specs.Truth.{SoundVersion, grantsAt}
+use Rattle.terms.specs.declared.Form.TheVariants.{Counted as counted}
+use Rattle.terms.specs.Bits.{Bytes, Whole32, same_bytes}
+use Rattle.meaning.specs.Calls.{Answer, refused, accepted, is_kept}
+use Rattle.meaning.specs.Reading.{seen, walk, Verdict, present, absent, read_end, answer_of, read_key}
+use Rattle.indexed.proofs.Scanned.{without_table}
+use Rattle.shown.proofs.Theorems.{key_read_is_answer}
+use Rattle.nodehash.specs.Node.{leaf_hash, inner_hash}
+use Rattle.hash.specs.declared.Hash as declared-hash
+use Rattle.hash.specs.Hash.{hash_bytes}
+use Rattle.layout.specs.Headers.{size_right}
+use Rattle.layout.specs.Stores.{store_of}
+use Rattle.layout.proofs.Headers.{accepted as header-accepted, size_right_of}
+use Rattle.promises.specs.Calls.{SoundBytes}
+use Rattle.read_key.specs.Parts.{read_says, walk_read}
+use Rattle.read_key.specs.declared.KeyRead as declared
+use Rattle.read_key.specs.declared.KeyRead.TheVariants.{Refused, Present, Absent}
+use Rattle.forgery.specs.Finding.{same_verdict}
+use Rattle.forged_truth.specs.Truth.{SoundVersion, grants_at}
 
 -- sound bytes have the right size
-pub sound-size : {s : Bytes} → SoundBytes s → sizeRight counted (length s) ≡ true
-sound-size {s} w =
-    let h = header-accepted s (w .capacity) (w .oldest) (w .latest) (w .headed) in
-    size-right-of counted (length s) (w .capacity) (h .size) (h .some) (h .fits)
+pub sound_size : {s : Bytes} → SoundBytes s → size_right counted (length s) ≡ true
+sound_size {s} w =
+    let h = header-accepted s w.capacity w.oldest w.latest w.headed in
+    size_right_of counted (length s) w.capacity h.size h.some h.fits
 
-refused-not-accepted : {A : Type 0} {n : ℕ} {a : Verdict} → _≡_ {A = Answer Verdict} (refused n) (accepted a) → A
-refused-not-accepted e = let z : _≡_ {A = ℕ} 0 1 = cc in absurd (omega arith)
+refused_not_accepted : {A : Type 0} {n : ℕ} {a : Verdict} → ◌≡◌ {A = Answer Verdict} (refused n) (accepted a) → A
+refused_not_accepted e = let z : ◌≡◌ {A = ℕ} 0 1 = cc in absurd (omega arith)
 
-accepted-same : {a b : Verdict} → _≡_ {A = Answer Verdict} (accepted a) (accepted b) → a ≡ b
-accepted-same e = cc
+accepted_same : {a b : Verdict} → ◌≡◌ {A = Answer Verdict} (accepted a) (accepted b) → a ≡ b
+accepted_same e = cc
 
 module _ {s : Bytes} {v : ℕ} (w : SoundVersion s v) (k : Bytes) (whole : Whole32 k) where
-  walked : walkRead s [] v k ≡ accepted (answerOf k (grantsAt s v))
-  unfolding walkRead readKey isKept
+  walked : walk_read s [] v k ≡ accepted (answer_of k (grants_at s v))
+  unfolding walk_read read_key is_kept
   walked =
-      ap (λ look. readEnd k (walk k 0 [] (seen look v))) (without-table (storeOf s))
-      ∙ rw (le-leb (storeOf s .oldest) v (w .kept .0), le-leb v (storeOf s .latest) (w .kept .1)) at
-      (key-read-is-answer leafHash innerHash (storeOf s) (w .sound .sound) v (w .kept) k whole)
+      ap (λ look. read_end k (walk k 0 [] (seen look v))) (without_table (store_of s))
+      ∙ rw (le-leb (store_of s).oldest v w.kept.0, le-leb v (store_of s).latest w.kept.1) at
+      (key_read_is_answer leaf_hash inner_hash (store_of s) w.sound.sound v w.kept k whole)
 
-  module _ (r : declared.KeyRead) (says : readSays r ≡ walkRead s [] v k) where
-    not-refused : {A : Type 0} {n : ℕ} → r ≡ Refused n → A
-    unfolding readSays
-    not-refused e = refused-not-accepted (sym (ap readSays e) ∙ says ∙ walked)
+  module _ (r : declared.KeyRead) (says : read_says r ≡ walk_read s [] v k) where
+    not_refused : {A : Type 0} {n : ℕ} → r ≡ Refused n → A
+    unfolding read_says
+    not_refused e = refused_not_accepted (sym (ap read_says e) ∙ says ∙ walked)
 
-    has : {h : declared-hash.Hash} → r ≡ Present h → answerOf k (grantsAt s v) ≡ present (hashBytes h)
-    unfolding readSays
-    has e = sym (accepted-same (sym (ap readSays e) ∙ says ∙ walked))
+    has : {h : declared-hash.Hash} → r ≡ Present h → answer_of k (grants_at s v) ≡ present (hash_bytes h)
+    unfolding read_says
+    has e = sym (accepted_same (sym (ap read_says e) ∙ says ∙ walked))
 
-    lacks : r ≡ Absent → answerOf k (grantsAt s v) ≡ absent
-    unfolding readSays
-    lacks e = sym (accepted-same (sym (ap readSays e) ∙ says ∙ walked))
+    lacks : r ≡ Absent → answer_of k (grants_at s v) ≡ absent
+    unfolding read_says
+    lacks e = sym (accepted_same (sym (ap read_says e) ∙ says ∙ walked))
 
     -- whether it is this value
-    pub refused-value : {n : ℕ} (x : Bytes) → r ≡ Refused n → false ≡ sameVerdict (answerOf k (grantsAt s v)) (present x)
-    refused-value x e = not-refused e
+    pub refused_value : {n : ℕ} (x : Bytes) → r ≡ Refused n → false ≡ same_verdict (answer_of k (grants_at s v)) (present x)
+    refused_value x e = not_refused e
 
-    pub same-value : {h : declared-hash.Hash} (x : Bytes) → r ≡ Present h →
-        sameBytes (hashBytes h) x ≡ sameVerdict (answerOf k (grantsAt s v)) (present x)
-    same-value x e = sym (ap (λ a. sameVerdict a (present x)) (has e))
+    pub same_value : {h : declared-hash.Hash} (x : Bytes) → r ≡ Present h →
+        same_bytes (hash_bytes h) x ≡ same_verdict (answer_of k (grants_at s v)) (present x)
+    same_value x e = sym (ap (λ a. same_verdict a (present x)) (has e))
 
-    pub no-value : (x : Bytes) → r ≡ Absent → false ≡ sameVerdict (answerOf k (grantsAt s v)) (present x)
-    no-value x e = sym (ap (λ a. sameVerdict a (present x)) (lacks e))
+    pub no_value : (x : Bytes) → r ≡ Absent → false ≡ same_verdict (answer_of k (grants_at s v)) (present x)
+    no_value x e = sym (ap (λ a. same_verdict a (present x)) (lacks e))
 
     -- whether it is absent
-    pub refused-absent : {n : ℕ} → r ≡ Refused n → false ≡ sameVerdict (answerOf k (grantsAt s v)) absent
-    refused-absent e = not-refused e
+    pub refused_absent : {n : ℕ} → r ≡ Refused n → false ≡ same_verdict (answer_of k (grants_at s v)) absent
+    refused_absent e = not_refused e
 
-    pub there : {h : declared-hash.Hash} → r ≡ Present h → false ≡ sameVerdict (answerOf k (grantsAt s v)) absent
-    there e = sym (ap (λ a. sameVerdict a absent) (has e))
+    pub there : {h : declared-hash.Hash} → r ≡ Present h → false ≡ same_verdict (answer_of k (grants_at s v)) absent
+    there e = sym (ap (λ a. same_verdict a absent) (has e))
 
-    pub not-there : r ≡ Absent → true ≡ sameVerdict (answerOf k (grantsAt s v)) absent
-    not-there e = sym (ap (λ a. sameVerdict a absent) (lacks e))
+    pub not_there : r ≡ Absent → true ≡ same_verdict (answer_of k (grants_at s v)) absent
+    not_there e = sym (ap (λ a. same_verdict a absent) (lacks e))

@@ -1,17 +1,20 @@
 // Formatting: a store of any contents becomes a fresh one.
+#![tactic(auto)]
+
+ghost use Rattle.std.specs.Prelude.{◌≡◌};
+ghost use Rattle.contracts.specs.Format.{format_answer, format_bytes};
+
 use fields::clear;
 use header::put_header;
 use header_form::size_right;
 use refusal_numbers::WRONG_SIZE;
 use store::slot_count;
 use terms::Form;
-ghost use mathlib.Core.Path.{_≡_};
-ghost use Rattle·contracts.specs.Format.{formatAnswer, formatBytes};
 
 // 0 where the store is formatted, else 1; refused, nothing is written.
 pub fn format(store: &mut [u8]) -> u32
-    ensures answer { λ r. ⌜ r ≡ formatAnswer (now (store .entry)) ⌝ }
-    ensures bytes { λ _. ⌜ now (store .exit) ≡ formatBytes (now (store .entry)) ⌝ }
+    ensures answer { result ≡ format_answer store.old }
+    ensures bytes { store.new ≡ format_bytes store.old }
 {
     if !size_right(Form::Counted, store.len()) {
         return WRONG_SIZE;
@@ -24,8 +27,8 @@ pub fn format(store: &mut [u8]) -> u32
 
 // What `grants` exports. No proof file stands behind it, so that an idle one is refused by its contract alone.
 pub fn formatted_out(store: &mut [u8]) -> u32
-    ensures answer { λ r. ⌜ r ≡ formatAnswer (now (store .entry)) ⌝ }
-    ensures bytes { λ _. ⌜ now (store .exit) ≡ formatBytes (now (store .entry)) ⌝ }
+    ensures answer { result ≡ format_answer store.old }
+    ensures bytes { store.new ≡ format_bytes store.old }
 {
     format(store)
 }

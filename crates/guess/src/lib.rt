@@ -1,27 +1,27 @@
 // A guess at the slot of a node: a number to keep guesses by, and the look at a slot that a guess names. Guesses are made without proof and looked
 // at before they are believed, so a wrong one costs time and never an answer.
+#![tactic(auto)]
+
+ghost use Rattle.std.specs.Prelude.{◌≡◌, true, ◌<◌, length};
+ghost use Rattle.place.specs.Place.{place_of, Proper};
+ghost use Rattle.layout.specs.Headers.{size_right};
+ghost use Rattle.guess.specs.Guess.{NodeAt};
+
 use agree::holds_node;
 use place::Place;
 use store::slot_count;
 use terms::Form;
-ghost use mathlib.Core.Path.{_≡_};
-ghost use mathlib.Core.Bool.{true};
-ghost use Prim.Native.Nat.{_<_};
-ghost use lib.ListN.{length};
-ghost use Rattle·place.specs.Place.{placeOf, Proper};
-ghost use Rattle·layout.specs.Headers.{sizeRight};
-ghost use Rattle·guess·specs.specs.Guess.{NodeAt};
 
 fn wide(x: u8) -> u64
-    ensures { λ r. ⌜ (r ≡ x) × (r < 256) ⌝ }
+    ensures { (result ≡ x) × (result < 256) }
 {
     x as u64
 }
 
 // A number for a node, spread out: by the first three bytes of its place, the last two, the bit count and the version.
 pub fn spread(version: u32, count: usize, bits: &[u8]) -> u64
-    requires { ⌜ length (now bits) ≡ 32 ⌝ }
-    ensures { λ r. ⌜ r < 4294967296 ⌝ }
+    requires { length bits.now ≡ 32 }
+    ensures { result < 4294967296 }
 {
     let many = count % 512;
     let last = (many + 255) % 256 / 8;
@@ -34,8 +34,8 @@ pub fn spread(version: u32, count: usize, bits: &[u8]) -> u64
 
 // Whether there is a slot i and it holds the node (version, place).
 pub fn holds(store: &[u8], i: usize, version: u32, place: Place) -> bool
-    requires { ⌜ (sizeRight Form.Counted (length (now store)) ≡ true) × Proper place ⌝ }
-    ensures { λ r. ⌜ NodeAt (now (store .entry)) i version (placeOf place) r ⌝ }
+    requires { (size_right Form.Counted (length store.now) ≡ true) × Proper place }
+    ensures { NodeAt store.now i version (place_of place) result }
 {
     let n = slot_count(Form::Counted, store);
     if n <= i {

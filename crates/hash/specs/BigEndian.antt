@@ -1,8 +1,6 @@
 -- FIPS 180-4, 3.1: numbers as bytes, the top byte first. Assumes nothing.
-use Prim.Native.Nat.{ℕ, zero, suc, _+_, _*_, _/_, _%_, _^_}
-use mathlib.Core.List.{[], _∷_}
-use lib.ListN.{length, getD}
-use Rattle·terms.specs.Bits.{Bytes}
+use Rattle.std.specs.Prelude.{ℕ, zero, suc, ◌+◌, ◌*◌, ◌/◌, ◌%◌, ◌^◌, [], ◌∷◌, length, get_or}
+use Rattle.terms.specs.Bits.{Bytes}
 
 -- The last n bytes of a number.
 abbrev pub big : ℕ → ℕ → Bytes
@@ -15,5 +13,5 @@ number [] = 0
 number (x ∷ xs) = x * 2 ^ (length xs * 8) + number xs
 
 -- The word of 32 bits that begins at byte p.
-unfoldable pub wordAt : Bytes → ℕ → ℕ
-wordAt l p = getD l p 0 * 2 ^ 24 + getD l (p + 1) 0 * 2 ^ 16 + getD l (p + 2) 0 * 2 ^ 8 + getD l (p + 3) 0
+unfoldable pub word_at : Bytes → ℕ → ℕ
+word_at l p = get_or l p 0 * 2 ^ 24 + get_or l (p + 1) 0 * 2 ^ 16 + get_or l (p + 2) 0 * 2 ^ 8 + get_or l (p + 3) 0

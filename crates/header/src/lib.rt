@@ -1,23 +1,20 @@
 // Reading and writing the header of a store in lent memory, document 01, 'Bytes'.
-use fields::get_u32;
-use fields::put_u16;
-use fields::put_u32;
-use header_form::header_kind;
-use header_form::header_right;
-use header_form::size_right;
+#![tactic(auto)]
+
+ghost use Rattle.std.specs.Prelude.{◌≡◌, ◌≤◌, length};
+ghost use Rattle.fields.specs.Written.{written};
+ghost use Rattle.layout.specs.Sizes.{header_size};
+ghost use Rattle.layout.specs.Headers.{header_of, header_bytes};
+ghost use Rattle.header.specs.Answer.{header_says};
+
+use fields::{get_u32, put_u16, put_u32};
+use header_form::{header_kind, header_right, size_right};
 use layout::sizes;
-use refusal_numbers::WRONG_HEADER;
-use refusal_numbers::WRONG_SIZE;
+use refusal_numbers::{WRONG_HEADER, WRONG_SIZE};
 use terms::Form;
-ghost use mathlib.Core.Path.{_≡_};
-ghost use Prim.Native.Nat.{_≤_};
-ghost use lib.ListN.{length};
-ghost use Rattle·fields.specs.Written.{written};
-ghost use Rattle·layout.specs.Sizes.{headerSize};
-ghost use Rattle·layout.specs.Headers.{headerOf, headerBytes};
-ghost use Rattle·header·specs.specs.Answer.{headerSays};
 
 // What reading a header answers.
+#[derive(Clone, Copy)]
 pub enum Header {
     Refused(u32),
     Accepted {
@@ -29,7 +26,7 @@ pub enum Header {
 
 // Reads the header of any bytes.
 pub fn read_header(form: Form, store: &[u8]) -> Header
-    ensures { λ r. ⌜ headerSays r ≡ headerOf form (now (store .entry)) ⌝ }
+    ensures { header_says result ≡ header_of form store.now }
 {
     if !size_right(form, store.len()) {
         return Header::Refused(WRONG_SIZE);
@@ -46,8 +43,8 @@ pub fn read_header(form: Form, store: &[u8]) -> Header
 
 // Writes the 24 bytes of a header, and nothing else.
 pub fn put_header(form: Form, store: &mut [u8], capacity: u32, oldest: u32, latest: u32)
-    requires { ⌜ headerSize ≤ length (now store) ⌝ }
-    ensures { λ _. ⌜ now (store .exit) ≡ written 0 (headerBytes form capacity oldest latest) (now (store .entry)) ⌝ }
+    requires { header_size ≤ length store.old }
+    ensures { store.new ≡ written 0 (header_bytes form capacity oldest latest) store.old }
 {
     let kind = header_kind(form);
     put_u32(store, 0, sizes::HEADER_LENGTH);

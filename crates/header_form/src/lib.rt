@@ -1,19 +1,17 @@
 // The form of a header, document 01, 'Bytes', and refusals 1 and 2: whether a store's length and first 24 bytes are right.
-use fields::all_zero;
-use fields::get_u16;
-use fields::get_u32;
-use layout::sizes;
-use layout::slot_size;
+#![tactic(auto)]
+
+ghost use Rattle.std.specs.Prelude.{◌≡◌, ◌≤◌, length};
+ghost use Rattle.layout.specs.Sizes.{header_size, header_kind};
+ghost use Rattle.layout.specs.Headers.{size_right, header_right};
+
+use fields::{all_zero, get_u16, get_u32};
+use layout::{sizes, slot_size};
 use terms::Form;
-ghost use mathlib.Core.Path.{_≡_};
-ghost use Prim.Native.Nat.{_≤_};
-ghost use lib.ListN.{length};
-ghost use Rattle·layout.specs.Sizes.{headerSize, headerKind};
-ghost use Rattle·layout.specs.Headers.{sizeRight, headerRight};
 
 // The kind of a header of either form.
 pub fn header_kind(form: Form) -> u16
-    ensures { λ r. ⌜ r ≡ headerKind form ⌝ }
+    ensures { result ≡ header_kind form }
 {
     match form {
         Form::Plain => sizes::PLAIN_HEADER_KIND,
@@ -23,7 +21,7 @@ pub fn header_kind(form: Form) -> u16
 
 // Whether a store of n bytes has a header and 1 to 16,384 slots, no byte over.
 pub fn size_right(form: Form, n: usize) -> bool
-    ensures { λ r. ⌜ r ≡ sizeRight form n ⌝ }
+    ensures { result ≡ size_right form n }
 {
     let size = slot_size(form);
     if n < sizes::HEADER_SIZE + size {
@@ -37,8 +35,8 @@ pub fn size_right(form: Form, n: usize) -> bool
 
 // Whether each header field is as it should be.
 pub fn header_right(form: Form, store: &[u8]) -> bool
-    requires { ⌜ headerSize ≤ length (now store) ⌝ }
-    ensures { λ r. ⌜ r ≡ headerRight form (now (store .entry)) ⌝ }
+    requires { header_size ≤ length store.now }
+    ensures { result ≡ header_right form store.now }
 {
     let kind = header_kind(form);
     let size = slot_size(form);

@@ -1,168 +1,169 @@
 -- The records of a tree are its nodes, each once: records of two children begin with different places, and records below a node have
 -- longer places. Assumes nothing.
-use Prim.Native.Nat.{ℕ, _<_}
+use Prim.Native.Nat.{ℕ, ◌<◌}
 use native.Mathlib.Omega.{arith}
-use mathlib.Core.Path.{_≡_, refl, ap, sym, _∙_, subst₂}
-use mathlib.Core.Logic.{_⊎_, inl, inr}
-use mathlib.Core.Bool.{Bool, true, false, cond, _||_, false≢true}
-use mathlib.Core.List.{List, [], _∷_, _++_}
+use mathlib.Core.Path.{◌≡◌, refl, ap, sym, ◌∙◌, subst₂}
+use mathlib.Core.Logic.{◌⊎◌, inl, inr}
+use mathlib.Core.Bool.{Bool, true, false, cond, ◌||◌, false≢true}
+use mathlib.Core.List.{List, [], ◌∷◌, ◌++◌}
 use lib.ListN.{length}
 use borrow.Author.Tests.{eqb-true, eq-eqb}
-use Rattle·terms.specs.Bits.{Bytes, Side, left, right, Place, longer, filter, prefix}
-use Rattle·terms.specs.Records.{Record, Body, leafBody, innerBody}
-use Rattle·terms.proofs.Lists.{all-append, all-filter}
-use Rattle·terms.proofs.Places.{length-longer, prefix-longer, prefix-self, prefix-length}
-use Rattle·terms.proofs.Members.{In, in-left, in-right, in-append, in-filter, filter-in, all-in}
-use Rattle·meaning.specs.Tree.{VTree, vnone, vleaf, vinner, topVersion, kid}
-use Rattle·meaning.specs.Store.{isNode, hasNode, childOf, countsOf, recordAt, recordsBelow, recordsOf, newRecords}
-use Rattle·meaning.specs.Sound.{NodeOf}
-use Rattle·meaning.proofs.Finding.{Within, there, go-kid, Some, some-leaf, some-inner, within-node, isNode-eq}
-use Rattle·histories·proofs.proofs.Slots.{is-node, not-node}
-use Rattle·histories·proofs.proofs.Writing.{Not, Distinct, New}
+use Rattle.terms.specs.Bits.{Bytes, Side, left, right, Place, longer, filter, prefix}
+use Rattle.terms.specs.Records.{Record, Body, leaf_body, inner_body}
+use Rattle.terms.proofs.Lists.{all_append, all_filter}
+use Rattle.terms.proofs.Places.{length_longer, prefix_longer, prefix_self, prefix_length}
+use Rattle.terms.proofs.Members.{In, in_left, in_right, in_append, in_filter, filter_in, all_in}
+use Rattle.meaning.specs.Tree.{VTree, vnone, vleaf, vinner, top_version, kid}
+use Rattle.meaning.specs.Store.{is_node, has_node, child_of, counts_of, record_at, records_below, records_of, new_records}
+use Rattle.meaning.specs.Sound.{NodeOf}
+use Rattle.meaning.proofs.Finding.{Within, there, go_kid, Some, some_leaf, some_inner, within_node, is_node_eq}
+use Rattle.histories.proofs.Slots.{is_node_lem, not_node}
+use Rattle.histories.proofs.Writing.{Not, Distinct, New}
 
 -- places
 
-sides-apart : (p q : Place) → prefix (longer left p) q ≡ true → prefix (longer right p) q ≡ true → ⊥
-sides-apart p q h k = false≢true (sym (prefix-longer left p q h .1) ∙ prefix-longer right p q k .1)
+sides_apart : (p q : Place) → prefix (longer left p) q ≡ true → prefix (longer right p) q ≡ true → ⊥
+sides_apart p q h k = false≢true (sym (prefix_longer left p q h).1 ∙ (prefix_longer right p q k).1)
 
-within-prefix : {u : VTree} {q : Place} {t : VTree} {p : Place} → Within u q t p → prefix p q ≡ true
-within-prefix {q = q} there = prefix-self q
-within-prefix {q = q} (go-kid b {p = p} w) = prefix-longer b p q (within-prefix w) .0
+within_prefix : {u : VTree} {q : Place} {t : VTree} {p : Place} → Within u q t p → prefix p q ≡ true
+within_prefix {q = q} there = prefix_self q
+within_prefix {q = q} (go_kid b {p = p} w) = (prefix_longer b p q (within_prefix w)).0
 
 -- hasNode is a search by version and place
 
-has-node : (r x : Record) (xs : List Record) → In x xs → r .version ≡ x .version → r .place ≡ x .place → hasNode r xs ≡ true
-has-node r x [] h e f = absurd h
-has-node r x (y ∷ xs) (inl k) e f = rw (is-node r y (e ∙ sym (ap (λ u. u .version) k)) (f ∙ sym (ap (λ u. u .place) k)))
-has-node r x (y ∷ xs) (inr h) e f = go (isNode (r .version) (r .place) y) (has-node r x xs h e f)
+has_node_lem : (r x : Record) (xs : List Record) → In x xs → r.version ≡ x.version → r.place ≡ x.place → has_node r xs ≡ true
+has_node_lem r x [] h e f = absurd h
+has_node_lem r x (y ∷ xs) (inl k) e f = rw (is_node_lem r y (e ∙ sym (ap (λ u. u.version) k)) (f ∙ sym (ap (λ u. u.place) k)))
+has_node_lem r x (y ∷ xs) (inr h) e f = go (is_node r.version r.place y) (has_node_lem r x xs h e f)
   where
     go : (b : Bool) {c : Bool} → c ≡ true → b || c ≡ true
     go true k = refl
     go false k = k
 
-node-has : (r : Record) (xs : List Record) → hasNode r xs ≡ true →
-    (x : Record) × In x xs × (x .version ≡ r .version) × (x .place ≡ r .place)
-node-has r [] h = absurd (false≢true h)
-node-has r (y ∷ xs) h = go (λ k. node-has r xs k) (isNode (r .version) (r .place) y) refl h
+node_has : (r : Record) (xs : List Record) → has_node r xs ≡ true →
+    (x : Record) × In x xs × (x.version ≡ r.version) × (x.place ≡ r.place)
+node_has r [] h = absurd (false≢true h)
+node_has r (y ∷ xs) h = go (λ k. node_has r xs k) (is_node r.version r.place y) refl h
   where
-    go : (hasNode r xs ≡ true → (x : Record) × In x xs × (x .version ≡ r .version) × (x .place ≡ r .place)) →
-        (b : Bool) → isNode (r .version) (r .place) y ≡ b → b || hasNode r xs ≡ true →
-        (x : Record) × In x (y ∷ xs) × (x .version ≡ r .version) × (x .place ≡ r .place)
-    go ih true e k = let w = isNode-eq (r .version) (r .place) y e in (y, inl refl, w .0, w .1)
-    go ih false e k = let m = ih k in (m .0, inr (m .1), m .2, m .3)
+    go : (has_node r xs ≡ true → (x : Record) × In x xs × (x.version ≡ r.version) × (x.place ≡ r.place)) →
+        (b : Bool) → is_node r.version r.place y ≡ b → b || has_node r xs ≡ true →
+        (x : Record) × In x (y ∷ xs) × (x.version ≡ r.version) × (x.place ≡ r.place)
+    go ih true e k = let w = is_node_eq r.version r.place y e in (y, inl refl, w.0, w.1)
+    go ih false e k = let m = ih k in (m.0, inr m.1, m.2, m.3)
 
 -- lists of records with no node twice
 
 abbrev Apart : List Record → List Record → Type 0
-Apart xs ys = (x y : Record) → In x xs → In y ys → x .place ≡ y .place → ⊥
+Apart xs ys = (x y : Record) → In x xs → In y ys → x.place ≡ y.place → ⊥
 
-distinct-append : (xs ys : List Record) → Distinct xs → Distinct ys → Apart xs ys → Distinct (xs ++ ys)
-distinct-append [] ys a b f = b
-distinct-append (x ∷ xs) ys a b f = (
-  all-append (Not (x .version) (x .place)) xs ys (a .0)
-      (all-in _ ys (λ y h. not-node (x .version) (x .place) y (λ e g. f x y (inl refl) h (sym g)))),
-  distinct-append xs ys (a .1) b (λ u y h k. f u y (inr h) k),
+distinct_append : (xs ys : List Record) → Distinct xs → Distinct ys → Apart xs ys → Distinct (xs ++ ys)
+distinct_append [] ys a b f = b
+distinct_append (x ∷ xs) ys a b f = (
+  all_append (Not x.version x.place) xs ys a.0
+      (all_in _ ys (λ y h. not_node x.version x.place y (λ e g. f x y (inl refl) h (sym g)))),
+  distinct_append xs ys a.1 b (λ u y h k. f u y (inr h) k),
 )
 
-distinct-filter : (f : Record → Bool) (xs : List Record) → Distinct xs → Distinct (filter f xs)
-distinct-filter f [] d = tt
-distinct-filter f (x ∷ xs) d =
+distinct_filter : (f : Record → Bool) (xs : List Record) → Distinct xs → Distinct (filter f xs)
+distinct_filter f [] d = tt
+distinct_filter f (x ∷ xs) d =
     elim (f x) as (λ b. Distinct (cond b (x ∷ filter f xs) (filter f xs)))
-    [ true ↦ (all-filter (Not (x .version) (x .place)) f xs (d .0), distinct-filter f xs (d .1)) | false ↦ distinct-filter f xs (d .1) ]
+    [ true ↦ (all_filter (Not x.version x.place) f xs d.0, distinct_filter f xs d.1) | false ↦ distinct_filter f xs d.1 ]
 
-module _ (leafHash innerHash : Bytes → Bytes → Bytes) where
+module _ (leaf_hash inner_hash : Bytes → Bytes → Bytes) where
   -- what the record of a node holds
-  abbrev pub bodyOf : VTree → Body
-  bodyOf vnone = leafBody [] []
-  bodyOf (vleaf v g) = leafBody (g .key) (g .value)
-  bodyOf (vinner v l r) = innerBody (childOf leafHash innerHash l) (childOf leafHash innerHash r)
+  abbrev pub body_of : VTree → Body
+  body_of vnone = leaf_body [] []
+  body_of (vleaf v g) = leaf_body g.key g.value
+  body_of (vinner v l r) = inner_body (child_of leaf_hash inner_hash l) (child_of leaf_hash inner_hash r)
 
   -- x is the record of the node u at q, not retired
   pub record IsRecord (x : Record) (q : Place) (u : VTree) : Type 0 where
     pub some : Some u
-    pub place : x .place ≡ q
-    pub version : x .version ≡ topVersion u
-    pub retired : x .retired ≡ 0
-    pub body : x .body ≡ bodyOf u
-    pub counts : x .counts ≡ countsOf u
+    pub place : x.place ≡ q
+    pub version : x.version ≡ top_version u
+    pub retired : x.retired ≡ 0
+    pub body : x.body ≡ body_of u
+    pub counts : x.counts ≡ counts_of u
 
   abbrev written : Place → VTree → Record
-  written q u = record { place = q; version = topVersion u; retired = 0; body = bodyOf u; counts = countsOf u }
+  written q u = record { place = q; version = top_version u; retired = 0; body = body_of u; counts = counts_of u }
 
-  is-written : (x : Record) (q : Place) (u : VTree) → Some u → written q u ≡ x → IsRecord x q u
-  is-written x q u s e = record {
+  is_written : (x : Record) (q : Place) (u : VTree) → Some u → written q u ≡ x → IsRecord x q u
+  is_written x q u s e = record {
     some = s;
-    place = sym (ap (λ r. r .place) e);
-    version = sym (ap (λ r. r .version) e);
-    retired = sym (ap (λ r. r .retired) e);
-    body = sym (ap (λ r. r .body) e);
-    counts = sym (ap (λ r. r .counts) e);
+    place = sym (ap (λ r. r.place) e);
+    version = sym (ap (λ r. r.version) e);
+    retired = sym (ap (λ r. r.retired) e);
+    body = sym (ap (λ r. r.body) e);
+    counts = sym (ap (λ r. r.counts) e);
   }
 
-  at-is : (x : Record) (q : Place) (u : VTree) → In x (recordAt leafHash innerHash q u) → IsRecord x q u
-  at-is x q vnone h = absurd h
-  at-is x q (vleaf v g) (inl e) = is-written x q (vleaf v g) some-leaf e
-  at-is x q (vleaf v g) (inr h) = absurd h
-  at-is x q (vinner v l r) (inl e) = is-written x q (vinner v l r) some-inner e
-  at-is x q (vinner v l r) (inr h) = absurd h
+  at_is : (x : Record) (q : Place) (u : VTree) → In x (record_at leaf_hash inner_hash q u) → IsRecord x q u
+  at_is x q vnone h = absurd h
+  at_is x q (vleaf v g) (inl e) = is_written x q (vleaf v g) some_leaf e
+  at_is x q (vleaf v g) (inr h) = absurd h
+  at_is x q (vinner v l r) (inl e) = is_written x q (vinner v l r) some_inner e
+  at_is x q (vinner v l r) (inr h) = absurd h
 
   -- the records of a tree at a place
-  abbrev pub recordsAt : Place → VTree → List Record
-  recordsAt p t = recordsBelow leafHash innerHash p t ++ recordAt leafHash innerHash p t
+  abbrev pub records_at : Place → VTree → List Record
+  records_at p t = records_below leaf_hash inner_hash p t ++ record_at leaf_hash inner_hash p t
 
-  pub top-record : (p : Place) (u : VTree) → Some u →
-      (x : Record) × In x (recordsAt p u) × (x .version ≡ topVersion u) × (x .place ≡ p) × (x .body ≡ bodyOf u) × (x .counts ≡ countsOf u)
-  top-record p (vleaf v g) s = (_, inl refl, refl, refl, refl, refl)
-  top-record p (vinner v l r) s = (_, in-right _ (recordsBelow leafHash innerHash p (vinner v l r)) _ (inl refl), refl, refl, refl, refl)
+  pub top_record : (p : Place) (u : VTree) → Some u →
+      (x : Record) × In x (records_at p u) × (x.version ≡ top_version u) × (x.place ≡ p) × (x.body ≡ body_of u) × (x.counts ≡ counts_of u)
+  top_record p vnone s = elim s [ ]
+  top_record p (vleaf v g) s = (_, inl refl, refl, refl, refl, refl)
+  top_record p (vinner v l r) s = (_, in_right _ (records_below leaf_hash inner_hash p (vinner v l r)) _ (inl refl), refl, refl, refl, refl)
 
   -- strictly below a node are the records of its children, in four parts: those strictly below the left and the right child, and these
   module _ (p : Place) (v : ℕ) (l r : VTree) where
-    abbrev belowLeft : List Record
-    belowLeft = recordsBelow leafHash innerHash (longer left p) l
+    abbrev below_left_lem : List Record
+    below_left_lem = records_below leaf_hash inner_hash (longer left p) l
 
-    abbrev belowRight : List Record
-    belowRight = recordsBelow leafHash innerHash (longer right p) r
+    abbrev below_right : List Record
+    below_right = records_below leaf_hash inner_hash (longer right p) r
 
-    abbrev atLeft : List Record
-    atLeft = recordAt leafHash innerHash (longer left p) l
+    abbrev at_left : List Record
+    at_left = record_at leaf_hash inner_hash (longer left p) l
 
-    abbrev atRight : List Record
-    atRight = recordAt leafHash innerHash (longer right p) r
+    abbrev at_right : List Record
+    at_right = record_at leaf_hash inner_hash (longer right p) r
 
     -- a record of the child on a side
     abbrev OfKid : Side → Record → Type 0
-    OfKid b x = In x (recordsAt (longer b p) (kid b (vinner v l r)))
+    OfKid b x = In x (records_at (longer b p) (kid b (vinner v l r)))
 
-    below-cases : (x : Record) → In x (recordsBelow leafHash innerHash p (vinner v l r)) → (b : Side) × OfKid b x
-    below-cases x h = last (in-append x (belowLeft ++ belowRight ++ atLeft) atRight h)
+    below_cases : (x : Record) → In x (records_below leaf_hash inner_hash p (vinner v l r)) → (b : Side) × OfKid b x
+    below_cases x h = last (in_append x (below_left_lem ++ below_right ++ at_left) at_right h)
       where
-        first : In x belowLeft ⊎ In x belowRight → (b : Side) × OfKid b x
-        first (inl k) = (left, in-left x belowLeft atLeft k)
-        first (inr k) = (right, in-left x belowRight atRight k)
+        first : In x below_left_lem ⊎ In x below_right → (b : Side) × OfKid b x
+        first (inl k) = (left, in_left x below_left_lem at_left k)
+        first (inr k) = (right, in_left x below_right at_right k)
 
-        middle : In x (belowLeft ++ belowRight) ⊎ In x atLeft → (b : Side) × OfKid b x
-        middle (inl k) = first (in-append x belowLeft belowRight k)
-        middle (inr k) = (left, in-right x belowLeft atLeft k)
+        middle : In x (below_left_lem ++ below_right) ⊎ In x at_left → (b : Side) × OfKid b x
+        middle (inl k) = first (in_append x below_left_lem below_right k)
+        middle (inr k) = (left, in_right x below_left_lem at_left k)
 
-        last : In x (belowLeft ++ belowRight ++ atLeft) ⊎ In x atRight → (b : Side) × OfKid b x
-        last (inl k) = middle (in-append x (belowLeft ++ belowRight) atLeft k)
-        last (inr k) = (right, in-right x belowRight atRight k)
+        last : In x (below_left_lem ++ below_right ++ at_left) ⊎ In x at_right → (b : Side) × OfKid b x
+        last (inl k) = middle (in_append x (below_left_lem ++ below_right) at_left k)
+        last (inr k) = (right, in_right x below_right at_right k)
 
-    below-kid : (b : Side) (x : Record) → OfKid b x → In x (recordsBelow leafHash innerHash p (vinner v l r))
-    below-kid false x h = in-left x (belowLeft ++ belowRight ++ atLeft) atRight (elim (in-append x belowLeft atLeft h) [
-      | inl i ↦ in-left x (belowLeft ++ belowRight) atLeft (in-left x belowLeft belowRight i)
-      | inr i ↦ in-right x (belowLeft ++ belowRight) atLeft i
+    below_kid : (b : Side) (x : Record) → OfKid b x → In x (records_below leaf_hash inner_hash p (vinner v l r))
+    below_kid false x h = in_left x (below_left_lem ++ below_right ++ at_left) at_right (elim (in_append x below_left_lem at_left h) [
+      | inl i ↦ in_left x (below_left_lem ++ below_right) at_left (in_left x below_left_lem below_right i)
+      | inr i ↦ in_right x (below_left_lem ++ below_right) at_left i
     ])
-    below-kid true x h = elim (in-append x belowRight atRight h) [
+    below_kid true x h = elim (in_append x below_right at_right h) [
       | inl i ↦
-          in-left x (belowLeft ++ belowRight ++ atLeft) atRight
-          (in-left x (belowLeft ++ belowRight) atLeft (in-right x belowLeft belowRight i))
-      | inr i ↦ in-right x (belowLeft ++ belowRight ++ atLeft) atRight i
+          in_left x (below_left_lem ++ below_right ++ at_left) at_right
+          (in_left x (below_left_lem ++ below_right) at_left (in_right x below_left_lem below_right i))
+      | inr i ↦ in_right x (below_left_lem ++ below_right ++ at_left) at_right i
     ]
 
-  pub kid-records : (b : Side) (x : Record) (p : Place) (v : ℕ) (l r : VTree) → In x (recordsAt (longer b p) (kid b (vinner v l r))) →
-      In x (recordsAt p (vinner v l r))
-  kid-records b x p v l r h = in-left x (recordsBelow leafHash innerHash p (vinner v l r)) _ (below-kid p v l r b x h)
+  pub kid_records : (b : Side) (x : Record) (p : Place) (v : ℕ) (l r : VTree) → In x (records_at (longer b p) (kid b (vinner v l r))) →
+      In x (records_at p (vinner v l r))
+  kid_records b x p v l r h = in_left x (records_below leaf_hash inner_hash p (vinner v l r)) _ (below_kid p v l r b x h)
 
   -- a record of a tree is the record of a node of it
   pub record Origin (x : Record) (t : VTree) (p : Place) : Type 0 where
@@ -171,135 +172,135 @@ module _ (leafHash innerHash : Bytes → Bytes → Bytes) where
     pub within : Within tree place t p
     pub is : IsRecord x place tree
 
-  pub origin : (x : Record) (p : Place) (t : VTree) → In x (recordsAt p t) → Origin x t p
+  pub origin : (x : Record) (p : Place) (t : VTree) → In x (records_at p t) → Origin x t p
   origin x p vnone h = absurd h
-  origin x p (vleaf v g) h = record { place = p; tree = vleaf v g; within = there; is = at-is x p (vleaf v g) h }
+  origin x p (vleaf v g) h = record { place = p; tree = vleaf v g; within = there; is = at_is x p (vleaf v g) h }
   origin x p (vinner v l r) h =
-      go (in-append x (recordsBelow leafHash innerHash p (vinner v l r)) (recordAt leafHash innerHash p (vinner v l r)) h)
+      go (in_append x (records_below leaf_hash inner_hash p (vinner v l r)) (record_at leaf_hash inner_hash p (vinner v l r)) h)
       (λ k. origin x (longer left p) l k) (λ k. origin x (longer right p) r k)
     where
       on : (b : Side) → Origin x (kid b (vinner v l r)) (longer b p) → Origin x (vinner v l r) p
-      on b o = record { place = o .place; tree = o .tree; within = go-kid b (o .within); is = o .is }
+      on b o = record { place = o.place; tree = o.tree; within = go_kid b o.within; is = o.is }
 
-      kids : (b : Side) → In x (recordsAt (longer b p) (kid b (vinner v l r))) →
-          (In x (recordsAt (longer left p) l) → Origin x l (longer left p)) →
-          (In x (recordsAt (longer right p) r) → Origin x r (longer right p)) →
+      kids : (b : Side) → In x (records_at (longer b p) (kid b (vinner v l r))) →
+          (In x (records_at (longer left p) l) → Origin x l (longer left p)) →
+          (In x (records_at (longer right p) r) → Origin x r (longer right p)) →
           Origin x (vinner v l r) p
       kids false k f g = on left (f k)
       kids true k f g = on right (g k)
 
-      go : In x (recordsBelow leafHash innerHash p (vinner v l r)) ⊎ In x (recordAt leafHash innerHash p (vinner v l r)) →
-          (In x (recordsAt (longer left p) l) → Origin x l (longer left p)) →
-          (In x (recordsAt (longer right p) r) → Origin x r (longer right p)) →
+      go : In x (records_below leaf_hash inner_hash p (vinner v l r)) ⊎ In x (record_at leaf_hash inner_hash p (vinner v l r)) →
+          (In x (records_at (longer left p) l) → Origin x l (longer left p)) →
+          (In x (records_at (longer right p) r) → Origin x r (longer right p)) →
           Origin x (vinner v l r) p
-      go (inl k) f g = let c = below-cases p v l r x k in kids (c .0) (c .1) f g
-      go (inr k) f g = record { place = p; tree = vinner v l r; within = there; is = at-is x p (vinner v l r) k }
+      go (inl k) f g = let c = below_cases p v l r x k in kids c.0 c.1 f g
+      go (inr k) f g = record { place = p; tree = vinner v l r; within = there; is = at_is x p (vinner v l r) k }
 
-  pub origin-node : (x : Record) (p : Place) (t : VTree) → Origin x t p → NodeOf (x .version) (x .place) t p
-  origin-node x p t o = subst₂ (λ v q. NodeOf v q t p) (sym (o .is .version)) (sym (o .is .place)) (within-node (o .is .some) (o .within))
+  pub origin_node : (x : Record) (p : Place) (t : VTree) → Origin x t p → NodeOf x.version x.place t p
+  origin_node x p t o = subst₂ (λ v q. NodeOf v q t p) (sym o.is.version) (sym o.is.place) (within_node o.is.some o.within)
 
   -- and each node has its record
-  node-record : (w : ℕ) (q : Place) (t : VTree) (p : Place) → NodeOf w q t p →
-      (x : Record) × In x (recordsAt p t) × (x .version ≡ w) × (x .place ≡ q)
-  node-record w q vnone p n = absurd n
-  node-record w q (vleaf v g) p n = (_, inl refl, n .0, n .1)
-  node-record w q (vinner v l r) p (inl n) =
-      let m = top-record p (vinner v l r) some-inner in (m .0, m .1, m .2 ∙ n .0, m .3 ∙ n .1)
-  node-record w q (vinner v l r) p (inr (inl n)) =
-      let m = node-record w q l (longer left p) n in (m .0, kid-records left (m .0) p v l r (m .1), m .2, m .3)
-  node-record w q (vinner v l r) p (inr (inr n)) =
-      let m = node-record w q r (longer right p) n in (m .0, kid-records right (m .0) p v l r (m .1), m .2, m .3)
+  node_record : (w : ℕ) (q : Place) (t : VTree) (p : Place) → NodeOf w q t p →
+      (x : Record) × In x (records_at p t) × (x.version ≡ w) × (x.place ≡ q)
+  node_record w q vnone p n = absurd n
+  node_record w q (vleaf v g) p n = (_, inl refl, n.0, n.1)
+  node_record w q (vinner v l r) p (inl n) =
+      let m = top_record p (vinner v l r) some_inner in (m.0, m.1, m.2 ∙ n.0, m.3 ∙ n.1)
+  node_record w q (vinner v l r) p (inr (inl n)) =
+      let m = node_record w q l (longer left p) n in (m.0, kid_records left m.0 p v l r m.1, m.2, m.3)
+  node_record w q (vinner v l r) p (inr (inr n)) =
+      let m = node_record w q r (longer right p) n in (m.0, kid_records right m.0 p v l r m.1, m.2, m.3)
 
   -- each once
-  records-prefix : (x : Record) (p : Place) (t : VTree) → In x (recordsAt p t) → prefix p (x .place) ≡ true
-  records-prefix x p t h = let o = origin x p t h in rw (o .is .place) (within-prefix (o .within))
+  records_prefix : (x : Record) (p : Place) (t : VTree) → In x (records_at p t) → prefix p x.place ≡ true
+  records_prefix x p t h = let o = origin x p t h in rw o.is.place (within_prefix o.within)
 
-  below-deeper : (x : Record) (p : Place) (t : VTree) → In x (recordsBelow leafHash innerHash p t) → length p < length (x .place)
-  below-deeper x p vnone h = absurd h
-  below-deeper x p (vleaf v g) h = absurd h
-  below-deeper x p (vinner v l r) h =
-      let c = below-cases p v l r x h in
-      let b = c .0 in
-      omega (arith, prefix-length (longer b p) (x .place) (records-prefix x (longer b p) (kid b (vinner v l r)) (c .1)), length-longer b p)
+  below_deeper : (x : Record) (p : Place) (t : VTree) → In x (records_below leaf_hash inner_hash p t) → length p < length x.place
+  below_deeper x p vnone h = absurd h
+  below_deeper x p (vleaf v g) h = absurd h
+  below_deeper x p (vinner v l r) h =
+      let c = below_cases p v l r x h in
+      let b = c.0 in
+      omega (arith, prefix_length (longer b p) x.place (records_prefix x (longer b p) (kid b (vinner v l r)) c.1), length_longer b p)
 
-  distinct-at : (p : Place) (t : VTree) → Distinct (recordAt leafHash innerHash p t)
-  distinct-at p vnone = tt
-  distinct-at p (vleaf v g) = (tt, tt)
-  distinct-at p (vinner v l r) = (tt, tt)
+  distinct_at : (p : Place) (t : VTree) → Distinct (record_at leaf_hash inner_hash p t)
+  distinct_at p vnone = tt
+  distinct_at p (vleaf v g) = (tt, tt)
+  distinct_at p (vinner v l r) = (tt, tt)
 
-  below-apart : (p : Place) (t : VTree) → Apart (recordsBelow leafHash innerHash p t) (recordAt leafHash innerHash p t)
-  below-apart p t x y h k e = omega (arith, below-deeper x p t h, ap length e, ap length (at-is y p t k .place))
+  below_apart : (p : Place) (t : VTree) → Apart (records_below leaf_hash inner_hash p t) (record_at leaf_hash inner_hash p t)
+  below_apart p t x y h k e = omega (arith, below_deeper x p t h, ap length e, ap length (at_is y p t k).place)
 
-  kids-apart : (p : Place) (l r : VTree) → Apart (recordsAt (longer left p) l) (recordsAt (longer right p) r)
-  kids-apart p l r x y h k e =
-      sides-apart p (y .place) (rw (sym e) (records-prefix x (longer left p) l h)) (records-prefix y (longer right p) r k)
+  kids_apart : (p : Place) (l r : VTree) → Apart (records_at (longer left p) l) (records_at (longer right p) r)
+  kids_apart p l r x y h k e =
+      sides_apart p y.place (rw (sym e) (records_prefix x (longer left p) l h)) (records_prefix y (longer right p) r k)
 
-  distinct-kids : (p : Place) (v : ℕ) (l r : VTree) →
-      Distinct (recordsBelow leafHash innerHash (longer left p) l) → Distinct (recordsBelow leafHash innerHash (longer right p) r) →
-      Distinct (recordsBelow leafHash innerHash p (vinner v l r))
-  distinct-kids p v l r dl dr =
-      distinct-append (bl ++ br ++ al) ar
-      (distinct-append (bl ++ br) al (distinct-append bl br dl dr below-below) (distinct-at (longer left p) l) below-left)
-      (distinct-at (longer right p) r) all-right
+  distinct_kids : (p : Place) (v : ℕ) (l r : VTree) →
+      Distinct (records_below leaf_hash inner_hash (longer left p) l) → Distinct (records_below leaf_hash inner_hash (longer right p) r) →
+      Distinct (records_below leaf_hash inner_hash p (vinner v l r))
+  distinct_kids p v l r dl dr =
+      distinct_append (bl ++ br ++ al) ar
+      (distinct_append (bl ++ br) al (distinct_append bl br dl dr below_below) (distinct_at (longer left p) l) below_left)
+      (distinct_at (longer right p) r) all_right
     where
       bl : List Record
-      bl = belowLeft p v l r
+      bl = below_left_lem p v l r
 
       br : List Record
-      br = belowRight p v l r
+      br = below_right p v l r
 
       al : List Record
-      al = atLeft p v l r
+      al = at_left p v l r
 
       ar : List Record
-      ar = atRight p v l r
+      ar = at_right p v l r
 
-      below-below : Apart bl br
-      below-below x y h k = kids-apart p l r x y (in-left x bl al h) (in-left y br ar k)
+      below_below : Apart bl br
+      below_below x y h k = kids_apart p l r x y (in_left x bl al h) (in_left y br ar k)
 
-      below-left : Apart (bl ++ br) al
-      below-left x y h k e = elim (in-append x bl br h) [
-        | inl a ↦ below-apart (longer left p) l x y a k e
-        | inr a ↦ kids-apart p l r y x (in-right y bl al k) (in-left x br ar a) (sym e)
+      below_left : Apart (bl ++ br) al
+      below_left x y h k e = elim (in_append x bl br h) [
+        | inl a ↦ below_apart (longer left p) l x y a k e
+        | inr a ↦ kids_apart p l r y x (in_right y bl al k) (in_left x br ar a) (sym e)
       ]
 
-      all-right : Apart (bl ++ br ++ al) ar
-      all-right x y h k e = elim (in-append x (bl ++ br) al h) [
-        | inl a ↦ elim (in-append x bl br a) [
-          | inl b ↦ kids-apart p l r x y (in-left x bl al b) (in-right y br ar k) e
-          | inr b ↦ below-apart (longer right p) r x y b k e
+      all_right : Apart (bl ++ br ++ al) ar
+      all_right x y h k e = elim (in_append x (bl ++ br) al h) [
+        | inl a ↦ elim (in_append x bl br a) [
+          | inl b ↦ kids_apart p l r x y (in_left x bl al b) (in_right y br ar k) e
+          | inr b ↦ below_apart (longer right p) r x y b k e
         ]
-        | inr a ↦ kids-apart p l r x y (in-right x bl al a) (in-right y br ar k) e
+        | inr a ↦ kids_apart p l r x y (in_right x bl al a) (in_right y br ar k) e
       ]
 
-  distinct-below : (p : Place) (t : VTree) → Distinct (recordsBelow leafHash innerHash p t)
-  distinct-below p vnone = tt
-  distinct-below p (vleaf v g) = tt
-  distinct-below p (vinner v l r) = distinct-kids p v l r (distinct-below (longer left p) l) (distinct-below (longer right p) r)
+  distinct_below : (p : Place) (t : VTree) → Distinct (records_below leaf_hash inner_hash p t)
+  distinct_below p vnone = tt
+  distinct_below p (vleaf v g) = tt
+  distinct_below p (vinner v l r) = distinct_kids p v l r (distinct_below (longer left p) l) (distinct_below (longer right p) r)
 
   -- at the root
-  pub hasNode-node : (r : Record) (t : VTree) → hasNode r (recordsOf leafHash innerHash t) ≡ true → NodeOf (r .version) (r .place) t []
-  unfolding recordsOf
-  hasNode-node r t h =
-      let m = node-has r (recordsAt [] t) h in
-      subst₂ (λ v q. NodeOf v q t []) (m .2) (m .3) (origin-node (m .0) [] t (origin (m .0) [] t (m .1)))
+  pub has_node_node : (r : Record) (t : VTree) → has_node r (records_of leaf_hash inner_hash t) ≡ true → NodeOf r.version r.place t []
+  unfolding records_of
+  has_node_node r t h =
+      let m = node_has r (records_at [] t) h in
+      subst₂ (λ v q. NodeOf v q t []) m.2 m.3 (origin_node m.0 [] t (origin m.0 [] t m.1))
 
-  pub node-hasNode : (r : Record) (t : VTree) → NodeOf (r .version) (r .place) t [] → hasNode r (recordsOf leafHash innerHash t) ≡ true
-  unfolding recordsOf
-  node-hasNode r t n =
-      let m = node-record (r .version) (r .place) t [] n in has-node r (m .0) (recordsAt [] t) (m .1) (sym (m .2)) (sym (m .3))
+  pub node_has_node : (r : Record) (t : VTree) → NodeOf r.version r.place t [] → has_node r (records_of leaf_hash inner_hash t) ≡ true
+  unfolding records_of
+  node_has_node r t n =
+      let m = node_record r.version r.place t [] n in has_node_lem r m.0 (records_at [] t) m.1 (sym m.2) (sym m.3)
 
-  pub new-distinct : (new : ℕ) (t : VTree) → Distinct (newRecords leafHash innerHash new t)
-  unfolding newRecords recordsOf
-  new-distinct new t =
-      distinct-filter _ (recordsAt [] t)
-      (distinct-append (recordsBelow leafHash innerHash [] t) (recordAt leafHash innerHash [] t)
-      (distinct-below [] t) (distinct-at [] t) (below-apart [] t))
+  pub new_distinct : (new : ℕ) (t : VTree) → Distinct (new_records leaf_hash inner_hash new t)
+  unfolding new_records records_of
+  new_distinct new t =
+      distinct_filter _ (records_at [] t)
+      (distinct_append (records_below leaf_hash inner_hash [] t) (record_at leaf_hash inner_hash [] t)
+      (distinct_below [] t) (distinct_at [] t) (below_apart [] t))
 
-  pub new-in : (new : ℕ) (t : VTree) (x : Record) → In x (newRecords leafHash innerHash new t) → In x (recordsAt [] t) × New new x
-  unfolding newRecords recordsOf
-  new-in new t x h = let m = in-filter x _ (recordsAt [] t) h in (m .0, eqb-true (x .version) new (m .1))
+  pub new_in : (new : ℕ) (t : VTree) (x : Record) → In x (new_records leaf_hash inner_hash new t) → In x (records_at [] t) × New new x
+  unfolding new_records records_of
+  new_in new t x h = let m = in_filter x _ (records_at [] t) h in (m.0, eqb-true x.version new m.1)
 
-  pub in-new : (new : ℕ) (t : VTree) (x : Record) → In x (recordsAt [] t) → New new x → In x (newRecords leafHash innerHash new t)
-  unfolding newRecords recordsOf
-  in-new new t x h e = filter-in x _ (recordsAt [] t) h (eq-eqb (x .version) new e)
+  pub in_new : (new : ℕ) (t : VTree) (x : Record) → In x (records_at [] t) → New new x → In x (new_records leaf_hash inner_hash new t)
+  unfolding new_records records_of
+  in_new new t x h e = filter_in x _ (records_at [] t) h (eq-eqb x.version new e)

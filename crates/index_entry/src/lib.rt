@@ -1,30 +1,27 @@
 // A look at an entry of a table, for a node or for the root of a version, document 02, request 2026-05: an entry that names no slot in form counts as too great.
-use index_node::Look;
-use index_node::look_node;
+#![tactic(auto)]
+
+ghost use Rattle.std.specs.Prelude.{◌≡◌, true, length, get_or};
+ghost use Rattle.terms.specs.Records.{free};
+ghost use Rattle.indexed.specs.Index.{look_at, root_look};
+ghost use Rattle.place.specs.Place.{place_of, Proper};
+ghost use Rattle.layout.specs.Sizes.{room_of};
+ghost use Rattle.layout.specs.Headers.{size_right};
+ghost use Rattle.layout.specs.Stores.{store_of, slot_no, Has};
+ghost use Rattle.index_node.specs.Looks.{look_says};
+ghost use Rattle.index_entry.specs.Entries.{look_for};
+
+use index_node::{Look, look_node};
 use lifetime::covers;
 use lookup::holds_record;
 use place::Place;
-use store::count_at;
-use store::retired_at;
-use store::slot_of;
-use store::version_at;
+use store::{count_at, retired_at, slot_of, version_at};
 use terms::Form;
-ghost use mathlib.Core.Path.{_≡_};
-ghost use mathlib.Core.Bool.{true};
-ghost use lib.ListN.{length, getD};
-ghost use Rattle·terms.specs.Records.{free};
-ghost use Rattle·indexed.specs.Index.{lookAt, rootLook};
-ghost use Rattle·place.specs.Place.{placeOf, Proper};
-ghost use Rattle·layout.specs.Sizes.{roomOf};
-ghost use Rattle·layout.specs.Headers.{sizeRight};
-ghost use Rattle·layout.specs.Stores.{storeOf, slotNo, Has};
-ghost use Rattle·index_node.specs.Looks.{lookSays};
-ghost use Rattle·index_entry·specs.specs.Entries.{lookFor};
 
 // How slot i stands to the root of a version: other places and later versions are too great, a root retired by then too small.
 fn look_root(store: &[u8], i: usize, version: u32) -> Look
-    requires { ⌜ Has Form.Counted (now store) i ⌝ }
-    ensures { λ r. ⌜ r ≡ lookSays (lookAt (rootLook version) (slotNo Form.Counted i (now (store .entry)))) ⌝ }
+    requires { Has Form.Counted store.now i }
+    ensures { result ≡ look_says (look_at (root_look version) (slot_no Form.Counted i store.now)) }
 {
     if !holds_record(slot_of(Form::Counted, store, i)) {
         return Look::Great;
@@ -51,8 +48,8 @@ pub fn look_entry(
     place: Place,
     root: bool,
 ) -> Look
-    requires { ⌜ (sizeRight Form.Counted (length (now store)) ≡ true) × (n ≡ roomOf Form.Counted (length (now store))) × Proper place ⌝ }
-    ensures { λ r. ⌜ r ≡ lookSays (lookAt (lookFor root version (placeOf place)) (getD (storeOf (now (store .entry)) .slots) entry free)) ⌝ }
+    requires { (size_right Form.Counted (length store.now) ≡ true) × (n ≡ room_of Form.Counted (length store.now)) × Proper place }
+    ensures { result ≡ look_says (look_at (look_for root version (place_of place)) (get_or (store_of store.now).slots entry free)) }
 {
     if n <= entry {
         return Look::Great;

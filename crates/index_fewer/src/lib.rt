@@ -1,11 +1,12 @@
 // A guess at the right table from the one before a prune: the entries that name free slots are taken out. Nothing is promised of a guess but that it is made;
 // who uses it looks at what it gives.
+#![tactic(auto)]
+
+ghost use Rattle.std.specs.Prelude.{◌≡◌, ◌≤◌, ◌<◌, ◌+◌, length};
+ghost use Rattle.check_pass.specs.Passes.{Room};
+
 use store::kind_at;
 use terms::Form;
-ghost use mathlib.Core.Path.{_≡_};
-ghost use Prim.Native.Nat.{_≤_, _<_, _+_};
-ghost use lib.ListN.{length};
-ghost use Rattle·check_pass.specs.Passes.{Room};
 
 fn wide(x: u32) -> usize {
     x as usize
@@ -13,8 +14,8 @@ fn wide(x: u32) -> usize {
 
 // Entry k moved down to the first `kept`, if the slot it names isn't free; answers how many entries there are then.
 fn moved_down(store: &[u8], n: usize, table: &mut [u32], kept: usize, k: usize) -> usize
-    requires { ⌜ Room Form.Counted (now store) n × (length (now table) ≡ n) × (kept ≤ k) × (k < n) ⌝ }
-    ensures { λ r. ⌜ r ≤ k + 1 ⌝ }
+    requires { Room Form.Counted store.now n × (length table.old ≡ n) × (kept ≤ k) × (k < n) }
+    ensures { result ≤ k + 1 }
 {
     let x = table[k];
     let i = wide(x);
@@ -39,7 +40,7 @@ fn set_from(table: &mut [u32], from: usize, x: u32) {
 
 // The entries that name free slots taken out.
 pub fn fewer(store: &[u8], n: usize, table: &mut [u32])
-    requires { ⌜ Room Form.Counted (now store) n × (n ≤ 16384) × (length (now table) ≡ n) ⌝ }
+    requires { Room Form.Counted store.now n × (n ≤ 16384) × (length table.old ≡ n) }
 {
     let mut kept = 0;
     let mut k = 0;

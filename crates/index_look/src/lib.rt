@@ -1,35 +1,31 @@
 // Whether a table is the right one of a sound store, document 02, request 2026-05: one look at each slot and at each entry.
-use hash::hash_at;
-use hash::same_hash;
+#![tactic(auto)]
+
+ghost use Rattle.std.specs.Prelude.{◌≡◌, ◌≤◌, ◌<◌, length};
+ghost use Rattle.indexed.specs.Table.{Right};
+ghost use Rattle.indexed.proofs.Counted.{used_in};
+ghost use Rattle.layout.specs.Sizes.{room_of};
+ghost use Rattle.layout.specs.Stores.{slot_no, store_of, Has};
+ghost use Rattle.lookup.specs.Lookup.{is_used};
+ghost use Rattle.promises.specs.Calls.{SoundBytes};
+ghost use Rattle.index_look.specs.Looks.{Decided, Told, ToldThere, Began, Follows, Ascending, RestEmpty};
+
+use hash::{hash_at, same_hash};
 use place::before;
 use slots::bits_of;
-use store::count_at;
-use store::kind_at;
-use store::slot_count;
-use store::slot_of;
-use store::version_at;
+use store::{count_at, kind_at, slot_count, slot_of, version_at};
 use terms::Form;
-ghost use mathlib.Core.Path.{_≡_};
-ghost use Prim.Native.Nat.{_≤_, _<_};
-ghost use lib.ListN.{length};
-ghost use Rattle·indexed.specs.Table.{Right};
-ghost use Rattle·indexed.proofs.Counted.{usedIn};
-ghost use Rattle·layout.specs.Sizes.{roomOf};
-ghost use Rattle·layout.specs.Stores.{slotNo, storeOf, Has};
-ghost use Rattle·lookup.specs.Lookup.{isUsed};
-ghost use Rattle·promises.specs.Calls.{SoundBytes};
-ghost use Rattle·index_look·specs.specs.Looks.{Decided, Told, ToldThere, Began, Follows, Ascending, RestEmpty};
 
 fn wide(x: u32) -> usize
-    ensures { λ r. ⌜ r ≡ x ⌝ }
+    ensures { result ≡ x }
 {
     x as usize
 }
 
 // Of two slots with the same bits, whether the first stands before the second: by the bit count, then by the version.
 fn ahead_there(store: &[u8], i: usize, j: usize) -> bool
-    requires { ⌜ Has Form.Counted (now store) i × Has Form.Counted (now store) j ⌝ }
-    ensures { λ r. ⌜ ToldThere (now (store .entry)) i j r ⌝ }
+    requires { Has Form.Counted store.now i × Has Form.Counted store.now j }
+    ensures { ToldThere store.now i j result }
 {
     let its = count_at(Form::Counted, store, i);
     let other = count_at(Form::Counted, store, j);
@@ -42,8 +38,8 @@ fn ahead_there(store: &[u8], i: usize, j: usize) -> bool
 // Whether the record of one slot stands before that of another: by the bits, then by the bit count, then by the version. A node and its left child have the same
 // bits, so whether they are the same is asked first, eight bytes at a time.
 pub fn ahead(store: &[u8], i: usize, j: usize) -> bool
-    requires { ⌜ Has Form.Counted (now store) i × Has Form.Counted (now store) j ⌝ }
-    ensures { λ r. ⌜ Told (now (store .entry)) i j r ⌝ }
+    requires { Has Form.Counted store.now i × Has Form.Counted store.now j }
+    ensures { Told store.now i j result }
 {
     let own = bits_of(slot_of(Form::Counted, store, i));
     let its = bits_of(slot_of(Form::Counted, store, j));
@@ -55,16 +51,16 @@ pub fn ahead(store: &[u8], i: usize, j: usize) -> bool
 
 // Whether slot i of a sound store holds a record.
 pub fn in_use(store: &[u8], i: usize) -> bool
-    requires { ⌜ SoundBytes (now store) × (i < roomOf Form.Counted (length (now store))) ⌝ }
-    ensures { λ r. ⌜ r ≡ isUsed (slotNo Form.Counted i (now (store .entry))) ⌝ }
+    requires { SoundBytes store.now × (i < room_of Form.Counted (length store.now)) }
+    ensures { result ≡ is_used (slot_no Form.Counted i store.now) }
 {
     kind_at(Form::Counted, store, i) != 0
 }
 
 // How many slots of a sound store hold a record.
 pub fn used_slots(store: &[u8]) -> usize
-    requires { ⌜ SoundBytes (now store) ⌝ }
-    ensures { λ r. ⌜ r ≡ usedIn (storeOf (now (store .entry)) .slots) ⌝ }
+    requires { SoundBytes store.now }
+    ensures { result ≡ used_in (store_of store.now).slots }
 {
     let n = slot_count(Form::Counted, store);
     let mut many = 0;
@@ -80,8 +76,8 @@ pub fn used_slots(store: &[u8]) -> usize
 
 // Whether entry k names a slot that holds a record, and one that stands after that of the entry before.
 fn follows(store: &[u8], n: usize, table: &[u32], k: usize) -> bool
-    requires { ⌜ SoundBytes (now store) × (n ≡ roomOf Form.Counted (length (now store))) × (length (now table) ≡ n) × (k < n) × Began (now store) (now table) k ⌝ }
-    ensures { λ r. ⌜ Decided r (Follows (now (store .entry)) (now (table .entry)) k) ⌝ }
+    requires { SoundBytes store.now × (n ≡ room_of Form.Counted (length store.now)) × (length table.now ≡ n) × (k < n) × Began store.now table.now k }
+    ensures { Decided result (Follows store.now table.now k) }
 {
     let i = wide(table[k]);
     if n <= i {
@@ -98,8 +94,8 @@ fn follows(store: &[u8], n: usize, table: &[u32], k: usize) -> bool
 
 // Whether each of the first `many` entries does.
 fn ascending(store: &[u8], n: usize, table: &[u32], many: usize) -> bool
-    requires { ⌜ SoundBytes (now store) × (n ≡ roomOf Form.Counted (length (now store))) × (length (now table) ≡ n) × (many ≤ n) ⌝ }
-    ensures { λ r. ⌜ Decided r (Ascending (now (store .entry)) (now (table .entry)) many) ⌝ }
+    requires { SoundBytes store.now × (n ≡ room_of Form.Counted (length store.now)) × (length table.now ≡ n) × (many ≤ n) }
+    ensures { Decided result (Ascending store.now table.now many) }
 {
     let mut k = 0;
     while k < many {
@@ -113,8 +109,8 @@ fn ascending(store: &[u8], n: usize, table: &[u32], many: usize) -> bool
 
 // Whether the entries from `many` on are all the capacity.
 fn rest_empty(n: usize, table: &[u32], many: usize) -> bool
-    requires { ⌜ (length (now table) ≡ n) × (many ≤ n) ⌝ }
-    ensures { λ r. ⌜ Decided r (RestEmpty (now (table .entry)) many) ⌝ }
+    requires { (length table.now ≡ n) × (many ≤ n) }
+    ensures { Decided result (RestEmpty table.now many) }
 {
     let mut k = many;
     while k < n {
@@ -128,8 +124,8 @@ fn rest_empty(n: usize, table: &[u32], many: usize) -> bool
 
 // Whether a table is the right one of a sound store.
 pub fn is_right(store: &[u8], table: &[u32]) -> bool
-    requires { ⌜ SoundBytes (now store) × (length (now table) ≡ roomOf Form.Counted (length (now store))) ⌝ }
-    ensures { λ r. ⌜ Decided r (Right (storeOf (now (store .entry))) (now (table .entry))) ⌝ }
+    requires { SoundBytes store.now × (length table.now ≡ room_of Form.Counted (length store.now)) }
+    ensures { Decided result (Right (store_of store.now) table.now) }
 {
     let n = slot_count(Form::Counted, store);
     let many = used_slots(store);

@@ -1,141 +1,141 @@
 -- What a look at a slot says, from its bytes: the bits first, then the bit count, then the version. Assumes nothing.
-use Prim.Native.Nat.{ℕ, _<_, _≤_}
+use Prim.Native.Nat.{ℕ, ◌<◌, ◌≤◌}
 use native.Mathlib.Omega.{arith}
-use mathlib.Core.Path.{_≡_, refl, ap, ap₂, sym, _∙_}
+use mathlib.Core.Path.{◌≡◌, refl, ap, ap₂, sym, ◌∙◌}
 use mathlib.Core.Bool.{Bool, true, false, true≢false, false≢true}
 use lib.ListN.{length}
 use borrow.Author.Tests.{lt-ltb}
-use Rattle·terms.specs.declared.Form.the-variants.{Counted as counted}
-use Rattle·terms.specs.Bits.{Bytes, Byte, All, Place, pack, before}
-use Rattle·terms.specs.Records.{Body, leafBody, innerBody, Record, Slot, free, used, spoiled}
-use Rattle·terms.specs.Form.{placeLimit}
-use Rattle·terms.proofs.Order.{before-total}
-use Rattle·indexed.specs.Index.{nodeBefore, Look, tooSmall, tooGreat, meets, lookAt, nodeLook}
-use Rattle·indexed.proofs.Before.{by-place, by-version, node-itself, node-once}
-use Rattle·indexed.proofs.Packed.{bytes-before, bytes-equal}
-use Rattle·place.specs.declared.Place as declared-place
-use Rattle·place.specs.Place.{placeOf, Proper}
-use Rattle·place.proofs.Places.{proper-count}
-use Rattle·layout.specs.Sizes.{slotSize}
-use Rattle·layout.specs.Slots.{slotOf, countIn, versionIn, bitsIn}
-use Rattle·layout.specs.Stores.{slotIn, slotNo, Has}
-use Rattle·store.proofs.Slots.{slot-long, slot-bytes, slot-within, slot-is}
-use Rattle·lookup.specs.Lookup.{isUsed}
-use Rattle·lookup.proofs.Matching.{says, version-is, count-is, bits-are, same-packed}
-use Rattle·index_node·specs.specs.Looks.{lookSays}
-use Rattle·index_node·specs.specs.declared.Look.the-variants.{Small, Great, Meets}
-use Rattle·index_node·specs.specs.declared.Look as declared
+use Rattle.terms.specs.declared.Form.TheVariants.{Counted as counted}
+use Rattle.terms.specs.Bits.{Bytes, Byte, All, Place, pack, before}
+use Rattle.terms.specs.Records.{Body, leaf_body, inner_body, Record, Slot, free, used, spoiled}
+use Rattle.terms.specs.Form.{place_limit}
+use Rattle.terms.proofs.Order.{before_total}
+use Rattle.indexed.specs.Index.{node_before, Look, too_small, too_great, meets, look_at, node_look}
+use Rattle.indexed.proofs.Before.{by_place, by_version, node_itself, node_once}
+use Rattle.indexed.proofs.Packed.{bytes_before, bytes_equal}
+use Rattle.place.specs.declared.Place as declared-place
+use Rattle.place.specs.Place.{place_of, Proper}
+use Rattle.place.proofs.Places.{proper_count}
+use Rattle.layout.specs.Sizes.{slot_size}
+use Rattle.layout.specs.Slots.{slot_of, count_in, version_in, bits_in}
+use Rattle.layout.specs.Stores.{slot_in, slot_no, Has}
+use Rattle.store.proofs.Slots.{slot_long, slot_bytes_lem, slot_within, slot_is}
+use Rattle.lookup.specs.Lookup.{is_used}
+use Rattle.lookup.proofs.Matching.{says, version_is, count_is_lem, bits_are, same_packed}
+use Rattle.index_node.specs.Looks.{look_says}
+use Rattle.index_node.specs.declared.Look.TheVariants.{Small, Great, Meets}
+use Rattle.index_node.specs.declared.Look as declared
 
 module _ (v : ℕ) (p : Place) (r : Record) where
-  small : nodeBefore (r .version) (r .place) v p ≡ true → nodeLook v p r ≡ tooSmall
-  unfolding nodeLook
+  small : node_before r.version r.place v p ≡ true → node_look v p r ≡ too_small
+  unfolding node_look
   small e = rw (e)
 
-  great : nodeBefore v p (r .version) (r .place) ≡ true → nodeLook v p r ≡ tooGreat
-  unfolding nodeLook
-  great e = rw (node-once v (r .version) p (r .place) e, e)
+  great : node_before v p r.version r.place ≡ true → node_look v p r ≡ too_great
+  unfolding node_look
+  great e = rw (node_once v r.version p r.place e, e)
 
-  met : r .version ≡ v → r .place ≡ p → nodeLook v p r ≡ meets r
-  unfolding nodeLook
-  met e f = rw (← e, ← f, node-itself (r .version) (r .place))
+  met : r.version ≡ v → r.place ≡ p → node_look v p r ≡ meets r
+  unfolding node_look
+  met e f = rw (← e, ← f, node_itself r.version r.place)
 
-limit : (b : Body) → placeLimit b ≤ 256
-limit (leafBody k x) = omega arith
-limit (innerBody l r) = omega arith
+limit : (b : Body) → place_limit b ≤ 256
+limit (leaf_body k x) = omega arith
+limit (inner_body l r) = omega arith
 
-pub by-slot : (look : Record → Look) (l : declared.Look) (y : Slot) → isUsed y ≡ true → ((r : Record) → y ≡ used r → lookSays (look r) ≡ l) →
-    l ≡ lookSays (lookAt look y)
-by-slot look l free e f = absurd (false≢true e)
-by-slot look l (used r) e f = sym (f r refl)
-by-slot look l (spoiled x) e f = absurd (false≢true e)
+pub by_slot : (look : Record → Look) (l : declared.Look) (y : Slot) → is_used y ≡ true → ((r : Record) → y ≡ used r → look_says (look r) ≡ l) →
+    l ≡ look_says (look_at look y)
+by_slot look l free e f = absurd (false≢true e)
+by_slot look l (used r) e f = sym (f r refl)
+by_slot look l (spoiled x) e f = absurd (false≢true e)
 
-pub off-form : (look : Record → Look) (y : Slot) → isUsed y ≡ false → Great ≡ lookSays (lookAt look y)
-off-form look free e = refl
-off-form look (used r) e = absurd (true≢false e)
-off-form look (spoiled x) e = refl
+pub off_form : (look : Record → Look) (y : Slot) → is_used y ≡ false → Great ≡ look_says (look_at look y)
+off_form look free e = refl
+off_form look (used r) e = absurd (true≢false e)
+off_form look (spoiled x) e = refl
 
 module _ {s : Bytes} {i : ℕ} (has : Has counted s i) (b : All Byte s) (v : ℕ) (p : declared-place.Place) (proper : Proper p) where
   abbrev x : Bytes
-  x = slotIn counted i s
+  x = slot_in counted i s
 
   abbrev q : Place
-  q = placeOf p
+  q = place_of p
 
   abbrev Says : declared.Look → Type 0
-  Says l = l ≡ lookSays (lookAt (nodeLook v q) (slotNo counted i s))
+  Says l = l ≡ look_says (look_at (node_look v q) (slot_no counted i s))
 
-  long : length x ≡ slotSize counted
-  long = slot-long counted i s (slot-within has)
+  long : length x ≡ slot_size counted
+  long = slot_long counted i s (slot_within has)
 
   whole : All Byte x
-  whole = slot-bytes counted i s b
+  whole = slot_bytes_lem counted i s b
 
-  says-of : (l : declared.Look) → isUsed (slotOf x) ≡ true → ((r : Record) → slotOf x ≡ used r → lookSays (nodeLook v q r) ≡ l) → Says l
-  says-of l e f = by-slot (nodeLook v q) l (slotOf x) e f ∙ ap (λ y. lookSays (lookAt (nodeLook v q) y)) (sym (slot-is has))
+  says_of : (l : declared.Look) → is_used (slot_of x) ≡ true → ((r : Record) → slot_of x ≡ used r → look_says (node_look v q r) ≡ l) → Says l
+  says_of l e f = by_slot (node_look v q) l (slot_of x) e f ∙ ap (λ y. look_says (look_at (node_look v q) y)) (sym (slot_is has))
 
   short : length q ≤ 256
-  short = omega (arith, proper .short, proper-count p proper)
+  short = omega (arith, proper.short, proper_count p proper)
 
-  its-bits : (r : Record) → slotOf x ≡ used r → bitsIn x ≡ pack 32 (r .place)
-  its-bits r e = bits-are counted x long whole r e
+  its_bits : (r : Record) → slot_of x ≡ used r → bits_in x ≡ pack 32 r.place
+  its_bits r e = bits_are counted x long whole r e
 
-  its-short : (r : Record) → slotOf x ≡ used r → length (r .place) ≤ 256
-  its-short r e = omega (arith, says {fm = counted} x long whole r e .form .short, limit (r .body))
+  its_short : (r : Record) → slot_of x ≡ used r → length r.place ≤ 256
+  its_short r e = omega (arith, (says {fm = counted} x long whole r e).form.short, limit r.body)
 
-  pub unformed : isUsed (slotOf x) ≡ false → Says Great
-  unformed e = off-form (nodeLook v q) (slotOf x) e ∙ ap (λ y. lookSays (lookAt (nodeLook v q) y)) (sym (slot-is has))
+  pub unformed : is_used (slot_of x) ≡ false → Says Great
+  unformed e = off_form (node_look v q) (slot_of x) e ∙ ap (λ y. look_says (look_at (node_look v q) y)) (sym (slot_is has))
 
-  module _ (form : isUsed (slotOf x) ≡ true) where
-    pub bits-small : before (bitsIn x) (p .bits) ≡ true → Says Small
-    bits-small e =
-        says-of Small form (λ r u.
-        ap lookSays (small v q r (by-place (r .version) v (r .place) q (bytes-before (r .place) q (its-short r u) short (sym (ap₂ before (its-bits r u) (proper .trimmed)) ∙ e)))))
+  module _ (form : is_used (slot_of x) ≡ true) where
+    pub bits_small : before (bits_in x) p.bits ≡ true → Says Small
+    bits_small e =
+        says_of Small form (λ r u.
+        ap look_says (small v q r (by_place r.version v r.place q (bytes_before r.place q (its_short r u) short (sym (ap₂ before (its_bits r u) proper.trimmed) ∙ e)))))
 
-    pub bits-great : before (p .bits) (bitsIn x) ≡ true → Says Great
-    bits-great e =
-        says-of Great form (λ r u.
-        ap lookSays (great v q r (by-place v (r .version) q (r .place) (bytes-before q (r .place) short (its-short r u) (sym (ap₂ before (proper .trimmed) (its-bits r u)) ∙ e)))))
+    pub bits_great : before p.bits (bits_in x) ≡ true → Says Great
+    bits_great e =
+        says_of Great form (λ r u.
+        ap look_says (great v q r (by_place v r.version q r.place (bytes_before q r.place short (its_short r u) (sym (ap₂ before proper.trimmed (its_bits r u)) ∙ e)))))
 
-    module _ (notLess : before (bitsIn x) (p .bits) ≡ false) (notMore : before (p .bits) (bitsIn x) ≡ false) where
-      same-bits : (r : Record) → slotOf x ≡ used r → pack 32 (r .place) ≡ pack 32 q
-      same-bits r u = sym (its-bits r u) ∙ (before-total (bitsIn x) (p .bits) notLess notMore ∙ proper .trimmed)
+    module _ (notLess : before (bits_in x) p.bits ≡ false) (notMore : before p.bits (bits_in x) ≡ false) where
+      same_bits : (r : Record) → slot_of x ≡ used r → pack 32 r.place ≡ pack 32 q
+      same_bits r u = sym (its_bits r u) ∙ (before_total (bits_in x) p.bits notLess notMore ∙ proper.trimmed)
 
-      its-count : (r : Record) → slotOf x ≡ used r → countIn x ≡ length (r .place)
-      unfolding countIn
-      its-count r u = count-is counted x long whole r u
+      its_count : (r : Record) → slot_of x ≡ used r → count_in x ≡ length r.place
+      unfolding count_in
+      its_count r u = count_is_lem counted x long whole r u
 
-      pub count-small : countIn x < p .count → Says Small
-      count-small l =
-          says-of Small form (λ r u.
-          ap lookSays (small v q r (by-place (r .version) v (r .place) q
-          (bytes-equal (r .place) q (its-short r u) short (same-bits r u) ∙ lt-ltb (length (r .place)) (length q) (omega (arith, its-count r u, proper-count p proper))))))
+      pub count_small : count_in x < p.count → Says Small
+      count_small l =
+          says_of Small form (λ r u.
+          ap look_says (small v q r (by_place r.version v r.place q
+          (bytes_equal r.place q (its_short r u) short (same_bits r u) ∙ lt-ltb (length r.place) (length q) (omega (arith, its_count r u, proper_count p proper))))))
 
-      pub count-great : p .count < countIn x → Says Great
-      count-great l =
-          says-of Great form (λ r u.
-          ap lookSays (great v q r (by-place v (r .version) q (r .place)
-          (bytes-equal q (r .place) short (its-short r u) (sym (same-bits r u)) ∙ lt-ltb (length q) (length (r .place)) (omega (arith, its-count r u, proper-count p proper))))))
+      pub count_great : p.count < count_in x → Says Great
+      count_great l =
+          says_of Great form (λ r u.
+          ap look_says (great v q r (by_place v r.version q r.place
+          (bytes_equal q r.place short (its_short r u) (sym (same_bits r u)) ∙ lt-ltb (length q) (length r.place) (omega (arith, its_count r u, proper_count p proper))))))
 
-      module _ (same : countIn x ≡ p .count) where
-        its-place : (r : Record) → slotOf x ≡ used r → r .place ≡ q
-        its-place r u = same-packed (r .place) q (its-short r u) short (sym (its-count r u) ∙ (same ∙ sym (proper-count p proper))) (same-bits r u)
+      module _ (same : count_in x ≡ p.count) where
+        its_place : (r : Record) → slot_of x ≡ used r → r.place ≡ q
+        its_place r u = same_packed r.place q (its_short r u) short (sym (its_count r u) ∙ (same ∙ sym (proper_count p proper))) (same_bits r u)
 
-        pub version-small : versionIn x < v → Says Small
-        version-small l =
-            says-of Small form (λ r u.
-            ap lookSays (small v q r (by-version (r .version) v (r .place) q (its-place r u) (omega (arith, version-is counted x long whole r u)))))
+        pub version_small : version_in x < v → Says Small
+        version_small l =
+            says_of Small form (λ r u.
+            ap look_says (small v q r (by_version r.version v r.place q (its_place r u) (omega (arith, version_is counted x long whole r u)))))
 
-        pub version-great : v < versionIn x → Says Great
-        version-great l =
-            says-of Great form (λ r u.
-            ap lookSays (great v q r (by-version v (r .version) q (r .place) (sym (its-place r u)) (omega (arith, version-is counted x long whole r u)))))
+        pub version_great : v < version_in x → Says Great
+        version_great l =
+            says_of Great form (λ r u.
+            ap look_says (great v q r (by_version v r.version q r.place (sym (its_place r u)) (omega (arith, version_is counted x long whole r u)))))
 
-        pub meeting : versionIn x ≡ v → Says Meets
-        meeting e = says-of Meets form (λ r u. ap lookSays (met v q r (sym (version-is counted x long whole r u) ∙ e) (its-place r u)))
+        pub meeting : version_in x ≡ v → Says Meets
+        meeting e = says_of Meets form (λ r u. ap look_says (met v q r (sym (version_is counted x long whole r u) ∙ e) (its_place r u)))
 
   -- greater bits are too great, in form or not
-  pub bits-above : before (p .bits) (bitsIn x) ≡ true → Says Great
-  bits-above e = either (isUsed (slotOf x)) refl where
-    either : (f : Bool) → isUsed (slotOf x) ≡ f → Says Great
-    either true u = bits-great u e
+  pub bits_above : before p.bits (bits_in x) ≡ true → Says Great
+  bits_above e = either (is_used (slot_of x)) refl where
+    either : (f : Bool) → is_used (slot_of x) ≡ f → Says Great
+    either true u = bits_great u e
     either false u = unformed u

@@ -1,19 +1,20 @@
 // A look at a slot in the search for a node by a table, document 02, request 2026-05: a slot that isn't in form counts as too great.
+#![tactic(auto)]
+
+ghost use Rattle.std.specs.Prelude.{◌≡◌};
+ghost use Rattle.indexed.specs.Index.{look_at, node_look};
+ghost use Rattle.place.specs.Place.{place_of, Proper};
+ghost use Rattle.layout.specs.Stores.{slot_no, Has};
+ghost use Rattle.index_node.specs.Looks.{look_says};
+
 use lookup::holds_record;
-use place::Place;
-use place::before;
+use place::{Place, before};
 use slots::bits_of;
-use store::count_at;
-use store::slot_of;
-use store::version_at;
+use store::{count_at, slot_of, version_at};
 use terms::Form;
-ghost use mathlib.Core.Path.{_≡_};
-ghost use Rattle·indexed.specs.Index.{lookAt, nodeLook};
-ghost use Rattle·place.specs.Place.{placeOf, Proper};
-ghost use Rattle·layout.specs.Stores.{slotNo, Has};
-ghost use Rattle·index_node·specs.specs.Looks.{lookSays};
 
 // What a look at an entry says.
+#[derive(Clone, Copy)]
 pub enum Look {
     Small,
     Great,
@@ -23,8 +24,8 @@ pub enum Look {
 // How slot i stands to a version and place: the bits first, then the bit count, then the version. Greater bits are too great in form or not, so half of the
 // looks need not ask whether the slot is in form.
 pub fn look_node(store: &[u8], i: usize, version: u32, place: Place) -> Look
-    requires { ⌜ Has Form.Counted (now store) i × Proper place ⌝ }
-    ensures { λ r. ⌜ r ≡ lookSays (lookAt (nodeLook version (placeOf place)) (slotNo Form.Counted i (now (store .entry)))) ⌝ }
+    requires { Has Form.Counted store.now i × Proper place }
+    ensures { result ≡ look_says (look_at (node_look version (place_of place)) (slot_no Form.Counted i store.now)) }
 {
     let slot = slot_of(Form::Counted, store, i);
     let bits = place.bits;

@@ -1,88 +1,88 @@
 -- Where no two slots match, each read by any table answers as by scans: what is found at the root and at each node is the same. A sound store has no
 -- two at its kept versions. Assumes nothing.
 use Prim.Native.Nat.{ℕ}
-use mathlib.Core.Path.{_≡_, refl, ap, ap₂, sym, _∙_, fun-ext}
+use mathlib.Core.Path.{◌≡◌, refl, ap, ap₂, sym, ◌∙◌, fun_ext}
 use mathlib.Core.Bool.{Bool, true, false, cond}
-use mathlib.Core.List.{List, [], _∷_}
+use mathlib.Core.List.{List, [], ◌∷◌}
 use lib.Dec.{ltb}
-use Rattle·terms.specs.Bits.{Bytes, Side}
-use Rattle·terms.specs.Records.{Grant, Child, Proof, Store}
-use Rattle·meaning.specs.Sound.{Kept, Sound}
-use Rattle·meaning.specs.Sight.{Sight, matches, nothing, spoilt, scan}
-use Rattle·meaning.specs.Calls.{Answer, refused, isKept}
-use Rattle·meaning.specs.Reading.{seen, seenAt, seenRoot, walk, readEnd, readKeyBy, readKey, rootRead, readRootBy, readRoot}
-use Rattle·meaning.specs.Proving.{proveSeen, emptyVersion, proofBy, proof, fitted, proveBy, prove}
-use Rattle·meaning.specs.Counting.{weight, atBody, numberAt, positionAt, descend, readNumberBy, readNumber, readPositionBy, readPosition}
-use Rattle·palette_rules.specs.Palette.{paletteOf, palette}
-use Rattle·indexed.specs.Index.{byTable}
-use Rattle·indexed.proofs.Scanned.{node-as-by-scan, root-as-by-scan, seen-at-alike, descend-alike, one-node, one-root}
-use Rattle·index_reads·specs.specs.Matching.{NoTwoMatch}
+use Rattle.terms.specs.Bits.{Bytes, Side}
+use Rattle.terms.specs.Records.{Grant, Child, Proof, Store}
+use Rattle.meaning.specs.Sound.{Kept, Sound}
+use Rattle.meaning.specs.Sight.{Sight, matches, nothing, spoilt, scan}
+use Rattle.meaning.specs.Calls.{Answer, refused, is_kept}
+use Rattle.meaning.specs.Reading.{seen, seen_at, seen_root, walk, read_end, read_key_by, read_key, root_read, read_root_by, read_root}
+use Rattle.meaning.specs.Proving.{prove_seen, empty_version, proof_by, proof, fitted, prove_by, prove}
+use Rattle.meaning.specs.Counting.{weight, at_body, number_at, position_at, descend, read_number_by, read_number, read_position_by, read_position}
+use Rattle.palette_rules.specs.Palette.{palette_of, palette}
+use Rattle.indexed.specs.Index.{by_table}
+use Rattle.indexed.proofs.Scanned.{node_as_by_scan, root_as_by_scan, seen_at_alike, descend_alike, one_node, one_root}
+use Rattle.index_reads.specs.Matching.{NoTwoMatch}
 
 -- two answers of a read that differ only in what is found of a kept version
-by-kept : {A : Type 0} (st : Store) (v : ℕ) (x y : Answer A) → (isKept st v ≡ true → x ≡ y) → cond (isKept st v) x (refused 8) ≡ cond (isKept st v) y (refused 8)
-by-kept st v x y f = go (isKept st v) refl
+by_kept : {A : Type 0} (st : Store) (v : ℕ) (x y : Answer A) → (is_kept st v ≡ true → x ≡ y) → cond (is_kept st v) x (refused 8) ≡ cond (is_kept st v) y (refused 8)
+by_kept st v x y f = go (is_kept st v) refl
   where
-    go : (b : Bool) → isKept st v ≡ b → cond b x (refused 8) ≡ cond b y (refused 8)
+    go : (b : Bool) → is_kept st v ≡ b → cond b x (refused 8) ≡ cond b y (refused 8)
     go true e = f e
     go false e = refl
 
 module _ (st : Store) (table : List ℕ) (v : ℕ) where
   module _ (once : NoTwoMatch st v) where
-    nodes-alike : byTable table st .node ≡ scan st .node
-    nodes-alike = fun-ext (λ w. fun-ext (λ p. node-as-by-scan st table w p (once .node w p)))
+    nodes_alike : (by_table table st).node ≡ (scan st).node
+    nodes_alike = fun_ext (λ w. fun_ext (λ p. node_as_by_scan st table w p (once.node w p)))
 
-    root-sighted : byTable table st .root v ≡ scan st .root v
-    root-sighted = root-as-by-scan st table v (once .root)
+    root_sighted : (by_table table st).root v ≡ (scan st).root v
+    root_sighted = root_as_by_scan st table v once.root
 
-    seen-alike : seen (byTable table st) v ≡ seen (scan st) v
+    seen_alike : seen (by_table table st) v ≡ seen (scan st) v
     unfolding seen
-    seen-alike =
-        ap₂ seenRoot root-sighted (fun-ext (λ b. fun-ext (λ d. seen-at-alike 255 (byTable table st) (scan st) nodes-alike (b ∷ []) d)))
+    seen_alike =
+        ap₂ seen_root root_sighted (fun_ext (λ b. fun_ext (λ d. seen_at_alike 255 (by_table table st) (scan st) nodes_alike (b ∷ []) d)))
 
-    position-from : (i : ℕ) (x : Sight) → positionAt (byTable table st) x i ≡ positionAt (scan st) x i
-    position-from i (matches r) =
-        ap (λ (f : Side → Child → ℕ → Answer Grant). cond (ltb i (weight r)) (atBody [] (r .body) (r .counts) i f) (refused 20))
-        (fun-ext (λ b. fun-ext (λ d. fun-ext (λ j. descend-alike 255 (byTable table st) (scan st) nodes-alike (b ∷ []) d j))))
-    position-from i nothing = refl
-    position-from i (spoilt s) = refl
+    position_from : (i : ℕ) (x : Sight) → position_at (by_table table st) x i ≡ position_at (scan st) x i
+    position_from i (matches r) =
+        ap (λ (f : Side → Child → ℕ → Answer Grant). cond (ltb i (weight r)) (at_body [] r.body r.counts i f) (refused 20))
+        (fun_ext (λ b. fun_ext (λ d. fun_ext (λ j. descend_alike 255 (by_table table st) (scan st) nodes_alike (b ∷ []) d j))))
+    position_from i nothing = refl
+    position_from i (spoilt s) = refl
 
-  module _ (once : isKept st v ≡ true → NoTwoMatch st v) where
+  module _ (once : is_kept st v ≡ true → NoTwoMatch st v) where
     -- The root, a key, the number of grants and the grant at a position.
-    pub root-alike : (leafHash innerHash : Bytes → Bytes → Bytes) →
-        readRootBy leafHash innerHash (byTable table st) st v ≡ readRoot leafHash innerHash st v
-    unfolding readRoot
-    root-alike leafHash innerHash = by-kept st v _ _ (λ e. ap (rootRead leafHash innerHash) (root-sighted (once e)))
+    pub root_alike : (leaf_hash inner_hash : Bytes → Bytes → Bytes) →
+        read_root_by leaf_hash inner_hash (by_table table st) st v ≡ read_root leaf_hash inner_hash st v
+    unfolding read_root
+    root_alike leaf_hash inner_hash = by_kept st v _ _ (λ e. ap (root_read leaf_hash inner_hash) (root_sighted (once e)))
 
-    pub key-alike : (k : Bytes) → readKeyBy (byTable table st) st v k ≡ readKey st v k
-    unfolding readKey
-    key-alike k = by-kept st v _ _ (λ e. ap (λ x. readEnd k (walk k 0 [] x)) (seen-alike (once e)))
+    pub key_alike : (k : Bytes) → read_key_by (by_table table st) st v k ≡ read_key st v k
+    unfolding read_key
+    key_alike k = by_kept st v _ _ (λ e. ap (λ x. read_end k (walk k 0 [] x)) (seen_alike (once e)))
 
-    pub number-alike : readNumberBy (byTable table st) st v ≡ readNumber st v
-    unfolding readNumber
-    number-alike = by-kept st v _ _ (λ e. ap numberAt (root-sighted (once e)))
+    pub number_alike : read_number_by (by_table table st) st v ≡ read_number st v
+    unfolding read_number
+    number_alike = by_kept st v _ _ (λ e. ap number_at (root_sighted (once e)))
 
-    pub position-alike : (i : ℕ) → readPositionBy (byTable table st) st v i ≡ readPosition st v i
-    unfolding readPosition
-    position-alike i =
-        by-kept st v _ _ (λ e. ap (λ x. positionAt (byTable table st) x i) (root-sighted (once e)) ∙ position-from (once e) i (scan st .root v))
+    pub position_alike : (i : ℕ) → read_position_by (by_table table st) st v i ≡ read_position st v i
+    unfolding read_position
+    position_alike i =
+        by_kept st v _ _ (λ e. ap (λ x. position_at (by_table table st) x i) (root_sighted (once e)) ∙ position_from (once e) i ((scan st).root v))
 
     -- A proof, and the proofs of a list of keys.
-    proof-alike : (k : Bytes) → proofBy (byTable table st) st v k ≡ proof st v k
+    proof_alike : (k : Bytes) → proof_by (by_table table st) st v k ≡ proof st v k
     unfolding proof
-    proof-alike k =
-        by-kept st v _ _ (λ e. ap₂ (λ x y. cond (emptyVersion x) (refused 14) (proveSeen k y)) (root-sighted (once e)) (seen-alike (once e)))
+    proof_alike k =
+        by_kept st v _ _ (λ e. ap₂ (λ x y. cond (empty_version x) (refused 14) (prove_seen k y)) (root_sighted (once e)) (seen_alike (once e)))
 
-    pub prove-alike : (k : Bytes) (room : ℕ) → proveBy (byTable table st) st v k room ≡ prove st v k room
+    pub prove_alike : (k : Bytes) (room : ℕ) → prove_by (by_table table st) st v k room ≡ prove st v k room
     unfolding prove
-    prove-alike k room = ap (fitted room) (proof-alike k)
+    prove_alike k room = ap (fitted room) (proof_alike k)
 
-    pub palette-alike : (keys : List Bytes) (room : ℕ) → paletteOf (proofBy (byTable table st) st v) st v keys room ≡ palette st v keys room
+    pub palette_alike : (keys : List Bytes) (room : ℕ) → palette_of (proof_by (by_table table st) st v) st v keys room ≡ palette st v keys room
     unfolding palette
-    palette-alike keys room = ap (λ (single : Bytes → Answer Proof). paletteOf single st v keys room) (fun-ext proof-alike)
+    palette_alike keys room = ap (λ (single : Bytes → Answer Proof). palette_of single st v keys room) (fun_ext proof_alike)
 
 -- A sound store has no two that match at a kept version.
-pub sound-no-two : (leafHash innerHash : Bytes → Bytes → Bytes) (st : Store) → Sound leafHash innerHash st → (v : ℕ) → Kept st v → NoTwoMatch st v
-sound-no-two leafHash innerHash st sound v kept = record {
-  node = λ w p. one-node leafHash innerHash st sound w p;
-  root = one-root leafHash innerHash st sound v kept;
+pub sound_no_two : (leaf_hash inner_hash : Bytes → Bytes → Bytes) (st : Store) → Sound leaf_hash inner_hash st → (v : ℕ) → Kept st v → NoTwoMatch st v
+sound_no_two leaf_hash inner_hash st sound v kept = record {
+  node = λ w p. one_node leaf_hash inner_hash st sound w p;
+  root = one_root leaf_hash inner_hash st sound v kept;
 }

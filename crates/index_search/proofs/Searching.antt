@@ -1,48 +1,48 @@
 -- What a look said, and the entry in the middle. Assumes nothing.
-use Prim.Native.Nat.{ℕ, zero, suc, _+_, _/_, _<_}
+use Prim.Native.Nat.{ℕ, zero, suc, ◌+◌, ◌/◌, ◌<◌}
 use native.Mathlib.Omega.{arith}
-use mathlib.Core.Path.{_≡_, refl, ap, _∙_}
+use mathlib.Core.Path.{◌≡◌, refl, ap, ◌∙◌}
 use mathlib.Core.Bool.{Bool, true, false}
-use mathlib.Core.List.{List, [], _∷_}
-use lib.ListN.{length, getD}
-use Rattle·terms.specs.Bits.{Place}
-use Rattle·terms.specs.Records.{Record, Slot, free}
-use Rattle·indexed.specs.Index.{Look, tooSmall, tooGreat, meets, lookAt}
-use Rattle·indexed.proofs.Halving.{inMiddle}
-use Rattle·indexed.proofs.Searching.{node-met, root-met}
-use Rattle·index_node.specs.Looks.{lookSays}
-use Rattle·index_node.specs.declared.Look.the-variants.{Small, Great, Meets}
-use Rattle·index_node.specs.declared.Look as declared
-use Rattle·index_entry.specs.Entries.{lookFor}
+use mathlib.Core.List.{List, [], ◌∷◌}
+use lib.ListN.{length, get_or}
+use Rattle.terms.specs.Bits.{Place}
+use Rattle.terms.specs.Records.{Record, Slot, free}
+use Rattle.indexed.specs.Index.{Look, too_small, too_great, meets, look_at}
+use Rattle.indexed.proofs.Halving.{in_middle}
+use Rattle.indexed.proofs.Searching.{node_met, root_met}
+use Rattle.index_node.specs.Looks.{look_says}
+use Rattle.index_node.specs.declared.Look.TheVariants.{Small, Great, Meets}
+use Rattle.index_node.specs.declared.Look as declared
+use Rattle.index_entry.specs.Entries.{look_for}
 
 -- what a look says, back
-pub was-small : (l : Look) (r : declared.Look) → r ≡ lookSays l → r ≡ Small → l ≡ tooSmall
-was-small tooSmall x e f = refl
-was-small tooGreat x e f = let z : _≡_ {A = ℕ} 0 1 = cc in absurd (omega arith)
-was-small (meets r) x e f = let z : _≡_ {A = ℕ} 0 1 = cc in absurd (omega arith)
+pub was_small : (l : Look) (r : declared.Look) → r ≡ look_says l → r ≡ Small → l ≡ too_small
+was_small too_small x e f = refl
+was_small too_great x e f = let z : ◌≡◌ {A = ℕ} 0 1 = cc in absurd (omega arith)
+was_small (meets r) x e f = let z : ◌≡◌ {A = ℕ} 0 1 = cc in absurd (omega arith)
 
-pub was-great : (l : Look) (r : declared.Look) → r ≡ lookSays l → r ≡ Great → l ≡ tooGreat
-was-great tooSmall x e f = let z : _≡_ {A = ℕ} 0 1 = cc in absurd (omega arith)
-was-great tooGreat x e f = refl
-was-great (meets r) x e f = let z : _≡_ {A = ℕ} 0 1 = cc in absurd (omega arith)
+pub was_great : (l : Look) (r : declared.Look) → r ≡ look_says l → r ≡ Great → l ≡ too_great
+was_great too_small x e f = let z : ◌≡◌ {A = ℕ} 0 1 = cc in absurd (omega arith)
+was_great too_great x e f = refl
+was_great (meets r) x e f = let z : ◌≡◌ {A = ℕ} 0 1 = cc in absurd (omega arith)
 
-pub was-met : (l : Look) (k : declared.Look) → k ≡ lookSays l → k ≡ Meets → (r : Record) × (l ≡ meets r)
-was-met tooSmall x e f = let z : _≡_ {A = ℕ} 0 1 = cc in absurd (omega arith)
-was-met tooGreat x e f = let z : _≡_ {A = ℕ} 0 1 = cc in absurd (omega arith)
-was-met (meets r) x e f = (r, refl)
+pub was_met : (l : Look) (k : declared.Look) → k ≡ look_says l → k ≡ Meets → (r : Record) × (l ≡ meets r)
+was_met too_small x e f = let z : ◌≡◌ {A = ℕ} 0 1 = cc in absurd (omega arith)
+was_met too_great x e f = let z : ◌≡◌ {A = ℕ} 0 1 = cc in absurd (omega arith)
+was_met (meets r) x e f = (r, refl)
 
 -- an entry of the table, whatever stands for those beyond it
-pub any-default : (xs : List ℕ) (k d e : ℕ) → k < length xs → getD xs k d ≡ getD xs k e
-any-default [] k d e l = absurd (omega arith)
-any-default (x ∷ xs) zero d e l = refl
-any-default (x ∷ xs) (suc k) d e l = any-default xs k d e (omega arith)
+pub any_default : (xs : List ℕ) (k d e : ℕ) → k < length xs → get_or xs k d ≡ get_or xs k e
+any_default [] k d e l = absurd (omega arith)
+any_default (x ∷ xs) zero d e l = refl
+any_default (x ∷ xs) (suc k) d e l = any_default xs k d e (omega arith)
 
 -- the entry looked at is the one in the middle
-pub in-middle : (look : Record → Look) (table : List ℕ) (s : List Slot) (lo hi : ℕ) {n e : ℕ} → n ≡ length s → e ≡ getD table ((lo + hi) / 2) n →
-    lookAt look (getD s e free) ≡ inMiddle look table s lo hi
-in-middle look table s lo hi m h = ap (λ k. lookAt look (getD s k free)) (h ∙ ap (getD table ((lo + hi) / 2)) m)
+pub in_middle_lem : (look : Record → Look) (table : List ℕ) (s : List Slot) (lo hi : ℕ) {n e : ℕ} → n ≡ length s → e ≡ get_or table ((lo + hi) / 2) n →
+    look_at look (get_or s e free) ≡ in_middle look table s lo hi
+in_middle_lem look table s lo hi m h = ap (λ k. look_at look (get_or s k free)) (h ∙ ap (get_or table ((lo + hi) / 2)) m)
 
 -- what is met is the record looked at
-pub own-met : (root : Bool) (v : ℕ) (p : Place) (q r : Record) → lookFor root v p q ≡ meets r → q ≡ r
-own-met true v p q r e = root-met v q r e .0
-own-met false v p q r e = node-met v p q r e .0
+pub own_met : (root : Bool) (v : ℕ) (p : Place) (q r : Record) → look_for root v p q ≡ meets r → q ≡ r
+own_met true v p q r e = (root_met v q r e).0
+own_met false v p q r e = (node_met v p q r e).0

@@ -1,23 +1,24 @@
 // The search through a table of slot numbers, document 02, request 2026-05: it halves, and an entry that names no slot in form counts as too great.
+#![tactic(auto)]
+
+ghost use Rattle.std.specs.Prelude.{◌≡◌, true, length, get_or};
+ghost use Rattle.indexed.specs.Index.{node_look, root_look, search};
+ghost use Rattle.place.specs.Place.{place_of, Proper};
+ghost use Rattle.layout.specs.Headers.{size_right};
+ghost use Rattle.layout.specs.Stores.{store_of};
+ghost use Rattle.lookup.specs.Lookup.{Located};
+ghost use Rattle.index_entry.specs.Entries.{look_for};
+
 use index_entry::look_entry;
 use index_node::Look;
 use lookup::Found;
 use place::Place;
 use store::slot_count;
 use terms::Form;
-ghost use mathlib.Core.Path.{_≡_};
-ghost use mathlib.Core.Bool.{true};
-ghost use lib.ListN.{length, getD};
-ghost use Rattle·indexed.specs.Index.{nodeLook, rootLook, search};
-ghost use Rattle·place.specs.Place.{placeOf, Proper};
-ghost use Rattle·layout.specs.Headers.{sizeRight};
-ghost use Rattle·layout.specs.Stores.{storeOf};
-ghost use Rattle·lookup.specs.Lookup.{Located};
-ghost use Rattle·index_entry.specs.Entries.{lookFor};
 
 // The entry at a position of a table; beyond its end the number of slots, which names none.
 fn entry_at(table: &[u32], k: usize, n: usize) -> usize
-    ensures { λ r. ⌜ r ≡ getD (now (table .entry)) k n ⌝ }
+    ensures { result ≡ get_or table.now k n }
 {
     if table.len() <= k {
         return n;
@@ -27,8 +28,8 @@ fn entry_at(table: &[u32], k: usize, n: usize) -> usize
 
 // The slot on which the search for a root or for a node ends. A table may have any length; in one without entries nothing is looked at.
 fn search(store: &[u8], table: &[u32], version: u32, place: Place, root: bool) -> Found
-    requires { ⌜ (sizeRight Form.Counted (length (now store)) ≡ true) × Proper place ⌝ }
-    ensures { λ r. ⌜ Located (storeOf (now (store .entry)) .slots) (search (lookFor root version (placeOf place)) (now (table .entry)) (storeOf (now (store .entry)) .slots)) r ⌝ }
+    requires { (size_right Form.Counted (length store.now) ≡ true) × Proper place }
+    ensures { Located (store_of store.now).slots (search (look_for root version (place_of place)) table.now (store_of store.now).slots) result }
 {
     if table.len() == 0 {
         return Found::Nothing;
@@ -51,16 +52,16 @@ fn search(store: &[u8], table: &[u32], version: u32, place: Place, root: bool) -
 
 // The slot on which the search for a version and place ends.
 pub fn search_node(store: &[u8], table: &[u32], version: u32, place: Place) -> Found
-    requires { ⌜ (sizeRight Form.Counted (length (now store)) ≡ true) × Proper place ⌝ }
-    ensures { λ r. ⌜ Located (storeOf (now (store .entry)) .slots) (search (nodeLook version (placeOf place)) (now (table .entry)) (storeOf (now (store .entry)) .slots)) r ⌝ }
+    requires { (size_right Form.Counted (length store.now) ≡ true) × Proper place }
+    ensures { Located (store_of store.now).slots (search (node_look version (place_of place)) table.now (store_of store.now).slots) result }
 {
     search(store, table, version, place, false)
 }
 
 // The slot on which the search for the root of a version ends.
 pub fn search_root(store: &[u8], table: &[u32], version: u32) -> Found
-    requires { ⌜ sizeRight Form.Counted (length (now store)) ≡ true ⌝ }
-    ensures { λ r. ⌜ Located (storeOf (now (store .entry)) .slots) (search (rootLook version) (now (table .entry)) (storeOf (now (store .entry)) .slots)) r ⌝ }
+    requires { size_right Form.Counted (length store.now) ≡ true }
+    ensures { Located (store_of store.now).slots (search (root_look version) table.now (store_of store.now).slots) result }
 {
     let top = Place::top();
     search(store, table, version, top, true)

@@ -1,15 +1,17 @@
 // Header and slots as bytes, document 01, 'Bytes': specs/ says what they are, proofs/ that they go there and back. The code here says where slots
 // begin.
+#![tactic(auto)]
+
 pub mod sizes;
 
+ghost use Rattle.std.specs.Prelude.{◌≡◌, ◌≤◌, ◌<◌};
+ghost use Rattle.layout.specs.Sizes.{plain_size, slot_size, slot_at, most64};
+
 use terms::Form;
-ghost use mathlib.Core.Path.{_≡_};
-ghost use Prim.Native.Nat.{_≤_, _<_};
-ghost use Rattle·layout·specs.specs.Sizes.{plainSize, slotSize, slotAt, most64};
 
 // How many bytes a slot has, and where slot i begins.
 pub fn slot_size(form: Form) -> usize
-    ensures { λ r. ⌜ (r ≡ slotSize form) × (plainSize ≤ r) × (r ≤ 128) ⌝ }
+    ensures { (result ≡ slot_size form) × (plain_size ≤ result) × (result ≤ 128) }
 {
     match form {
         Form::Plain => sizes::PLAIN_SIZE,
@@ -18,8 +20,8 @@ pub fn slot_size(form: Form) -> usize
 }
 
 pub fn slot_start(form: Form, i: usize) -> usize
-    requires { ⌜ slotAt form i < most64 ⌝ }
-    ensures { λ r. ⌜ (r ≡ slotAt form i) × (plainSize ≤ slotSize form) ⌝ }
+    requires { slot_at form i < most64 }
+    ensures { (result ≡ slot_at form i) × (plain_size ≤ slot_size form) }
 {
     match form {
         Form::Plain => sizes::HEADER_SIZE + sizes::PLAIN_SIZE * i,

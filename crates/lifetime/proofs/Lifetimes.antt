@@ -1,23 +1,23 @@
 -- A lifetime by its ends: a version before it, one of a record that is never retired, one of a record that is. Assumes nothing.
-use Prim.Native.Nat.{ℕ, _<_, _≤_}
+use Prim.Native.Nat.{ℕ, ◌<◌, ◌≤◌}
 use native.Mathlib.Omega.{arith}
-use mathlib.Core.Path.{_≡_, refl}
+use mathlib.Core.Path.{◌≡◌, refl}
 use mathlib.Core.Bool.{Bool, true, false, not}
 use lib.Dec.{leb, ltb}
 use borrow.Author.Tests.{leb-true, leb-false, le-leb, lt-leb, lt-ltb, le-ltb}
-use Rattle·lifetime·specs.specs.Lifetime.{covers}
+use Rattle.lifetime.specs.Lifetime.{covers}
 
-pub before-it : (a s v : ℕ) → v < a → false ≡ covers a s v
+pub before_it : (a s v : ℕ) → v < a → false ≡ covers a s v
 unfolding covers
-before-it a s v h = rw (lt-leb a v h)
+before_it a s v h = rw (lt-leb a v h)
 
-pub never-ends : (a s v : ℕ) → a ≤ v → s ≡ 0 → true ≡ covers a s v
+pub never_ends : (a s v : ℕ) → a ≤ v → s ≡ 0 → true ≡ covers a s v
 unfolding covers
-never-ends a s v h z = rw (le-leb a v h, z)
+never_ends a s v h z = rw (le-leb a v h, z)
 
-pub until-it-ends : (a s v : ℕ) → a ≤ v → (s ≡ 0 → ⊥) → ltb v s ≡ covers a s v
+pub until_it_ends : (a s v : ℕ) → a ≤ v → (s ≡ 0 → ⊥) → ltb v s ≡ covers a s v
 unfolding covers
-until-it-ends a s v h z = rw (le-leb a v h, le-leb 1 s (omega arith)) (go (leb s v) refl)
+until_it_ends a s v h z = rw (le-leb a v h, le-leb 1 s (omega arith)) (go (leb s v) refl)
   where
     go : (c : Bool) → leb s v ≡ c → ltb v s ≡ not c
     go true e = le-ltb v s (leb-true s v e)

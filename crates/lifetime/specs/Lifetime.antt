@@ -1,7 +1,5 @@
 -- Document 02, 2026-13: the versions that a lifetime covers. Assumes nothing.
-use Prim.Native.Nat.{ℕ}
-use mathlib.Core.Bool.{Bool, _&&_, not}
-use lib.Dec.{leb}
+use Rattle.std.specs.Prelude.{ℕ, Bool, ◌&&◌, not, leb}
 
 -- A lifetime from a version on, retired since another (0: not retired), covers v.
 unfoldable pub covers : ℕ → ℕ → ℕ → Bool

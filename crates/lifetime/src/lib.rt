@@ -1,10 +1,12 @@
 // The versions that a record lives at, document 02, 2026-13: from its own version on, until it is retired.
-ghost use mathlib.Core.Path.{_≡_};
-ghost use Rattle·lifetime·specs.specs.Lifetime.{covers};
+#![tactic(auto)]
+
+ghost use Rattle.std.specs.Prelude.{◌≡◌};
+ghost use Rattle.lifetime.specs.Lifetime.{covers};
 
 // Whether a lifetime from one version, retired since another, covers a version.
 pub fn covers(from: u32, since: u32, version: u32) -> bool
-    ensures { λ r. ⌜ r ≡ covers from since version ⌝ }
+    ensures { result ≡ covers from since version }
 {
     if version < from {
         return false;

@@ -2,20 +2,16 @@
 -- that hold its node, finds its children, and goes once over its parents: what they say of it, and whether their
 -- lifetimes add up to its own. No version is tried, and each record is hashed once. No public promise reaches this
 -- file: that it decides 'Sound' is a theorem. Assumes nothing.
-use Prim.Native.Nat.{ℕ, _+_, _-_, max}
-use mathlib.Core.Bool.{Bool, true, false, cond, not, _&&_, _||_}
-use mathlib.Core.List.{List, [], _∷_}
-use mathlib.Core.Option.{Option, none, some}
-use lib.ListN.{length}
-use lib.Dec.{eqb, leb, ltb}
-use Rattle·terms.specs.declared.Form.{Form}
-use Rattle·terms.specs.declared.Form.the-variants.{Plain as plain, Counted as counted}
-use Rattle·terms.specs.Bits.{Bytes, Side, left, right, Place, longer, begins, sameBytes, samePlace}
-use Rattle·terms.specs.Records.{
+use Rattle.std.specs.Prelude.{ℕ, ◌+◌, ◌-◌, max, Bool, true, false, cond, not, ◌&&◌, ◌||◌, List, [], ◌∷◌, length, eqb, leb, ltb}
+use Rattle.std.proofs.Math.Option.{Option, none, some}
+use Rattle.terms.specs.declared.Form.{Form}
+use Rattle.terms.specs.declared.Form.TheVariants.{Plain as plain, Counted as counted}
+use Rattle.terms.specs.Bits.{Bytes, Side, left, right, Place, longer, begins, same_bytes, same_place}
+use Rattle.terms.specs.Records.{
   Child,
   Body,
-  leafBody,
-  innerBody,
+  leaf_body,
+  inner_body,
   Tally,
   Record,
   Slot,
@@ -25,12 +21,12 @@ use Rattle·terms.specs.Records.{
   Store,
   zeros,
 }
-use Rattle·terms.specs.Form.{top32, placeLimit}
-use Rattle·terms.specs.Fields.{allOf}
-use Rattle·meaning.specs.Store.{find, isNode, childOn}
-use Rattle·meaning.specs.Reading.{bodyHash}
-use Rattle·meaning.specs.Sound.{mostSlots}
-use Rattle·meaning.specs.Local.{endsBefore, childVersion, countsBy}
+use Rattle.terms.specs.Form.{top32, place_limit}
+use Rattle.terms.specs.Fields.{all_of}
+use Rattle.meaning.specs.Store.{find, is_node, child_on}
+use Rattle.meaning.specs.Reading.{body_hash}
+use Rattle.meaning.specs.Sound.{most_slots}
+use Rattle.meaning.specs.Local.{ends_before, child_version, counts_by}
 
 -- Each entry of a list passes a test.
 abbrev pub every : {A : Type 0} → (A → Bool) → List A → Bool
@@ -43,164 +39,164 @@ total f [] = 0
 total f (x ∷ xs) = f x + total f xs
 
 -- What a slot gives by its record; d where there is none.
-abbrev pub byRecord : {A : Type 0} → A → (Record → A) → Slot → A
-byRecord d f free = d
-byRecord d f (used r) = f r
-byRecord d f (spoiled x) = d
+abbrev pub by_record : {A : Type 0} → A → (Record → A) → Slot → A
+by_record d f free = d
+by_record d f (used r) = f r
+by_record d f (spoiled x) = d
 
 -- 1 where q is the node of r.
-unfoldable pub isSame : Record → Record → ℕ
-isSame r q = cond (isNode (r .version) (r .place) q) 1 0
+unfoldable pub is_same : Record → Record → ℕ
+is_same r q = cond (is_node r.version r.place q) 1 0
 
 -- How many slots hold the node of r.
 unfoldable pub holders : Record → List Slot → ℕ
-holders r s = total (byRecord 0 (isSame r)) s
+holders r s = total (by_record 0 (is_same r)) s
 
 -- Retired-since is 0, or above the record's version, above oldest and at most latest.
-unfoldable pub lifeTest : Store → Record → Bool
-lifeTest st r =
-    eqb (r .retired) 0 || allOf (ltb (r .version) (r .retired) ∷ ltb (st .oldest) (r .retired) ∷
-    leb (r .retired) (st .latest) ∷ [])
+unfoldable pub life_test : Store → Record → Bool
+life_test st r =
+    eqb r.retired 0 || all_of (ltb r.version r.retired ∷ ltb st.oldest r.retired ∷
+    leb r.retired st.latest ∷ [])
 
-abbrev pub isFound : Option Record → Bool
-isFound none = false
-isFound (some r) = true
+abbrev pub is_found : Option Record → Bool
+is_found none = false
+is_found (some r) = true
 
 -- A child at a place is missing or found.
-unfoldable pub childTest : Store → Place → Child → Bool
-childTest st p c = eqb (c .version) 0 || isFound (find (c .version) p (st .slots))
+unfoldable pub child_test : Store → Place → Child → Bool
+child_test st p c = eqb c.version 0 || is_found (find c.version p st.slots)
 
 -- A leaf's key begins with its place; an inner record's children are missing or found.
-abbrev pub bodyTest : Store → Place → Body → Bool
-bodyTest st p (leafBody k x) = begins p k
-bodyTest st p (innerBody l r) = childTest st (longer left p) l && childTest st (longer right p) r
+abbrev pub body_test : Store → Place → Body → Bool
+body_test st p (leaf_body k x) = begins p k
+body_test st p (inner_body l r) = child_test st (longer left p) l && child_test st (longer right p) r
 
 -- q names r as its child on a side.
 unfoldable pub names : Side → Record → Record → Bool
-names b q r = isNode (childVersion b (q .body)) (longer b (q .place)) r
+names b q r = is_node (child_version b q.body) (longer b q.place) r
 
 -- A child with that body, beside the child d, would be a lone leaf.
-abbrev pub loneLeaf : Child → Body → Bool
-loneLeaf d (leafBody k x) = eqb (d .version) 0
-loneLeaf d (innerBody l r) = false
+abbrev pub lone_leaf : Child → Body → Bool
+lone_leaf d (leaf_body k x) = eqb d.version 0
+lone_leaf d (inner_body l r) = false
 
 -- The first kept version of a record's life.
-abbrev pub firstKept : Store → Record → ℕ
-firstKept st r = max (st .oldest) (r .version)
+abbrev pub first_kept : Store → Record → ℕ
+first_kept st r = max st.oldest r.version
 
 -- How many kept versions a record lives at.
-unfoldable pub keptLife : Store → Record → ℕ
-keptLife st r = endsBefore st r - firstKept st r
+unfoldable pub kept_life : Store → Record → ℕ
+kept_life st r = ends_before st r - first_kept st r
 
 -- q is a parent of r.
-unfoldable pub isParent : Record → Record → Bool
-isParent r q = names left q r || names right q r
+unfoldable pub is_parent : Record → Record → Bool
+is_parent r q = names left q r || names right q r
 
 -- The kept life of q where it is a parent of r.
-unfoldable pub lifeAbove : Store → Record → Record → ℕ
-lifeAbove st r q = cond (isParent r q) (keptLife st q) 0
+unfoldable pub life_above : Store → Record → Record → ℕ
+life_above st r q = cond (is_parent r q) (kept_life st q) 0
 
 -- The kept lives of two records do not meet.
 unfoldable pub apart : Store → Record → Record → Bool
-apart st r q = leb (endsBefore st q) (firstKept st r) || leb (endsBefore st r) (firstKept st q)
+apart st r q = leb (ends_before st q) (first_kept st r) || leb (ends_before st r) (first_kept st q)
 
 -- q is no other root record that lives when r does.
-unfoldable pub rootApart : Store → Record → Record → Bool
-rootApart st r q = not (samePlace (q .place) []) || (eqb (q .version) (r .version) || apart st r q)
+unfoldable pub root_apart : Store → Record → Record → Bool
+root_apart st r q = not (same_place q.place []) || (eqb q.version r.version || apart st r q)
 
 -- The lives of root records do not meet; the lifetimes of another record's parents add up to its own.
-unfoldable pub lifeCovered : Store → Record → Bool
-lifeCovered st r =
-    cond (samePlace (r .place) [])
-    (every (byRecord true (rootApart st r)) (st .slots))
-    (leb (keptLife st r) (total (byRecord 0 (lifeAbove st r)) (st .slots)))
+unfoldable pub life_covered : Store → Record → Bool
+life_covered st r =
+    cond (same_place r.place [])
+    (every (by_record true (root_apart st r)) st.slots)
+    (leb (kept_life st r) (total (by_record 0 (life_above st r)) st.slots))
 
 -- The counts are these; the plain form has none.
-abbrev pub countsAre : Form → Tally → Tally → Bool
-countsAre plain c d = true
-countsAre counted c d = eqb (c .leftward) (d .leftward) && eqb (c .rightward) (d .rightward)
+abbrev pub counts_are : Form → Tally → Tally → Bool
+counts_are plain c d = true
+counts_are counted c d = eqb c.leftward d.leftward && eqb c.rightward d.rightward
 
 -- One count is that number; the plain form has none.
-abbrev pub countIs : Form → ℕ → ℕ → Bool
-countIs plain m n = true
-countIs counted m n = eqb m n
+abbrev pub count_is : Form → ℕ → ℕ → Bool
+count_is plain m n = true
+count_is counted m n = eqb m n
 
 -- Each count is what the record found as that child says of the leaves there.
-unfoldable pub countsTest : Store → Record → Bool
-countsTest st r = countsAre (st .form) (r .counts) (countsBy (st .slots) (r .place) (r .body))
+unfoldable pub counts_test : Store → Record → Bool
+counts_test st r = counts_are st.form r.counts (counts_by st.slots r.place r.body)
 
 -- A key, value or hash of 32 bytes.
-unfoldable pub whole32Test : Bytes → Bool
-whole32Test x = eqb (length x) 32 && every (λ b. ltb b 256) x
+unfoldable pub whole32_test : Bytes → Bool
+whole32_test x = eqb (length x) 32 && every (λ b. ltb b 256) x
 
-unfoldable pub childFormTest : Child → Bool
-childFormTest c =
-    allOf (leb (c .version) top32 ∷ whole32Test (c .hash) ∷ (not (eqb (c .version) 0) || sameBytes (c .hash) zeros) ∷
+unfoldable pub child_form_test : Child → Bool
+child_form_test c =
+    all_of (leb c.version top32 ∷ whole32_test c.hash ∷ (not (eqb c.version 0) || same_bytes c.hash zeros) ∷
     [])
 
-abbrev pub bodyFormTest : Body → Bool
-bodyFormTest (leafBody k x) = whole32Test k && whole32Test x
-bodyFormTest (innerBody l r) =
-    allOf (childFormTest l ∷ childFormTest r ∷ not (eqb (l .version) 0 && eqb (r .version) 0) ∷ [])
+abbrev pub body_form_test : Body → Bool
+body_form_test (leaf_body k x) = whole32_test k && whole32_test x
+body_form_test (inner_body l r) =
+    all_of (child_form_test l ∷ child_form_test r ∷ not (eqb l.version 0 && eqb r.version 0) ∷ [])
 
 -- A leaf has no counts; a count has four bytes.
-abbrev pub countsFormTest : Body → Tally → Bool
-countsFormTest (leafBody k x) c = eqb (c .leftward) 0 && eqb (c .rightward) 0
-countsFormTest (innerBody l r) c = leb (c .leftward) top32 && leb (c .rightward) top32
+abbrev pub counts_form_test : Body → Tally → Bool
+counts_form_test (leaf_body k x) c = eqb c.leftward 0 && eqb c.rightward 0
+counts_form_test (inner_body l r) c = leb c.leftward top32 && leb c.rightward top32
 
 -- A record is in form. Of the records in a store of bytes this is known.
-unfoldable pub formTest : Record → Bool
-formTest r = allOf
-    (leb (length (r .place)) (placeLimit (r .body))
-    ∷ leb 1 (r .version)
-    ∷ leb (r .version) top32
-    ∷ leb (r .retired) top32
-    ∷ bodyFormTest (r .body)
-    ∷ countsFormTest (r .body) (r .counts)
+unfoldable pub form_test : Record → Bool
+form_test r = all_of
+    (leb (length r.place) (place_limit r.body)
+    ∷ leb 1 r.version
+    ∷ leb r.version top32
+    ∷ leb r.retired top32
+    ∷ body_form_test r.body
+    ∷ counts_form_test r.body r.counts
     ∷ [])
 
 -- Size and header are right.
-unfoldable pub headTest : Store → Bool
-headTest st = allOf
-    (leb 1 (length (st .slots)) ∷ leb (length (st .slots)) mostSlots ∷ leb (st .oldest) (st .latest) ∷
-    leb (st .latest) top32 ∷ [])
+unfoldable pub head_test : Store → Bool
+head_test st = all_of
+    (leb 1 (length st.slots) ∷ leb (length st.slots) most_slots ∷ leb st.oldest st.latest ∷
+    leb st.latest top32 ∷ [])
 
-module _ (leafHash innerHash : Bytes → Bytes → Bytes) where
+module _ (leaf_hash inner_hash : Bytes → Bytes → Bytes) where
   -- What q says of its child r, where it names it on a side: r's hash is the stored one, r lives at each kept version
   -- of q's life, and it is no lone leaf.
-  abbrev pub linkOn : Side → Store → Record → Record → Body → Bool
-  linkOn b st r q (leafBody k x) = true
-  linkOn b st r q (innerBody l m) = not (names b q r) || allOf
-      (sameBytes (bodyHash leafHash innerHash (r .body)) (childOn b l m .hash)
-      ∷ leb (r .version) (firstKept st q)
-      ∷ leb (endsBefore st q) (endsBefore st r)
-      ∷ not (loneLeaf (childOn (not b) l m) (r .body))
+  abbrev pub link_on : Side → Store → Record → Record → Body → Bool
+  link_on b st r q (leaf_body k x) = true
+  link_on b st r q (inner_body l m) = not (names b q r) || all_of
+      (same_bytes (body_hash leaf_hash inner_hash r.body) (child_on b l m).hash
+      ∷ leb r.version (first_kept st q)
+      ∷ leb (ends_before st q) (ends_before st r)
+      ∷ not (lone_leaf (child_on (not b) l m) r.body)
       ∷ [])
 
-  unfoldable pub linkTest : Store → Record → Record → Bool
-  linkTest st r q = linkOn left st r q (q .body) && linkOn right st r q (q .body)
+  unfoldable pub link_test : Store → Record → Record → Bool
+  link_test st r q = link_on left st r q q.body && link_on right st r q q.body
 
   -- The tests of one record.
-  unfoldable pub recordTest : Store → Record → Bool
-  recordTest st r = allOf
-      (leb (r .version) (st .latest)
-      ∷ lifeTest st r
-      ∷ eqb (holders r (st .slots)) 1
-      ∷ bodyTest st (r .place) (r .body)
-      ∷ every (byRecord true (linkTest st r)) (st .slots)
-      ∷ lifeCovered st r
-      ∷ countsTest st r
+  unfoldable pub record_test : Store → Record → Bool
+  record_test st r = all_of
+      (leb r.version st.latest
+      ∷ life_test st r
+      ∷ eqb (holders r st.slots) 1
+      ∷ body_test st r.place r.body
+      ∷ every (by_record true (link_test st r)) st.slots
+      ∷ life_covered st r
+      ∷ counts_test st r
       ∷ [])
 
   -- A free slot passes, a spoiled one doesn't.
-  abbrev pub slotTest : Store → Slot → Bool
-  slotTest st free = true
-  slotTest st (used r) = recordTest st r
-  slotTest st (spoiled x) = false
+  abbrev pub slot_test : Store → Slot → Bool
+  slot_test st free = true
+  slot_test st (used r) = record_test st r
+  slot_test st (spoiled x) = false
 
   -- What is left to test of a store with a right size and header, whose records are in form.
-  unfoldable pub slotsTest : Store → Bool
-  slotsTest st = every (slotTest st) (st .slots)
+  unfoldable pub slots_test : Store → Bool
+  slots_test st = every (slot_test st) st.slots
 
-  unfoldable pub localTest : Store → Bool
-  localTest st = allOf (headTest st ∷ every (byRecord true formTest) (st .slots) ∷ slotsTest st ∷ [])
+  unfoldable pub local_test : Store → Bool
+  local_test st = all_of (head_test st ∷ every (by_record true form_test) st.slots ∷ slots_test st ∷ [])

@@ -1,27 +1,24 @@
 // Finding a node in lent memory, document 01, 'Reading and proving'.
-use fields::get_u16;
-use fields::get_u32;
-use layout::sizes;
-use layout::slot_size;
-use layout::slot_start;
+#![tactic(auto)]
+
+ghost use Rattle.std.specs.Prelude.{◌≡◌, true, length};
+ghost use Rattle.place.specs.Place.{place_of, Proper};
+ghost use Rattle.layout.specs.Headers.{size_right};
+ghost use Rattle.layout.specs.Slots.{slot_of, SlotLong};
+ghost use Rattle.layout.specs.Stores.{store_in};
+ghost use Rattle.lookup.specs.Lookup.{is_used, FoundIn};
+
+use fields::{get_u16, get_u32};
+use layout::{sizes, slot_size, slot_start};
 use place::Place;
-use slots_form::is_inner;
-use slots_form::is_leaf;
+use slots_form::{is_inner, is_leaf};
 use store::slot_count;
 use terms::Form;
-ghost use mathlib.Core.Path.{_≡_};
-ghost use mathlib.Core.Bool.{true};
-ghost use lib.ListN.{length};
-ghost use Rattle·place.specs.Place.{placeOf, Proper};
-ghost use Rattle·layout.specs.Headers.{sizeRight};
-ghost use Rattle·layout.specs.Slots.{slotOf, SlotLong};
-ghost use Rattle·layout.specs.Stores.{storeIn};
-ghost use Rattle·lookup·specs.specs.Lookup.{isUsed, FoundIn};
 
 // Whether the bytes of a slot are a record in form.
 pub fn holds_record(s: &[u8]) -> bool
-    requires { ⌜ SlotLong (now s) ⌝ }
-    ensures { λ r. ⌜ r ≡ isUsed (slotOf (now (s .entry))) ⌝ }
+    requires { SlotLong s.now }
+    ensures { result ≡ is_used (slot_of s.now) }
 {
     if is_leaf(s) {
         return true;
@@ -29,6 +26,7 @@ pub fn holds_record(s: &[u8]) -> bool
     is_inner(s)
 }
 
+#[derive(Clone, Copy)]
 pub enum Found {
     // The number of the slot.
     At(usize),
@@ -37,8 +35,8 @@ pub enum Found {
 
 // The lowest slot that matches a version and place: the cheap fields first, and the next slot at the first difference.
 pub fn find(form: Form, store: &[u8], version: u32, place: Place) -> Found
-    requires { ⌜ (sizeRight form (length (now store)) ≡ true) × Proper place ⌝ }
-    ensures { λ r. ⌜ FoundIn (storeIn form (now (store .entry)) .slots) version (placeOf place) r ⌝ }
+    requires { (size_right form (length store.now) ≡ true) × Proper place }
+    ensures { FoundIn (store_in form store.now).slots version (place_of place) result }
 {
     let bits = place.bits;
     let count = place.count;

@@ -1,33 +1,33 @@
 -- The desk's tables hold, and its history with gaps grants what it says, by computing. Assumes nothing.
-use mathlib.Core.Path.{_≡_, refl}
-use mathlib.Core.List.{[], _∷_}
-use Rattle·terms.specs.Bits.{Bytes, All}
-use Rattle·meaning·specs.specs.Computed.{computed}
-use Rattle·meaning·specs.specs.Store.{formatted}
-use Rattle·meaning·specs.specs.History.{entry, ledger}
-use Rattle·meaning·specs.specs.Course.{run, history}
-use Rattle·meaning·specs.specs.Desk.{table}
-use Rattle·meaning·specs.specs.DeskGaps.{RowHolds, gaps, notAbove, gapCalls, gapGranted, g₇}
+use mathlib.Core.Path.{◌≡◌, refl}
+use mathlib.Core.List.{[], ◌∷◌}
+use Rattle.terms.specs.Bits.{Bytes, All}
+use Rattle.meaning.specs.Computed.{computed}
+use Rattle.meaning.specs.Store.{formatted}
+use Rattle.meaning.specs.History.{entry, ledger}
+use Rattle.meaning.specs.Course.{run, history}
+use Rattle.meaning.specs.Desk.{table}
+use Rattle.meaning.specs.DeskGaps.{RowHolds, gaps, not_above, gap_calls, gap_granted, g₇}
 
-pub desk : (leafHash innerHash : Bytes → Bytes → Bytes) → All (RowHolds leafHash innerHash) (table leafHash innerHash)
+pub desk : (leaf_hash inner_hash : Bytes → Bytes → Bytes) → All (RowHolds leaf_hash inner_hash) (table leaf_hash inner_hash)
 unfolding computed
-desk leafHash innerHash =
+desk leaf_hash inner_hash =
     (refl, (refl, (refl, (refl, (refl, (refl, (refl, (refl, (refl, (refl, (refl, (refl, (refl, (refl, (refl, tt)))))))))))))))
 
-pub desk-gaps : (leafHash innerHash : Bytes → Bytes → Bytes) → All (RowHolds leafHash innerHash) (gaps leafHash innerHash)
+pub desk_gaps : (leaf_hash inner_hash : Bytes → Bytes → Bytes) → All (RowHolds leaf_hash inner_hash) (gaps leaf_hash inner_hash)
 unfolding computed
-desk-gaps leafHash innerHash =
+desk_gaps leaf_hash inner_hash =
     (refl, (refl, (refl, (refl, (refl, (refl, (refl, (refl, (refl, (refl, (refl, (refl, (refl, (refl, tt))))))))))))))
 
-pub not-above : (leafHash innerHash : Bytes → Bytes → Bytes) → All (RowHolds leafHash innerHash) (notAbove leafHash innerHash)
+pub not_above_lem : (leaf_hash inner_hash : Bytes → Bytes → Bytes) → All (RowHolds leaf_hash inner_hash) (not_above leaf_hash inner_hash)
 unfolding computed
-not-above leafHash innerHash = (refl, (refl, (refl, (refl, tt))))
+not_above_lem leaf_hash inner_hash = (refl, (refl, (refl, (refl, tt))))
 
-pub gap-history : (leafHash innerHash : Bytes → Bytes → Bytes) →
-    ledger (history leafHash innerHash gapCalls (formatted 20)) (entry 0 [] ∷ []) ≡ gapGranted
+pub gap_history : (leaf_hash inner_hash : Bytes → Bytes → Bytes) →
+    ledger (history leaf_hash inner_hash gap_calls (formatted 20)) (entry 0 [] ∷ []) ≡ gap_granted
 unfolding computed
-gap-history leafHash innerHash = refl
+gap_history leaf_hash inner_hash = refl
 
-pub gap-store : (leafHash innerHash : Bytes → Bytes → Bytes) → run leafHash innerHash gapCalls (formatted 20) ≡ g₇ leafHash innerHash
+pub gap_store : (leaf_hash inner_hash : Bytes → Bytes → Bytes) → run leaf_hash inner_hash gap_calls (formatted 20) ≡ g₇ leaf_hash inner_hash
 unfolding computed
-gap-store leafHash innerHash = refl
+gap_store leaf_hash inner_hash = refl

@@ -1,14 +1,10 @@
 -- Document 01, 'Numbers of refusal', and 2026-13: what apply and prune answer of a sound store. Assumes nothing.
-use Prim.Native.Nat.{ℕ, _-_}
-use mathlib.Core.Bool.{Bool, true, cond, _&&_}
-use mathlib.Core.List.{List, [], _∷_}
-use mathlib.Core.Option.{Option, none, some}
-use lib.ListN.{length}
-use lib.Dec.{leb, ltb}
-use Rattle·terms.specs.Bits.{Bytes, before}
-use Rattle·terms.specs.Records.{Ask, askKey, Store, storeFrom}
-use Rattle·meaning·specs.specs.Tree.{VTree, unversioned, hash, nextTree}
-use Rattle·meaning·specs.specs.Store.{treeAtVersion, freeSlots, newRecords, settled, pruned}
+use Rattle.std.specs.Prelude.{ℕ, ◌-◌, Bool, true, cond, ◌&&◌, List, [], ◌∷◌, length, leb, ltb}
+use Rattle.std.proofs.Math.Option.{Option, none, some}
+use Rattle.terms.specs.Bits.{Bytes, before}
+use Rattle.terms.specs.Records.{Ask, ask_key, Store, store_from}
+use Rattle.meaning.specs.Tree.{VTree, unversioned, hash, next_tree}
+use Rattle.meaning.specs.Store.{tree_at_version, free_slots, new_records, settled, pruned}
 
 -- A refusal returns its number and no other result.
 pub data Answer (A : Type 0) : Type 0 where
@@ -29,8 +25,8 @@ abbrev pub accept : {A : Type 0} → A → Store → Result A
 accept a st = record { answer = accepted a; store = st }
 
 -- The version is kept.
-unfoldable pub isKept : Store → ℕ → Bool
-isKept st v = leb (st .oldest) v && leb v (st .latest)
+unfoldable pub is_kept : Store → ℕ → Bool
+is_kept st v = leb st.oldest v && leb v st.latest
 
 -- Apply answers version, root and count of new records.
 pub record Applied : Type 0 where
@@ -38,40 +34,40 @@ pub record Applied : Type 0 where
   pub root : Bytes
   pub count : ℕ
 
-abbrev pub appliedAs : ℕ → Bytes → ℕ → Applied
-appliedAs v root n = record { version = v; root = root; count = n }
+abbrev pub applied_as : ℕ → Bytes → ℕ → Applied
+applied_as v root n = record { version = v; root = root; count = n }
 
 -- Keys strictly ascending.
 abbrev pub ascending : List Ask → Bool
 ascending [] = true
 ascending (a ∷ []) = true
-ascending (a ∷ b ∷ batch) = before (askKey a) (askKey b) && ascending (b ∷ batch)
+ascending (a ∷ b ∷ batch) = before (ask_key a) (ask_key b) && ascending (b ∷ batch)
 
 -- Pruning to n: 8 if the version isn't kept; else it answers how many records it freed.
 unfoldable pub prune : ℕ → Store → Result ℕ
 prune n st =
-    let kept = pruned n (st .slots) in
-    cond (isKept st n)
-    (accept (freeSlots kept - freeSlots (st .slots)) (storeFrom (st .form) n (st .latest) kept))
+    let kept = pruned n st.slots in
+    cond (is_kept st n)
+    (accept (free_slots kept - free_slots st.slots) (store_from st.form n st.latest kept))
     (refuse 8 st)
 
-module _ (leafHash innerHash : Bytes → Bytes → Bytes) where
+module _ (leaf_hash inner_hash : Bytes → Bytes → Bytes) where
   -- The tree `now` as version `new` after the tree `old`: 7 if there are fewer free slots than new records.
   unfoldable pub publish : ℕ → VTree → VTree → Store → Result Applied
   publish new old now st =
-      cond (ltb (freeSlots (st .slots)) (length (newRecords leafHash innerHash new now)))
+      cond (ltb (free_slots st.slots) (length (new_records leaf_hash inner_hash new now)))
       (refuse 7 st)
       (accept
-      (appliedAs new (hash leafHash innerHash (unversioned now)) (length (newRecords leafHash innerHash new now)))
-      (settled leafHash innerHash new old now st))
+      (applied_as new (hash leaf_hash inner_hash (unversioned now)) (length (new_records leaf_hash inner_hash new now)))
+      (settled leaf_hash inner_hash new old now st))
 
   -- A batch makes version `new` of the latest tree.
-  unfoldable pub applyAs : ℕ → List Ask → Store → Result Applied
-  applyAs new batch st =
-      publish new (treeAtVersion st (st .latest)) (nextTree new (treeAtVersion st (st .latest)) batch) st
+  unfoldable pub apply_as : ℕ → List Ask → Store → Result Applied
+  apply_as new batch st =
+      publish new (tree_at_version st st.latest) (next_tree new (tree_at_version st st.latest) batch) st
 
   -- Apply, of a batch in form (else 4): keys not strictly ascending 5, a number not above latest 18, too few slots 7.
   abbrev pub apply : ℕ → Option (List Ask) → Store → Result Applied
   apply number none st = refuse 4 st
   apply number (some batch) st =
-      cond (ascending batch) (cond (ltb (st .latest) number) (applyAs number batch st) (refuse 18 st)) (refuse 5 st)
+      cond (ascending batch) (cond (ltb st.latest number) (apply_as number batch st) (refuse 18 st)) (refuse 5 st)

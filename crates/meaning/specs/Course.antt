@@ -1,16 +1,13 @@
 -- The course of a store under a list of calls, told from the store. No public promise reaches this file. Assumes
 -- nothing.
-use Prim.Native.Nat.{_≤_}
-use mathlib.Core.Bool.{Bool, true, false}
-use mathlib.Core.List.{List, [], _∷_}
-use mathlib.Core.Option.{none, some}
-use lib.ListN.{length}
-use Rattle·terms.specs.Bits.{Bytes, All}
-use Rattle·terms.specs.Records.{Store}
-use Rattle·terms.specs.Form.{AskForm, top32}
-use Rattle·meaning·specs.specs.Store.{formatted}
-use Rattle·meaning·specs.specs.Calls.{Answer, refused, accepted, apply, prune}
-use Rattle·meaning·specs.specs.History.{Call, formatting, applying, pruning, taking, looking}
+use Rattle.std.specs.Prelude.{◌≤◌, Bool, true, false, List, [], ◌∷◌, length}
+use Rattle.std.proofs.Math.Option.{none, some}
+use Rattle.terms.specs.Bits.{Bytes, All}
+use Rattle.terms.specs.Records.{Store}
+use Rattle.terms.specs.Form.{AskForm, top32}
+use Rattle.meaning.specs.Store.{formatted}
+use Rattle.meaning.specs.Calls.{Answer, refused, accepted, apply, prune}
+use Rattle.meaning.specs.History.{Call, formatting, applying, pruning, taking, looking}
 
 -- The asks of a batch are in form, as those decoded from bytes are, and its number has four bytes.
 abbrev pub CallForm : Call → Type 0
@@ -21,25 +18,25 @@ CallForm (pruning n) = Unit {0}
 CallForm (taking es) = Unit {0}
 CallForm looking = Unit {0}
 
-abbrev pub isAccepted : {A : Type 0} → Answer A → Bool
-isAccepted (refused n) = false
-isAccepted (accepted x) = true
+abbrev pub is_accepted : {A : Type 0} → Answer A → Bool
+is_accepted (refused n) = false
+is_accepted (accepted x) = true
 
-module _ (leafHash innerHash : Bytes → Bytes → Bytes) where
+module _ (leaf_hash inner_hash : Bytes → Bytes → Bytes) where
   -- The store after a call. What is made of another store isn't told from this one alone: here it is as if it were
   -- refused.
   abbrev pub after : Call → Store → Store
-  after formatting st = formatted (length (st .slots))
-  after (applying number batch) st = apply leafHash innerHash number batch st .store
-  after (pruning n) st = prune n st .store
+  after formatting st = formatted (length st.slots)
+  after (applying number batch) st = (apply leaf_hash inner_hash number batch st).store
+  after (pruning n) st = (prune n st).store
   after (taking es) st = st
   after looking st = st
 
   -- The call was accepted, so it may have changed what the store holds.
   abbrev pub took : Call → Store → Bool
   took formatting st = true
-  took (applying number batch) st = isAccepted (apply leafHash innerHash number batch st .answer)
-  took (pruning n) st = isAccepted (prune n st .answer)
+  took (applying number batch) st = is_accepted (apply leaf_hash inner_hash number batch st).answer
+  took (pruning n) st = is_accepted (prune n st).answer
   took (taking es) st = false
   took looking st = false
 

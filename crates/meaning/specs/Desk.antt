@@ -1,30 +1,28 @@
 -- Document 01, 'The desk's example', M1 to M12 without M10, of any two hash functions. Assumes nothing.
-use Prim.Native.Nat.{ℕ}
-use mathlib.Core.List.{List, [], _∷_, _++_, map}
-use lib.ListN.{replicate, take, drop}
-use Rattle·terms.specs.declared.Form.the-variants.{Counted as counted}
-use Rattle·terms.specs.Bits.{Bytes, Place, bits}
-use Rattle·terms.specs.Records.{
+use Rattle.std.specs.Prelude.{ℕ, List, [], ◌∷◌, ◌++◌, map, replicate, take, drop}
+use Rattle.terms.specs.declared.Form.TheVariants.{Counted as counted}
+use Rattle.terms.specs.Bits.{Bytes, Place, bits}
+use Rattle.terms.specs.Records.{
   Grant,
   grant,
   Ask,
   insert,
   delete,
-  leafBody,
-  innerBody,
+  leaf_body,
+  inner_body,
   child,
   tally,
-  noTally,
-  recordOf,
+  no_tally,
+  record_of,
   Slot,
   free,
   used,
   Store,
-  storeFrom,
+  store_from,
   zeros,
 }
-use Rattle·meaning·specs.specs.Store.{formatted}
-use Rattle·meaning·specs.specs.Calls.{Answer, refused, accepted, Applied, appliedAs}
+use Rattle.meaning.specs.Store.{formatted}
+use Rattle.meaning.specs.Calls.{Answer, refused, accepted, Applied, applied_as}
 
 -- A row: a batch on a store with its number, a pruning, or a version's root read.
 pub data Row : Type 0 where
@@ -33,12 +31,12 @@ pub data Row : Type 0 where
   reads : Store → ℕ → Answer Bytes → Row
 
 -- a key: its first byte, then zeros, then its last byte
-abbrev pub keyOf : ℕ → ℕ → Bytes
-keyOf first last = first ∷ replicate 30 0 ++ (last ∷ [])
+abbrev pub key_of : ℕ → ℕ → Bytes
+key_of first last = first ∷ replicate 30 0 ++ (last ∷ [])
 
--- such a key with a value of 32 equal bytes: A begins 00, B 010, C 011, D 1; C′ is C with another value
+-- such a key with a value of 32 equal bytes: A begins 00, B 010, C 011, D 1; C' is C with another value
 abbrev pub granting : ℕ → ℕ → ℕ → Grant
-granting first last value = grant (keyOf first last) (replicate 32 value)
+granting first last value = grant (key_of first last) (replicate 32 value)
 
 abbrev pub A : Grant
 A = granting 0 0 1
@@ -49,8 +47,8 @@ B = granting 0b01000000 0 2
 abbrev pub C : Grant
 C = granting 0b01100000 0 3
 
-abbrev pub C′ : Grant
-C′ = granting 0b01100000 0 5
+abbrev pub C' : Grant
+C' = granting 0b01100000 0 5
 
 abbrev pub D : Grant
 D = granting 0b10000000 0 4
@@ -63,14 +61,14 @@ F = granting 0b00010000 0 2
 
 -- the place of the first n bits of a grant's key
 abbrev pub at : ℕ → Grant → Place
-at n g = take n (bits (g .key))
+at n g = take n (bits g.key)
 
 -- a leaf, and an inner node with its children's versions, hashes and counts, last the version since which it is retired
 abbrev pub lf : Place → ℕ → Grant → ℕ → Slot
-lf p v g r = used (recordOf p v r (leafBody (g .key) (g .value)) noTally)
+lf p v g r = used (record_of p v r (leaf_body g.key g.value) no_tally)
 
 abbrev pub nd : Place → ℕ → ℕ → Bytes → ℕ → Bytes → ℕ → ℕ → ℕ → Slot
-nd p v lv lh rv rh lc rc r = used (recordOf p v r (innerBody (child lv lh) (child rv rh)) (tally lc rc))
+nd p v lv lh rv rh lc rc r = used (record_of p v r (inner_body (child lv lh) (child rv rh)) (tally lc rc))
 
 -- the first of some records, each retired since the version beside it
 abbrev pub since : List (ℕ → Slot) → List ℕ → List Slot
@@ -79,13 +77,13 @@ since (r ∷ rs) [] = []
 since (r ∷ rs) (v ∷ versions) = r v ∷ since rs versions
 
 abbrev pub store : ℕ → ℕ → List Slot → Store
-store old new s = storeFrom counted old new s
+store old new s = store_from counted old new s
 
 abbrev pub made : ℕ → Bytes → ℕ → Answer Applied
-made v root n = accepted (appliedAs v root n)
+made v root n = accepted (applied_as v root n)
 
 abbrev pub put : Grant → Ask
-put g = insert (g .key) (g .value)
+put g = insert g.key g.value
 
 -- M1's batch, and M9's.
 abbrev pub four : List Ask
@@ -94,35 +92,35 @@ four = map put (A ∷ B ∷ C ∷ D ∷ [])
 abbrev two : List Ask
 two = map put (A ∷ F ∷ [])
 
-module _ (leafHash innerHash : Bytes → Bytes → Bytes) where
+module _ (leaf_hash inner_hash : Bytes → Bytes → Bytes) where
   abbrev pub h : Grant → Bytes
-  h g = leafHash (g .key) (g .value)
+  h g = leaf_hash g.key g.value
 
   abbrev pub h01 : Bytes
-  h01 = innerHash (h B) (h C)
+  h01 = inner_hash (h B) (h C)
 
   abbrev pub h0 : Bytes
-  h0 = innerHash (h A) h01
+  h0 = inner_hash (h A) h01
 
   abbrev pub root₁ : Bytes
-  root₁ = innerHash h0 (h D)
+  root₁ = inner_hash h0 (h D)
 
-  abbrev pub h0′ : Bytes
-  h0′ = innerHash (h A) (h C′)
+  abbrev pub h0' : Bytes
+  h0' = inner_hash (h A) (h C')
 
   abbrev pub root₂ : Bytes
-  root₂ = innerHash h0′ (h D)
+  root₂ = inner_hash h0' (h D)
 
   -- The records of M1's batch as version v, then those of M2's as version w, in the order of their slots.
-  abbrev pub ofTwo : ℕ → ℕ → List (ℕ → Slot)
-  ofTwo v w =
+  abbrev pub of_two : ℕ → ℕ → List (ℕ → Slot)
+  of_two v w =
       lf (at 3 B) v B ∷ lf (at 3 C) v C ∷ lf (at 2 A) v A ∷ nd (at 2 B) v v (h B) v (h C) 1 1
       ∷ nd (at 1 A) v v (h A) v h01 1 2 ∷ lf (at 1 D) v D ∷ nd [] v v h0 v (h D) 3 1
-      ∷ lf (at 2 C) w C′ ∷ nd (at 1 A) w v (h A) w (h C′) 1 1 ∷ nd [] w w h0′ v (h D) 2 1 ∷ []
+      ∷ lf (at 2 C) w C' ∷ nd (at 1 A) w v (h A) w (h C') 1 1 ∷ nd [] w w h0' v (h D) 2 1 ∷ []
 
   -- Those of M1 to M5.
   abbrev records : List (ℕ → Slot)
-  records = ofTwo 1 2 ++ nd [] 3 2 h0′ 1 (h D) 2 1 ∷ lf (at 1 C) 4 C′ ∷ nd [] 4 4 (h C′) 1 (h D) 1 1 ∷ lf [] 5 C′ ∷ []
+  records = of_two 1 2 ++ nd [] 3 2 h0' 1 (h D) 2 1 ∷ lf (at 1 C) 4 C' ∷ nd [] 4 4 (h C') 1 (h D) 1 1 ∷ lf [] 5 C' ∷ []
 
   -- A store of 20 slots with the first of these, retired since the versions listed.
   abbrev desk : ℕ → List ℕ → Store
@@ -147,19 +145,19 @@ module _ (leafHash innerHash : Bytes → Bytes → Bytes) where
   s₆ = desk 6 (2 ∷ 2 ∷ 4 ∷ 2 ∷ 2 ∷ 5 ∷ 2 ∷ 4 ∷ 4 ∷ 3 ∷ 4 ∷ 5 ∷ 5 ∷ 6 ∷ [])
 
   abbrev pub s₇ : Store
-  s₇ = store 4 6 (replicate 5 free ++ lf (at 1 D) 1 D 5 ∷ replicate 5 free ++ drop 11 (s₆ .slots))
+  s₇ = store 4 6 (replicate 5 free ++ lf (at 1 D) 1 D 5 ∷ replicate 5 free ++ drop 11 s₆.slots)
 
   abbrev pub s₈ : Store
-  s₈ = store 4 7 (lf [] 7 E 0 ∷ drop 1 (s₇ .slots))
+  s₈ = store 4 7 (lf [] 7 E 0 ∷ drop 1 s₇.slots)
 
   abbrev r3 : Bytes
-  r3 = innerHash (h A) (h F)
+  r3 = inner_hash (h A) (h F)
 
   abbrev r2 : Bytes
-  r2 = innerHash r3 zeros
+  r2 = inner_hash r3 zeros
 
   abbrev r1 : Bytes
-  r1 = innerHash r2 zeros
+  r1 = inner_hash r2 zeros
 
   abbrev pub s₉ : Store
   s₉ = store 0 1
@@ -176,18 +174,18 @@ module _ (leafHash innerHash : Bytes → Bytes → Bytes) where
   abbrev pub table : List Row
   table =
       applies (formatted 20) 1 four (made 1 root₁ 7) s₁
-      ∷ applies s₁ 2 (delete (B .key) ∷ put C′ ∷ []) (made 2 root₂ 3) s₂
+      ∷ applies s₁ 2 (delete B.key ∷ put C' ∷ []) (made 2 root₂ 3) s₂
       ∷ applies s₂ 3 [] (made 3 root₂ 1) s₃
-      ∷ applies s₃ 4 (delete (A .key) ∷ []) (made 4 (innerHash (h C′) (h D)) 2) s₄
-      ∷ applies s₄ 5 (delete (D .key) ∷ []) (made 5 (h C′) 1) s₅
-      ∷ applies s₅ 6 (delete (C .key) ∷ []) (made 6 zeros 0) s₆
+      ∷ applies s₃ 4 (delete A.key ∷ []) (made 4 (inner_hash (h C') (h D)) 2) s₄
+      ∷ applies s₄ 5 (delete D.key ∷ []) (made 5 (h C') 1) s₅
+      ∷ applies s₅ 6 (delete C.key ∷ []) (made 6 zeros 0) s₆
       ∷ prunes s₆ 4 (accepted 10) s₇
       ∷ applies s₇ 7 (put E ∷ []) (made 7 (h E) 1) s₈
-      ∷ applies (formatted 20) 1 two (made 1 (innerHash r1 zeros) 6) s₉
+      ∷ applies (formatted 20) 1 two (made 1 (inner_hash r1 zeros) 6) s₉
       ∷ applies (formatted 5) 1 two (refused 7) (formatted 5)
       ∷ prunes s₈ 4 (accepted 0) s₈
       ∷ prunes s₈ 8 (refused 8) s₈
       ∷ applies (formatted 7) 1 four (made 1 root₁ 7) s₁₁
       ∷ applies s₁₁ 2 [] (refused 7) s₁₁
-      ∷ applies s₁₁ 2 (map (λ g. delete (g .key)) (A ∷ B ∷ C ∷ D ∷ [])) (made 2 zeros 0) s₁₂
+      ∷ applies s₁₁ 2 (map (λ g. delete g.key) (A ∷ B ∷ C ∷ D ∷ [])) (made 2 zeros 0) s₁₂
       ∷ []

@@ -1,10 +1,12 @@
 // The two calls of messages for a caller in another language, document 02, request 2026-02: a number, and what they give in the caller's arrays.
-ghost use mathlib.Core.List.{[], _∷_};
-ghost use Rattle·message_rules.specs.Contracts.{WritesMessage, ReadsMessage};
+#![tactic(auto)]
+
+ghost use Rattle.std.specs.Prelude.{[], ◌∷◌};
+ghost use Rattle.message_rules.specs.Contracts.{WritesMessage, ReadsMessage};
+
 use fields::put_u32;
 use message_read::grants_ics23_read;
-use message_write::Wrote;
-use message_write::write;
+use message_write::{Wrote, write};
 
 // Writes the message of a record to the front of the room; length: how long it is, 4 bytes little-endian. Lent are the raw key asked for, and raw key and value
 // of the leaf shown or the left of two, and of the right of two; a leaf not shown has no bytes.
@@ -18,7 +20,7 @@ pub fn grants_ics23_write(
     room: &mut [u8],
     length: &mut [u8; 4],
 ) -> u32
-    ensures { λ r. ⌜ WritesMessage (now (proof .entry)) (now (asked .entry)) (now (key1 .entry) ∷ now (value1 .entry) ∷ now (key2 .entry) ∷ now (value2 .entry) ∷ []) (now (room .entry)) (now (length .entry)) r (now (room .exit)) (now (length .exit)) ⌝ }
+    ensures { WritesMessage proof.now asked.now (key1.now ∷ value1.now ∷ key2.now ∷ value2.now ∷ []) room.old length.old result room.new length.new }
 {
     let wrote = write(proof, asked, key1, value1, key2, value2, room);
     match wrote {
@@ -41,14 +43,14 @@ pub fn written_out(
     room: &mut [u8],
     length: &mut [u8; 4],
 ) -> u32
-    ensures { λ r. ⌜ WritesMessage (now (proof .entry)) (now (asked .entry)) (now (key1 .entry) ∷ now (value1 .entry) ∷ now (key2 .entry) ∷ now (value2 .entry) ∷ []) (now (room .entry)) (now (length .entry)) r (now (room .exit)) (now (length .exit)) ⌝ }
+    ensures { WritesMessage proof.now asked.now (key1.now ∷ value1.now ∷ key2.now ∷ value2.now ∷ []) room.old length.old result room.new length.new }
 {
     grants_ics23_write(proof, asked, key1, value1, key2, value2, room, length)
 }
 
 // The same of reading.
 pub fn read_out(message: &[u8], room: &mut [u8], answer: &mut [u8; 44]) -> u32
-    ensures { λ r. ⌜ ReadsMessage (now (message .entry)) (now (room .entry)) (now (answer .entry)) r (now (room .exit)) (now (answer .exit)) ⌝ }
+    ensures { ReadsMessage message.now room.old answer.old result room.new answer.new }
 {
     grants_ics23_read(message, room, answer)
 }

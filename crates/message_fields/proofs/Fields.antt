@@ -1,99 +1,99 @@
 -- Fields where they stand: by their tag, their length, and as many bytes. Assumes nothing.
-use Prim.Native.Nat.{ℕ, _+_, _*_, _-_, _<_, _≤_}
+use Prim.Native.Nat.{ℕ, ◌+◌, ◌*◌, ◌-◌, ◌<◌, ◌≤◌}
 use native.Mathlib.Omega.{arith}
-use native.Mathlib.Nat.{add-sub-cancel-left}
-use mathlib.Core.Path.{_≡_, refl, ap, sym, _∙_}
+use native.Mathlib.Nat.{add-sub_cancel_left}
+use mathlib.Core.Path.{◌≡◌, refl, ap, sym, ◌∙◌}
 use mathlib.Core.Bool.{true, false}
-use mathlib.Core.List.{_∷_}
+use mathlib.Core.List.{◌∷◌}
 use mathlib.Core.Option.{none, some}
-use lib.ListN.{length, getD, drop, length-drop, drop-of-length-le}
+use lib.ListN.{length, get_or, drop, length-drop, drop_of_length-le}
 use lib.Seq.{drop-drop}
-use borrow.Author.Tests.{le-leb, lt-leb, eq-eqb, ne-eqb}
-use Rattle·terms.specs.Bits.{Bytes}
-use Rattle·terms.specs.Fields.{slice}
-use Rattle·messages.specs.Reading.{onward, onlyIf, varintFrom, cutFrom, fieldFrom}
-use Rattle·message_varint.specs.declared.Number.{Number}
-use Rattle·message_varint.specs.Numbers.{numberIn, Reads}
-use Rattle·message_varint.proofs.Numbers.{first-of, nothing-in, not-both}
-use Rattle·message_fields·specs.specs.declared.Part.{Part}
-use Rattle·message_fields·specs.specs.Standing.{partIn, Stands}
+use borrow.Author.Tests.{le-leb, lt-leb, eq-eqb, ne_eqb}
+use Rattle.terms.specs.Bits.{Bytes}
+use Rattle.terms.specs.Fields.{slice}
+use Rattle.messages.specs.Reading.{onward, only_if, varint_from, cut_from, field_from}
+use Rattle.message_varint.specs.declared.Number.{Number}
+use Rattle.message_varint.specs.Numbers.{number_in, Reads}
+use Rattle.message_varint.proofs.Numbers.{first_of, nothing_in, not_both}
+use Rattle.message_fields.specs.declared.Part.{Part}
+use Rattle.message_fields.specs.Standing.{part_in, Stands}
 
-no-part-in : (m : Bytes) (r : Part) → r .found ≡ false → partIn m r ≡ none
-no-part-in m r e = rw e
+no_part_in : (m : Bytes) (r : Part) → r.found ≡ false → part_in m r ≡ none
+no_part_in m r e = rw e
 
 module _ (n : ℕ) (m : Bytes) (at : ℕ) where
-  pub stands-end : (r : Part) → length m ≤ at → r .found ≡ false → Stands n m at r
-  stands-end r h e = record {
-    is = ap (fieldFrom n) (drop-of-length-le m {i = at} h) ∙ sym (no-part-in m r e);
-    inside = not-both (r .found) e;
+  pub stands_end : (r : Part) → length m ≤ at → r.found ≡ false → Stands n m at r
+  stands_end r h e = record {
+    is = ap (field_from n) (drop_of_length-le m {i = at} h) ∙ sym (no_part_in m r e);
+    inside = not_both r.found e;
   }
 
-  other-tag : (getD m at 0 ≡ 8 * n + 2 → ⊥) → fieldFrom n (getD m at 0 ∷ drop (at + 1) m) ≡ none
-  unfolding onlyIf
-  other-tag k = rw (ne-eqb (getD m at 0) (8 * n + 2) k)
+  other_tag : (get_or m at 0 ≡ 8 * n + 2 → ⊥) → field_from n (get_or m at 0 ∷ drop (at + 1) m) ≡ none
+  unfolding only_if
+  other_tag k = rw (ne_eqb (get_or m at 0) (8 * n + 2) k)
 
   -- another tag
-  pub stands-other : (r : Part) → at < length m → (getD m at 0 ≡ 8 * n + 2 → ⊥) → r .found ≡ false → Stands n m at r
-  stands-other r h k e = record {
-    is = ap (fieldFrom n) (first-of m at h) ∙ other-tag k ∙ sym (no-part-in m r e);
-    inside = not-both (r .found) e;
+  pub stands_other : (r : Part) → at < length m → (get_or m at 0 ≡ 8 * n + 2 → ⊥) → r.found ≡ false → Stands n m at r
+  stands_other r h k e = record {
+    is = ap (field_from n) (first_of m at h) ∙ other_tag k ∙ sym (no_part_in m r e);
+    inside = not_both r.found e;
   }
 
-  its-tag : getD m at 0 ≡ 8 * n + 2 → fieldFrom n (getD m at 0 ∷ drop (at + 1) m) ≡ onward (varintFrom 2 (drop (at + 1) m)) cutFrom
-  unfolding onlyIf
-  its-tag e = rw (eq-eqb (getD m at 0) (8 * n + 2) e)
+  its_tag : get_or m at 0 ≡ 8 * n + 2 → field_from n (get_or m at 0 ∷ drop (at + 1) m) ≡ onward (varint_from 2 (drop (at + 1) m)) cut_from
+  unfolding only_if
+  its_tag e = rw (eq-eqb (get_or m at 0) (8 * n + 2) e)
 
-  by-size : (size : Number) → at < length m → getD m at 0 ≡ 8 * n + 2 → Reads 2 m (at + 1) size →
-      fieldFrom n (drop at m) ≡ onward (numberIn m size) cutFrom
-  by-size size h t f = ap (fieldFrom n) (first-of m at h) ∙ its-tag t ∙ ap (λ o. onward o cutFrom) (f .is)
+  by_size : (size : Number) → at < length m → get_or m at 0 ≡ 8 * n + 2 → Reads 2 m (at + 1) size →
+      field_from n (drop at m) ≡ onward (number_in m size) cut_from
+  by_size size h t f = ap (field_from n) (first_of m at h) ∙ its_tag t ∙ ap (λ o. onward o cut_from) f.is
 
   -- no length
-  pub stands-no-size : (size : Number) (r : Part) → at < length m → getD m at 0 ≡ 8 * n + 2 → Reads 2 m (at + 1) size → size .found ≡ false →
-      r .found ≡ false → Stands n m at r
+  pub stands_no_size : (size : Number) (r : Part) → at < length m → get_or m at 0 ≡ 8 * n + 2 → Reads 2 m (at + 1) size → size.found ≡ false →
+      r.found ≡ false → Stands n m at r
   unfolding onward
-  stands-no-size size r h t f s e = record {
-    is = by-size size h t f ∙ ap (λ o. onward o cutFrom) (nothing-in m size s) ∙ sym (no-part-in m r e);
-    inside = not-both (r .found) e;
+  stands_no_size size r h t f s e = record {
+    is = by_size size h t f ∙ ap (λ o. onward o cut_from) (nothing_in m size s) ∙ sym (no_part_in m r e);
+    inside = not_both r.found e;
   }
 
-  cut-at : (v next : ℕ) → onward (some (v, drop next m)) cutFrom ≡ cutFrom (v, drop next m)
+  cut_at : (v next : ℕ) → onward (some (v, drop next m)) cut_from ≡ cut_from (v, drop next m)
   unfolding onward
-  cut-at v next = refl
+  cut_at v next = refl
 
-  found-in : (size : Number) → size .found ≡ true → numberIn m size ≡ some (size .value, drop (size .next) m)
-  found-in size s = rw s
+  found_in : (size : Number) → size.found ≡ true → number_in m size ≡ some (size.value, drop size.next m)
+  found_in size s = rw s
 
   -- fewer bytes than its length
-  too-few : (v next : ℕ) → length m - next < v → cutFrom (v, drop next m) ≡ none
-  unfolding onlyIf
-  too-few v next l = rw (lt-leb v (length (drop next m)) (simp length-drop (omega arith)))
+  too_few : (v next : ℕ) → length m - next < v → cut_from (v, drop next m) ≡ none
+  unfolding only_if
+  too_few v next l = rw (lt-leb v (length (drop next m)) (simp length-drop (omega arith)))
 
-  pub stands-short : (size : Number) (r : Part) → at < length m → getD m at 0 ≡ 8 * n + 2 → Reads 2 m (at + 1) size → size .found ≡ true →
-      length m - size .next < size .value → r .found ≡ false → Stands n m at r
-  stands-short size r h t f s l e = record {
+  pub stands_short : (size : Number) (r : Part) → at < length m → get_or m at 0 ≡ 8 * n + 2 → Reads 2 m (at + 1) size → size.found ≡ true →
+      length m - size.next < size.value → r.found ≡ false → Stands n m at r
+  stands_short size r h t f s l e = record {
     is =
-        by-size size h t f
-        ∙ ap (λ o. onward o cutFrom) (found-in size s)
-        ∙ cut-at (size .value) (size .next)
-        ∙ too-few (size .value) (size .next) l
-        ∙ sym (no-part-in m r e);
-    inside = not-both (r .found) e;
+        by_size size h t f
+        ∙ ap (λ o. onward o cut_from) (found_in size s)
+        ∙ cut_at size.value size.next
+        ∙ too_few size.value size.next l
+        ∙ sym (no_part_in m r e);
+    inside = not_both r.found e;
   }
 
-  enough : (v next : ℕ) → v ≤ length m - next → cutFrom (v, drop next m) ≡ some (slice next (next + v - next) m, drop (next + v) m)
-  unfolding onlyIf slice
+  enough : (v next : ℕ) → v ≤ length m - next → cut_from (v, drop next m) ≡ some (slice next (next + v - next) m, drop (next + v) m)
+  unfolding only_if slice
   enough v next l =
-      rw (le-leb v (length (drop next m)) (simp length-drop (omega arith)), add-sub-cancel-left next v, drop-drop v next m)
+      rw (le-leb v (length (drop next m)) (simp length-drop (omega arith)), add-sub_cancel_left next v, drop-drop v next m)
 
   -- it stands there
-  pub stands-there : (size : Number) → at < length m → getD m at 0 ≡ 8 * n + 2 → Reads 2 m (at + 1) size → size .found ≡ true →
-      size .value ≤ length m - size .next → Stands n m at (record { found = true; from = size .next; to = size .next + size .value })
-  stands-there size h t f s l =
-      let i = f .inside s in record {
+  pub stands_there : (size : Number) → at < length m → get_or m at 0 ≡ 8 * n + 2 → Reads 2 m (at + 1) size → size.found ≡ true →
+      size.value ≤ length m - size.next → Stands n m at (record { found = true; from = size.next; to = size.next + size.value })
+  stands_there size h t f s l =
+      let i = f.inside s in record {
         is =
-            by-size size h t f
-            ∙ ap (λ o. onward o cutFrom) (found-in size s)
-            ∙ cut-at (size .value) (size .next)
-            ∙ enough (size .value) (size .next) l;
-        inside = λ _. (omega (arith, i .0), omega arith, omega (arith, i .1));
+            by_size size h t f
+            ∙ ap (λ o. onward o cut_from) (found_in size s)
+            ∙ cut_at size.value size.next
+            ∙ enough size.value size.next l;
+        inside = λ _. (omega (arith, i.0), omega arith, omega (arith, i.1));
       }

@@ -1,14 +1,15 @@
 // A field and an inner op where they stand in the bytes of a message, document 02, request 2026-02. Any bytes may be handed in.
-ghost use mathlib.Core.Path.{_≡_};
-ghost use Prim.Native.Nat.{_≤_};
-ghost use lib.ListN.{length};
-ghost use mathlib.Core.Bool.{false};
-ghost use Rattle·messages.specs.Reading.{stepIn};
-ghost use Rattle·message_fields·specs.specs.Standing.{Stands, stepBy};
+#![tactic(auto)]
+
+ghost use Rattle.std.specs.Prelude.{◌≡◌, ◌≤◌, length, false};
+ghost use Rattle.messages.specs.Reading.{step_in};
+ghost use Rattle.message_fields.specs.Standing.{Stands, step_by};
+
 use message_varint::varint;
 use place::same;
 
 // A field of bytes or of a message: where its bytes begin and end.
+#[derive(Clone, Copy)]
 pub struct Part {
     pub found: bool,
     pub from: usize,
@@ -16,6 +17,7 @@ pub struct Part {
 }
 
 // On which side of its parent an inner op puts a node.
+#[derive(Clone, Copy)]
 pub enum Inner {
     Left,
     Right,
@@ -23,7 +25,7 @@ pub enum Inner {
 }
 
 fn no_part() -> Part
-    ensures { λ r. ⌜ r .found ≡ false ⌝ }
+    ensures { result.found ≡ false }
 {
     Part {
         found: false,
@@ -34,8 +36,8 @@ fn no_part() -> Part
 
 // Field n of bytes or of a message, which begins there.
 pub fn field(m: &[u8], at: usize, n: u8) -> Part
-    requires { ⌜ (at ≤ length (now m)) × (n ≤ 15) ⌝ }
-    ensures { λ r. ⌜ Stands n (now (m .entry)) at r ⌝ }
+    requires { (at ≤ length m.now) × (n ≤ 15) }
+    ensures { Stands n m.now at result }
 {
     if m.len() <= at {
         return no_part();
@@ -59,7 +61,7 @@ pub fn field(m: &[u8], at: usize, n: u8) -> Part
 
 // What an inner op says, by its head and its length: 32 bytes follow the head.
 pub fn inner_op(x: &[u8]) -> Inner
-    ensures { λ r. ⌜ stepIn (now (x .entry)) ≡ stepBy (now (x .entry)) r ⌝ }
+    ensures { step_in x.now ≡ step_by x.now result }
 {
     if x.len() == 39 {
         let left: [u8; 7] = [8, 1, 18, 1, 0, 26, 32];

@@ -1,17 +1,14 @@
 // What a message says, by where its parts stand, document 02, request 2026-02: a presence, an absence, or nothing (10). Any bytes may be handed in.
-ghost use mathlib.Core.Path.{_≡_};
-ghost use Prim.Native.Nat.{_≤_};
-ghost use lib.ListN.{length};
-ghost use mathlib.Core.Bool.{false, _||_};
-ghost use Rattle·message_form·specs.specs.Said.{Nobody, Neighbours, Follows, Absents, SaysPresence, SaysAbsence, Says};
+#![tactic(auto)]
+
+ghost use Rattle.std.specs.Prelude.{◌≡◌, ◌≤◌, length, false, ◌||◌};
+ghost use Rattle.message_form.specs.Said.{Nobody, Neighbours, Follows, Absents, SaysPresence, SaysAbsence, Says};
+
 use message_fields::field;
-use message_leaf::MOST_KEY;
-use message_leaf::Shown;
-use message_leaf::existence;
-use message_leaf::length_right;
-use message_leaf::no_shown;
+use message_leaf::{MOST_KEY, Shown, existence, length_right, no_shown};
 
 // A neighbour, where the next field is its: whether it is in form, whether it is there, and where the bytes after it begin.
+#[derive(Clone, Copy)]
 pub struct Neighbour {
     pub found: bool,
     pub there: bool,
@@ -20,6 +17,7 @@ pub struct Neighbour {
 }
 
 // A non-existence proof: where its key begins and ends, where the left neighbour ends, and the neighbours.
+#[derive(Clone, Copy)]
 pub struct Absent {
     pub found: bool,
     pub key: usize,
@@ -30,6 +28,7 @@ pub struct Absent {
 }
 
 // What a message says.
+#[derive(Clone, Copy)]
 pub enum Said {
     Nothing,
     Presence(Shown),
@@ -37,7 +36,7 @@ pub enum Said {
 }
 
 fn no_neighbour() -> Neighbour
-    ensures { λ r. ⌜ r .found ≡ false ⌝ }
+    ensures { result.found ≡ false }
 {
     Neighbour {
         found: false,
@@ -48,7 +47,7 @@ fn no_neighbour() -> Neighbour
 }
 
 fn nobody(at: usize) -> Neighbour
-    ensures { λ r. ⌜ Nobody at r ⌝ }
+    ensures { Nobody at result }
 {
     Neighbour {
         found: true,
@@ -60,8 +59,8 @@ fn nobody(at: usize) -> Neighbour
 
 // The neighbour of field n from there on.
 fn beside(x: &[u8], at: usize, n: u8) -> Neighbour
-    requires { ⌜ (at ≤ length (now x)) × (n ≤ 15) ⌝ }
-    ensures { λ r. ⌜ Neighbours n (now (x .entry)) at r ⌝ }
+    requires { (at ≤ length x.now) × (n ≤ 15) }
+    ensures { Neighbours n x.now at result }
 {
     if x.len() <= at {
         return nobody(at);
@@ -88,7 +87,7 @@ fn beside(x: &[u8], at: usize, n: u8) -> Neighbour
 }
 
 fn no_absent() -> Absent
-    ensures { λ r. ⌜ r .found ≡ false ⌝ }
+    ensures { result.found ≡ false }
 {
     Absent {
         found: false,
@@ -101,7 +100,7 @@ fn no_absent() -> Absent
 }
 
 fn somebody(left: bool, right: bool) -> bool
-    ensures { λ r. ⌜ r ≡ left || right ⌝ }
+    ensures { result ≡ left || right }
 {
     if left {
         return true;
@@ -111,8 +110,8 @@ fn somebody(left: bool, right: bool) -> bool
 
 // The neighbours from there on, of a key that stands before them.
 fn neighbours(x: &[u8], key: usize, at: usize) -> Absent
-    requires { ⌜ at ≤ length (now x) ⌝ }
-    ensures { λ r. ⌜ Follows (now (x .entry)) key at r ⌝ }
+    requires { at ≤ length x.now }
+    ensures { Follows x.now key at result }
 {
     let left = beside(x, at, 2);
     if !left.found {
@@ -143,8 +142,8 @@ fn neighbours(x: &[u8], key: usize, at: usize) -> Absent
 
 // The non-existence proof from there on to the end.
 fn nonexistence(x: &[u8], at: usize) -> Absent
-    requires { ⌜ at ≤ length (now x) ⌝ }
-    ensures { λ r. ⌜ Absents (now (x .entry)) at r ⌝ }
+    requires { at ≤ length x.now }
+    ensures { Absents x.now at result }
 {
     let key = field(x, at, 1);
     if !key.found {
@@ -159,7 +158,7 @@ fn nonexistence(x: &[u8], at: usize) -> Absent
 }
 
 fn said_presence(m: &[u8]) -> Said
-    ensures { λ r. ⌜ SaysPresence (now (m .entry)) r ⌝ }
+    ensures { SaysPresence m.now result }
 {
     let part = field(m, 0, 1);
     if !part.found {
@@ -177,7 +176,7 @@ fn said_presence(m: &[u8]) -> Said
 }
 
 fn said_absence(m: &[u8]) -> Said
-    ensures { λ r. ⌜ SaysAbsence (now (m .entry)) r ⌝ }
+    ensures { SaysAbsence m.now result }
 {
     let part = field(m, 0, 2);
     if !part.found {
@@ -196,7 +195,7 @@ fn said_absence(m: &[u8]) -> Said
 
 // What the bytes say as a message.
 pub fn says(m: &[u8]) -> Said
-    ensures { λ r. ⌜ Says (now (m .entry)) r ⌝ }
+    ensures { Says m.now result }
 {
     if m.len() == 0 {
         return Said::Nothing;

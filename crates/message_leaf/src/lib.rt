@@ -1,14 +1,11 @@
 // An existence proof where it stands in the bytes of a message, document 02, request 2026-02: key, value, leaf op and path. Any bytes may be handed in. What lies
 // inside another message is read from the bytes up to its end, so that all places are places in the whole message.
-ghost use mathlib.Core.Path.{_≡_};
-ghost use mathlib.Core.Bool.{false, _&&_};
-ghost use Prim.Native.Nat.{_-_, _≤_};
-ghost use lib.ListN.{length};
-ghost use lib.Dec.{leb};
-ghost use Rattle·message_leaf·specs.specs.Shown.{Stepped, Walks, Heads, Shows, Nothing};
-use message_fields::Inner;
-use message_fields::field;
-use message_fields::inner_op;
+#![tactic(auto)]
+
+ghost use Rattle.std.specs.Prelude.{◌≡◌, false, ◌&&◌, ◌-◌, ◌≤◌, length, leb};
+ghost use Rattle.message_leaf.specs.Shown.{Stepped, Walks, Heads, Shows, Nothing};
+
+use message_fields::{Inner, field, inner_op};
 use place::same;
 
 // No path is longer.
@@ -19,12 +16,14 @@ pub const MOST_KEY: usize = 256;
 pub const MOST_VALUE: usize = 4096;
 
 // A path that was walked: how many steps it has.
+#[derive(Clone, Copy)]
 pub struct Walked {
     pub found: bool,
     pub count: usize,
 }
 
 // An existence proof: where its key and its value begin and end, where its path begins, and how many steps it has.
+#[derive(Clone, Copy)]
 pub struct Shown {
     pub found: bool,
     pub key: usize,
@@ -36,7 +35,7 @@ pub struct Shown {
 }
 
 fn no_steps() -> Walked
-    ensures { λ r. ⌜ r .found ≡ false ⌝ }
+    ensures { result.found ≡ false }
 {
     Walked {
         found: false,
@@ -45,7 +44,7 @@ fn no_steps() -> Walked
 }
 
 pub fn no_shown() -> Shown
-    ensures { λ r. ⌜ Nothing r ⌝ }
+    ensures { Nothing result }
 {
     Shown {
         found: false,
@@ -60,7 +59,7 @@ pub fn no_shown() -> Shown
 
 // Whether an inner op is one of ours.
 fn is_step(x: &[u8]) -> bool
-    ensures { λ r. ⌜ Stepped (now (x .entry)) r ⌝ }
+    ensures { Stepped x.now result }
 {
     let op = inner_op(x);
     match op {
@@ -72,8 +71,8 @@ fn is_step(x: &[u8]) -> bool
 
 // The steps from there on to the end, at most 256.
 fn walk(x: &[u8], from: usize) -> Walked
-    requires { ⌜ from ≤ length (now x) ⌝ }
-    ensures { λ r. ⌜ Walks (now (x .entry)) from r ⌝ }
+    requires { from ≤ length x.now }
+    ensures { Walks x.now from result }
 {
     let mut at = from;
     let mut count: usize = 0;
@@ -101,8 +100,8 @@ fn walk(x: &[u8], from: usize) -> Walked
 
 // Whether bytes from one place to another are 1 to `most` many.
 pub fn length_right(from: usize, end: usize, most: usize) -> bool
-    requires { ⌜ from ≤ end ⌝ }
-    ensures { λ r. ⌜ r ≡ leb 1 (end - from) && leb (end - from) most ⌝ }
+    requires { from ≤ end }
+    ensures { result ≡ leb 1 (end - from) && leb (end - from) most }
 {
     if end == from {
         return false;
@@ -112,8 +111,8 @@ pub fn length_right(from: usize, end: usize, most: usize) -> bool
 
 // Key, value and leaf op from there on; the path is not looked at.
 fn head(x: &[u8], at: usize) -> Shown
-    requires { ⌜ at ≤ length (now x) ⌝ }
-    ensures { λ r. ⌜ Heads (now (x .entry)) at r ⌝ }
+    requires { at ≤ length x.now }
+    ensures { Heads x.now at result }
 {
     let key = field(x, at, 1);
     if !key.found {
@@ -148,8 +147,8 @@ fn head(x: &[u8], at: usize) -> Shown
 
 // The existence proof from there on to the end.
 pub fn existence(x: &[u8], at: usize) -> Shown
-    requires { ⌜ at ≤ length (now x) ⌝ }
-    ensures { λ r. ⌜ Shows (now (x .entry)) at r ⌝ }
+    requires { at ≤ length x.now }
+    ensures { Shows x.now at result }
 {
     let h = head(x, at);
     if !h.found {

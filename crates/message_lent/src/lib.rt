@@ -1,25 +1,19 @@
 // What a caller lends beside a record for a message, document 02, request 2026-02: raw keys and values that have the right length and hash to what the proof
 // holds (15 else); and how long the message of it is.
-ghost use mathlib.Core.Path.{_≡_};
-ghost use mathlib.Core.Bool.{true, cond};
-ghost use Prim.Native.Nat.{_+_, _<_, _≤_};
-ghost use lib.ListN.{length};
-ghost use lib.Dec.{eqb};
-ghost use Rattle·terms.specs.Fields.{slice};
-ghost use Rattle·sha256.specs.Sha256.{sha256};
-ghost use Rattle·proofrecords.specs.ProofBytes.{isPresence, presenceIn};
-ghost use Rattle·messages.specs.Raws.{path};
-ghost use Rattle·messages.specs.Lending.{hashesTo, leafFits, unlent};
-ghost use Rattle·message_lent·specs.specs.Lent.{leaf, recordIn, InForm, neighbourFits, fieldLength, existenceLength, neighbourLength};
+#![tactic(auto)]
+
+ghost use Rattle.std.specs.Prelude.{◌≡◌, true, cond, ◌+◌, ◌<◌, ◌≤◌, length, eqb};
+ghost use Rattle.terms.specs.Fields.{slice};
+ghost use Rattle.sha256.specs.Sha256.{sha256};
+ghost use Rattle.proofrecords.specs.ProofBytes.{is_presence, presence_in};
+ghost use Rattle.messages.specs.Raws.{path};
+ghost use Rattle.messages.specs.Lending.{hashes_to, leaf_fits, unlent};
+ghost use Rattle.message_lent.specs.Lent.{leaf, record_in, InForm, neighbour_fits, field_length, existence_length, neighbour_length};
+
 use digest::digest;
 use fields::get_u16;
-use hash::hash_at;
-use hash::same_hash;
-use proofrecords::KEY_AT;
-use proofrecords::PRESENCE_HEAD;
-use proofrecords::STEP_SIZE;
-use proofrecords::STEPS_AT;
-use proofrecords::VALUE_AT;
+use hash::{hash_at, same_hash};
+use proofrecords::{KEY_AT, PRESENCE_HEAD, STEP_SIZE, STEPS_AT, VALUE_AT};
 
 // A raw key is no longer.
 pub const MOST_KEY: usize = 256;
@@ -28,8 +22,8 @@ pub const MOST_VALUE: usize = 4096;
 
 // Whether raw bytes have 1 to `most` bytes and hash to the 32 bytes of a proof from there on.
 pub fn hashes_to(x: &[u8], most: usize, proof: &[u8], at: usize) -> bool
-    requires { ⌜ at + 32 ≤ length (now proof) ⌝ }
-    ensures { λ r. ⌜ r ≡ hashesTo sha256 most (now (x .entry)) (slice at 32 (now (proof .entry))) ⌝ }
+    requires { at + 32 ≤ length proof.now }
+    ensures { result ≡ hashes_to sha256 most x.now (slice at 32 proof.now) }
 {
     if x.len() == 0 {
         return false;
@@ -42,8 +36,8 @@ pub fn hashes_to(x: &[u8], most: usize, proof: &[u8], at: usize) -> bool
 
 // Whether a leaf lent is the one that a presence proof shows.
 pub fn leaf_fits(key: &[u8], value: &[u8], p: &[u8]) -> bool
-    requires { ⌜ isPresence (now p) ≡ true ⌝ }
-    ensures { λ r. ⌜ r ≡ leafFits sha256 (leaf (now (key .entry)) (now (value .entry))) (presenceIn (now (p .entry))) ⌝ }
+    requires { is_presence p.now ≡ true }
+    ensures { result ≡ leaf_fits sha256 (leaf key.now value.now) (presence_in p.now) }
 {
     if !hashes_to(key, MOST_KEY, p, KEY_AT) {
         return false;
@@ -53,7 +47,7 @@ pub fn leaf_fits(key: &[u8], value: &[u8], p: &[u8]) -> bool
 
 // Whether no leaf is lent.
 pub fn unlent(key: &[u8], value: &[u8]) -> bool
-    ensures { λ r. ⌜ r ≡ unlent (leaf (now (key .entry)) (now (value .entry))) ⌝ }
+    ensures { result ≡ unlent (leaf key.now value.now) }
 {
     if key.len() != 0 {
         return false;
@@ -63,8 +57,8 @@ pub fn unlent(key: &[u8], value: &[u8]) -> bool
 
 // Whether a leaf lent is the neighbour's, where its record has bytes.
 pub fn neighbour_fits(key: &[u8], value: &[u8], p: &[u8]) -> bool
-    requires { ⌜ InForm (now p) ⌝ }
-    ensures { λ r. ⌜ r ≡ neighbourFits (leaf (now (key .entry)) (now (value .entry))) (recordIn (now (p .entry))) ⌝ }
+    requires { InForm p.now }
+    ensures { result ≡ neighbour_fits (leaf key.now value.now) (record_in p.now) }
 {
     if p.len() == 0 {
         return true;
@@ -74,8 +68,8 @@ pub fn neighbour_fits(key: &[u8], value: &[u8], p: &[u8]) -> bool
 
 // How many bytes a field of n bytes has: its tag, its length, the bytes.
 pub fn field_size(n: usize) -> usize
-    requires { ⌜ n < 100000 ⌝ }
-    ensures { λ r. ⌜ (r ≡ fieldLength n) × (r ≤ n + 4) ⌝ }
+    requires { n < 100000 }
+    ensures { (result ≡ field_length n) × (result ≤ n + 4) }
 {
     if n < 128 {
         return n + 2;
@@ -88,7 +82,7 @@ pub fn field_size(n: usize) -> usize
 
 // How many bytes the field of a step has: 39 for a step from the right, 41 from the left.
 fn step_size(side: u8) -> usize
-    ensures { λ r. ⌜ (r ≡ cond (eqb side 1) 39 41) × (r ≤ 41) ⌝ }
+    ensures { (result ≡ cond (eqb side 1) 39 41) × (result ≤ 41) }
 {
     if side == 1 {
         return 39;
@@ -98,8 +92,8 @@ fn step_size(side: u8) -> usize
 
 // How many bytes the path of a presence proof takes.
 fn path_size(p: &[u8]) -> usize
-    requires { ⌜ isPresence (now p) ≡ true ⌝ }
-    ensures { λ r. ⌜ (r ≡ length (path (presenceIn (now (p .entry)) .steps))) × (r ≤ 10496) ⌝ }
+    requires { is_presence p.now ≡ true }
+    ensures { (result ≡ length (path (presence_in p.now).steps)) × (result ≤ 10496) }
 {
     let n = get_u16(p, STEPS_AT) as usize;
     let mut size = 0;
@@ -114,16 +108,16 @@ fn path_size(p: &[u8]) -> usize
 
 // How many bytes an existence proof has.
 pub fn existence_size(key: usize, value: usize, p: &[u8]) -> usize
-    requires { ⌜ (isPresence (now p) ≡ true) × (key ≤ 256) × (value ≤ 4096) ⌝ }
-    ensures { λ r. ⌜ (r ≡ existenceLength key value (presenceIn (now (p .entry)))) × (r ≤ 14871) ⌝ }
+    requires { (is_presence p.now ≡ true) × (key ≤ 256) × (value ≤ 4096) }
+    ensures { (result ≡ existence_length key value (presence_in p.now)) × (result ≤ 14871) }
 {
     field_size(key) + field_size(value) + 11 + path_size(p)
 }
 
 // How many bytes the field of a neighbour has, 0 where there is nobody.
 pub fn neighbour_size(key: usize, value: usize, p: &[u8]) -> usize
-    requires { ⌜ InForm (now p) × ((length (now p) ≡ 0 → ⊥) → (key ≤ 256) × (value ≤ 4096)) ⌝ }
-    ensures { λ r. ⌜ (r ≡ neighbourLength key value (recordIn (now (p .entry)))) × (r ≤ 14875) ⌝ }
+    requires { InForm p.now × ((length p.now ≡ 0 → ⊥) → (key ≤ 256) × (value ≤ 4096)) }
+    ensures { (result ≡ neighbour_length key value (record_in p.now)) × (result ≤ 14875) }
 {
     if p.len() == 0 {
         return 0;

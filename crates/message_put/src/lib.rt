@@ -1,29 +1,24 @@
 // The parts of a message written one after the other into a room, document 02, request 2026-02: each function answers where the next part begins.
-ghost use mathlib.Core.Path.{_≡_};
-ghost use mathlib.Core.Bool.{true, cond};
-ghost use mathlib.Core.List.{_∷_, []};
-ghost use Prim.Native.Nat.{_+_, _*_, _<_, _≤_, _%_};
-ghost use lib.ListN.{length};
-ghost use lib.Dec.{eqb};
-ghost use Rattle·proofrecords.specs.ProofBytes.{isPresence, presenceIn};
-ghost use Rattle·messages.specs.Wire.{varint, messageField};
-ghost use Rattle·messages.specs.Message.{existence, neighbourField};
-ghost use Rattle·messages.specs.Raws.{leafOp, innerOp, path};
-ghost use Rattle·messages.specs.Lending.{rawPresence, rawNeighbour};
-ghost use Rattle·message_rules.specs.Puts.{Puts, RoomFor};
-ghost use Rattle·message_lent.specs.Lent.{leaf, recordIn, InForm};
-ghost use Rattle·message_put·specs.specs.Inner.{stepOf, innerHead, Lendable};
-use fields::copy;
-use fields::get_u16;
+#![tactic(auto)]
+
+ghost use Rattle.std.specs.Prelude.{◌≡◌, true, cond, ◌∷◌, [], ◌+◌, ◌*◌, ◌<◌, ◌≤◌, ◌%◌, length, eqb};
+ghost use Rattle.proofrecords.specs.ProofBytes.{is_presence, presence_in};
+ghost use Rattle.messages.specs.Wire.{varint, message_field};
+ghost use Rattle.messages.specs.Message.{existence, neighbour_field};
+ghost use Rattle.messages.specs.Raws.{leaf_op, inner_op, path};
+ghost use Rattle.messages.specs.Lending.{raw_presence, raw_neighbour};
+ghost use Rattle.message_rules.specs.Puts.{Puts, RoomFor};
+ghost use Rattle.message_lent.specs.Lent.{leaf, record_in, InForm};
+ghost use Rattle.message_put.specs.Inner.{step_of, inner_head, Lendable};
+
+use fields::{copy, get_u16};
 use message_lent::existence_size;
-use proofrecords::PRESENCE_HEAD;
-use proofrecords::STEP_SIZE;
-use proofrecords::STEPS_AT;
+use proofrecords::{PRESENCE_HEAD, STEP_SIZE, STEPS_AT};
 
 // Writes a byte.
 fn put_byte(room: &mut [u8], at: usize, b: u8) -> usize
-    requires { ⌜ at < length (now room) ⌝ }
-    ensures { λ r. ⌜ Puts at (b ∷ []) (now (room .entry)) (now (room .exit)) r ⌝ }
+    requires { at < length room.old }
+    ensures { Puts at (b ∷ []) room.old room.new result }
 {
     room[at] = b;
     at + 1
@@ -31,15 +26,15 @@ fn put_byte(room: &mut [u8], at: usize, b: u8) -> usize
 
 // The low seven bits, with 128 added since another byte follows.
 fn low(x: usize) -> u8
-    ensures { λ r. ⌜ r ≡ 128 + x % 128 ⌝ }
+    ensures { result ≡ 128 + x % 128 }
 {
     (128 + x % 128) as u8
 }
 
 // Writes a varint of at most three bytes.
 fn put_varint(room: &mut [u8], at: usize, x: usize) -> usize
-    requires { ⌜ (x < 100000) × RoomFor at (varint x) (now room) ⌝ }
-    ensures { λ r. ⌜ Puts at (varint x) (now (room .entry)) (now (room .exit)) r ⌝ }
+    requires { (x < 100000) × RoomFor at (varint x) room.old }
+    ensures { Puts at (varint x) room.old room.new result }
 {
     if x < 128 {
         return put_byte(room, at, x as u8);
@@ -55,8 +50,8 @@ fn put_varint(room: &mut [u8], at: usize, x: usize) -> usize
 
 // Writes the tag of field n and a length.
 pub fn put_head(room: &mut [u8], at: usize, n: u8, size: usize) -> usize
-    requires { ⌜ ((n ≤ 15) × (size < 100000)) × RoomFor at ((8 * n + 2) ∷ varint size) (now room) ⌝ }
-    ensures { λ r. ⌜ Puts at ((8 * n + 2) ∷ varint size) (now (room .entry)) (now (room .exit)) r ⌝ }
+    requires { ((n ≤ 15) × (size < 100000)) × RoomFor at ((8 * n + 2) ∷ varint size) room.old }
+    ensures { Puts at ((8 * n + 2) ∷ varint size) room.old room.new result }
 {
     let start = put_byte(room, at, 8 * n + 2);
     put_varint(room, start, size)
@@ -64,8 +59,8 @@ pub fn put_head(room: &mut [u8], at: usize, n: u8, size: usize) -> usize
 
 // Writes bytes.
 fn put_bytes(room: &mut [u8], at: usize, x: &[u8]) -> usize
-    requires { ⌜ RoomFor at (now x) (now room) ⌝ }
-    ensures { λ r. ⌜ Puts at (now (x .entry)) (now (room .entry)) (now (room .exit)) r ⌝ }
+    requires { RoomFor at x.now room.old }
+    ensures { Puts at x.now room.old room.new result }
 {
     let end = at + x.len();
     copy(&mut room[at..end], x);
@@ -74,8 +69,8 @@ fn put_bytes(room: &mut [u8], at: usize, x: &[u8]) -> usize
 
 // Writes field n of bytes.
 pub fn put_field(room: &mut [u8], at: usize, n: u8, x: &[u8]) -> usize
-    requires { ⌜ ((n ≤ 15) × (length (now x) < 100000)) × RoomFor at (messageField n (now x)) (now room) ⌝ }
-    ensures { λ r. ⌜ Puts at (messageField n (now (x .entry))) (now (room .entry)) (now (room .exit)) r ⌝ }
+    requires { ((n ≤ 15) × (length x.now < 100000)) × RoomFor at (message_field n x.now) room.old }
+    ensures { Puts at (message_field n x.now) room.old room.new result }
 {
     let start = put_head(room, at, n, x.len());
     put_bytes(room, start, x)
@@ -83,8 +78,8 @@ pub fn put_field(room: &mut [u8], at: usize, n: u8, x: &[u8]) -> usize
 
 // Writes what stands before the sibling in the field of an inner op.
 fn put_inner_head(room: &mut [u8], at: usize, side: u8) -> usize
-    requires { ⌜ RoomFor at (innerHead side) (now room) ⌝ }
-    ensures { λ r. ⌜ Puts at (innerHead side) (now (room .entry)) (now (room .exit)) r ⌝ }
+    requires { RoomFor at (inner_head side) room.old }
+    ensures { Puts at (inner_head side) room.old room.new result }
 {
     if side == 1 {
         let right: [u8; 7] = [34, 37, 8, 1, 18, 33, 0];
@@ -96,8 +91,8 @@ fn put_inner_head(room: &mut [u8], at: usize, side: u8) -> usize
 
 // Writes the inner op of a step.
 fn put_inner(room: &mut [u8], at: usize, step: &[u8]) -> usize
-    requires { ⌜ (length (now step) ≡ 33) × RoomFor at (messageField 4 (innerOp (stepOf (now step)))) (now room) ⌝ }
-    ensures { λ r. ⌜ Puts at (messageField 4 (innerOp (stepOf (now (step .entry))))) (now (room .entry)) (now (room .exit)) r ⌝ }
+    requires { (length step.now ≡ 33) × RoomFor at (message_field 4 (inner_op (step_of step.now))) room.old }
+    ensures { Puts at (message_field 4 (inner_op (step_of step.now))) room.old room.new result }
 {
     let start = put_inner_head(room, at, step[0]);
     put_bytes(room, start, &step[1..STEP_SIZE])
@@ -105,8 +100,8 @@ fn put_inner(room: &mut [u8], at: usize, step: &[u8]) -> usize
 
 // Writes the path of a presence proof.
 fn put_path(room: &mut [u8], at: usize, p: &[u8]) -> usize
-    requires { ⌜ (isPresence (now p) ≡ true) × RoomFor at (path (presenceIn (now p) .steps)) (now room) ⌝ }
-    ensures { λ r. ⌜ Puts at (path (presenceIn (now (p .entry)) .steps)) (now (room .entry)) (now (room .exit)) r ⌝ }
+    requires { (is_presence p.now ≡ true) × RoomFor at (path (presence_in p.now).steps) room.old }
+    ensures { Puts at (path (presence_in p.now).steps) room.old room.new result }
 {
     let n = get_u16(p, STEPS_AT) as usize;
     let mut next = at;
@@ -122,8 +117,8 @@ fn put_path(room: &mut [u8], at: usize, p: &[u8]) -> usize
 
 // Writes the field of the leaf op.
 fn put_leaf_op(room: &mut [u8], at: usize) -> usize
-    requires { ⌜ RoomFor at (messageField 3 leafOp) (now room) ⌝ }
-    ensures { λ r. ⌜ Puts at (messageField 3 leafOp) (now (room .entry)) (now (room .exit)) r ⌝ }
+    requires { RoomFor at (message_field 3 leaf_op) room.old }
+    ensures { Puts at (message_field 3 leaf_op) room.old room.new result }
 {
     let leaf: [u8; 11] = [26, 9, 8, 1, 16, 1, 24, 1, 42, 1, 1];
     put_bytes(room, at, &leaf)
@@ -131,8 +126,8 @@ fn put_leaf_op(room: &mut [u8], at: usize) -> usize
 
 // Writes an existence proof: the raw key and value, the leaf op and the path of a presence proof.
 pub fn put_existence(room: &mut [u8], at: usize, key: &[u8], value: &[u8], p: &[u8]) -> usize
-    requires { ⌜ ((isPresence (now p) ≡ true) × Lendable (now key) (now value)) × RoomFor at (existence (rawPresence (leaf (now key) (now value)) (presenceIn (now p)))) (now room) ⌝ }
-    ensures { λ r. ⌜ Puts at (existence (rawPresence (leaf (now (key .entry)) (now (value .entry))) (presenceIn (now (p .entry))))) (now (room .entry)) (now (room .exit)) r ⌝ }
+    requires { ((is_presence p.now ≡ true) × Lendable key.now value.now) × RoomFor at (existence (raw_presence (leaf key.now value.now) (presence_in p.now))) room.old }
+    ensures { Puts at (existence (raw_presence (leaf key.now value.now) (presence_in p.now))) room.old room.new result }
 {
     let after_key = put_field(room, at, 1, key);
     let after_value = put_field(room, after_key, 2, value);
@@ -142,8 +137,8 @@ pub fn put_existence(room: &mut [u8], at: usize, key: &[u8], value: &[u8], p: &[
 
 // Writes field n of a neighbour, where its record has bytes.
 pub fn put_neighbour(room: &mut [u8], at: usize, n: u8, key: &[u8], value: &[u8], p: &[u8]) -> usize
-    requires { ⌜ ((n ≤ 15) × InForm (now p) × ((length (now p) ≡ 0 → ⊥) → Lendable (now key) (now value))) × RoomFor at (neighbourField n (rawNeighbour (leaf (now key) (now value)) (recordIn (now p)))) (now room) ⌝ }
-    ensures { λ r. ⌜ Puts at (neighbourField n (rawNeighbour (leaf (now (key .entry)) (now (value .entry))) (recordIn (now (p .entry))))) (now (room .entry)) (now (room .exit)) r ⌝ }
+    requires { ((n ≤ 15) × InForm p.now × ((length p.now ≡ 0 → ⊥) → Lendable key.now value.now)) × RoomFor at (neighbour_field n (raw_neighbour (leaf key.now value.now) (record_in p.now))) room.old }
+    ensures { Puts at (neighbour_field n (raw_neighbour (leaf key.now value.now) (record_in p.now))) room.old room.new result }
 {
     if p.len() == 0 {
         return at;

@@ -1,34 +1,27 @@
 // Reading a message, document 02, request 2026-02: our own record goes into the room, and where the raw keys and values stand into an array. Order: 10, 9.
-ghost use mathlib.Core.Path.{_≡_};
-ghost use mathlib.Core.List.{_++_};
-ghost use Prim.Native.Nat.{_+_, _-_, _≤_};
-ghost use lib.ListN.{length};
-ghost use Rattle·terms.specs.Fields.{le};
-ghost use Rattle·terms.specs.Records.{presence, absence};
-ghost use Rattle·fields.specs.Written.{written};
-ghost use Rattle·messages.specs.Spots.{spotsIn};
-ghost use Rattle·message_rules.specs.Contracts.{ReadsMessage};
-ghost use Rattle·message_rules.specs.Answers.{spotsBytes};
-ghost use Rattle·message_leaf.specs.Shown.{presenceAt};
-ghost use Rattle·message_form.specs.Said.{Held, absentAt, AbsentHeld};
-ghost use Rattle·message_read·specs.specs.Reads.{Bounded, spotsOf, ReadsAs};
+#![tactic(auto)]
+
+ghost use Rattle.std.specs.Prelude.{◌≡◌, ◌++◌, ◌+◌, ◌-◌, ◌≤◌, length};
+ghost use Rattle.terms.specs.Fields.{le};
+ghost use Rattle.terms.specs.Records.{presence, absence};
+ghost use Rattle.fields.specs.Written.{written};
+ghost use Rattle.messages.specs.Spots.{spots_in};
+ghost use Rattle.message_rules.specs.Contracts.{ReadsMessage};
+ghost use Rattle.message_rules.specs.Answers.{spots_bytes};
+ghost use Rattle.message_leaf.specs.Shown.{presence_at};
+ghost use Rattle.message_form.specs.Said.{Held, absent_at, AbsentHeld};
+ghost use Rattle.message_read.specs.Reads.{Bounded, spots_of, ReadsAs};
+
 use fields::put_u32;
-use message_form::Absent;
-use message_form::Said;
-use message_form::says;
-use message_leaf::Shown;
-use message_leaf::no_shown;
-use message_record::absence_size;
-use message_record::presence_size;
-use message_record::put_absence;
-use message_record::put_presence;
-use refusal_numbers::NO_ROOM;
-use refusal_numbers::NOT_IN_FORM;
+use message_form::{Absent, Said, says};
+use message_leaf::{Shown, no_shown};
+use message_record::{absence_size, presence_size, put_absence, put_presence};
+use refusal_numbers::{NO_ROOM, NOT_IN_FORM};
 
 // Writes where bytes begin and how many they are.
 fn put_spot(answer: &mut [u8], at: usize, from: usize, end: usize)
-    requires { ⌜ (at + 8 ≤ length (now answer)) × ((from ≤ end) × (end ≤ 29999)) ⌝ }
-    ensures { λ _. ⌜ now (answer .exit) ≡ written at (le 4 from ++ le 4 (end - from)) (now (answer .entry)) ⌝ }
+    requires { (at + 8 ≤ length answer.old) × ((from ≤ end) × (end ≤ 29999)) }
+    ensures { answer.new ≡ written at (le 4 from ++ le 4 (end - from)) answer.old }
 {
     let size = end - from;
     put_u32(answer, at, from as u32);
@@ -44,8 +37,8 @@ fn put_answer(
     first: Shown,
     second: Shown,
 )
-    requires { ⌜ ((size ≤ 29999) × ((key ≤ stop) × (stop ≤ 29999))) × (Bounded first × Bounded second) ⌝ }
-    ensures { λ _. ⌜ now (answer .exit) ≡ le 4 size ++ spotsBytes (spotsOf key stop first second) ⌝ }
+    requires { ((size ≤ 29999) × ((key ≤ stop) × (stop ≤ 29999))) × (Bounded first × Bounded second) }
+    ensures { answer.new ≡ le 4 size ++ spots_bytes (spots_of key stop first second) }
 {
     put_u32(answer, 0, size as u32);
     put_spot(answer, 4, key, stop);
@@ -57,8 +50,8 @@ fn put_answer(
 
 // Our record of a presence, if it fits the room.
 fn read_presence(m: &[u8], p: Shown, room: &mut [u8], answer: &mut [u8; 44]) -> u32
-    requires { ⌜ Held 1 (now m) 0 p × (length (now m) ≤ 29999) ⌝ }
-    ensures { λ r. ⌜ ReadsAs (presence (presenceAt (now (m .entry)) p)) (now (room .entry)) (now (answer .entry)) r (now (room .exit)) (now (answer .exit)) ⌝ }
+    requires { Held 1 m.now 0 p × (length m.now ≤ 29999) }
+    ensures { ReadsAs (presence (presence_at m.now p)) room.old answer.old result room.new answer.new }
 {
     let size = presence_size(p);
     if room.len() < size {
@@ -72,8 +65,8 @@ fn read_presence(m: &[u8], p: Shown, room: &mut [u8], answer: &mut [u8; 44]) -> 
 
 // The leaves of an absence: the left one first, where it is there.
 fn put_leaves(answer: &mut [u8; 44], size: usize, m: &[u8], a: Absent)
-    requires { ⌜ AbsentHeld (now m) a × ((length (now m) ≤ 29999) × (size ≤ 29999)) ⌝ }
-    ensures { λ _. ⌜ now (answer .exit) ≡ le 4 size ++ spotsBytes (spotsIn (absence (absentAt (now (m .entry)) a))) ⌝ }
+    requires { AbsentHeld m.now a × ((length m.now ≤ 29999) × (size ≤ 29999)) }
+    ensures { answer.new ≡ le 4 size ++ spots_bytes (spots_in (absence (absent_at m.now a))) }
 {
     let left = a.left;
     let right = a.right;
@@ -86,8 +79,8 @@ fn put_leaves(answer: &mut [u8; 44], size: usize, m: &[u8], a: Absent)
 
 // Our record of an absence, if it fits the room.
 fn read_absence(m: &[u8], a: Absent, room: &mut [u8], answer: &mut [u8; 44]) -> u32
-    requires { ⌜ AbsentHeld (now m) a × (length (now m) ≤ 29999) ⌝ }
-    ensures { λ r. ⌜ ReadsAs (absence (absentAt (now (m .entry)) a)) (now (room .entry)) (now (answer .entry)) r (now (room .exit)) (now (answer .exit)) ⌝ }
+    requires { AbsentHeld m.now a × (length m.now ≤ 29999) }
+    ensures { ReadsAs (absence (absent_at m.now a)) room.old answer.old result room.new answer.new }
 {
     let size = absence_size(a);
     if room.len() < size {
@@ -101,7 +94,7 @@ fn read_absence(m: &[u8], a: Absent, room: &mut [u8], answer: &mut [u8; 44]) -> 
 // Reads a message into the room; answer: the record's length, then where the raw key asked for, and raw key and value of the leaf shown or the left of two and
 // of the right of two, stand in the message: offset and length each, 4 bytes little-endian, zero where there is none.
 pub fn grants_ics23_read(message: &[u8], room: &mut [u8], answer: &mut [u8; 44]) -> u32
-    ensures { λ r. ⌜ ReadsMessage (now (message .entry)) (now (room .entry)) (now (answer .entry)) r (now (room .exit)) (now (answer .exit)) ⌝ }
+    ensures { ReadsMessage message.now room.old answer.old result room.new answer.new }
 {
     let what = says(message);
     match what {

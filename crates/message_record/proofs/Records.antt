@@ -1,41 +1,41 @@
 -- Our own record of what a message says, field after field. Assumes nothing.
-use Prim.Native.Nat.{ℕ, _+_, _*_, _-_, _<_, _≤_}
+use Prim.Native.Nat.{ℕ, ◌+◌, ◌*◌, ◌-◌, ◌<◌, ◌≤◌}
 use native.Mathlib.Omega.{arith}
-use mathlib.Core.Path.{_≡_, refl, ap, ap₂, sym, _∙_, subst}
+use mathlib.Core.Path.{◌≡◌, refl, ap, ap₂, sym, ◌∙◌, subst}
 use mathlib.Core.Bool.{Bool, true, false, cond, false≢true}
-use mathlib.Core.List.{List, [], _∷_, _++_, append-assoc, append-nil}
+use mathlib.Core.List.{List, [], ◌∷◌, ◌++◌, append_assoc, append-nil}
 use mathlib.Core.Option.{Option, none, some}
 use lib.ListN.{length, take, drop, length-append}
-use Rattle·terms.specs.Bits.{Bytes, Whole32}
-use Rattle·terms.specs.Fields.{le, flat}
-use Rattle·terms.specs.Records.{Presence, Absence, presence, absence}
-use Rattle·terms.proofs.Fields.{length-le}
-use Rattle·fields.specs.Written.{written}
-use Rattle·fields.proofs.Written.{part-written}
-use Rattle·hash.specs.declared.Hash.{Hash}
-use Rattle·hash.specs.Hash.{hashBytes}
-use Rattle·hash.proofs.Laws.{hash-whole, put-over}
-use Rattle·sha256.specs.Sha256.{sha256}
-use Rattle·proofrecords.specs.ProofBytes.{stepsBytes, presenceBytes, neighbourBytes, flagsOf, absenceBytes}
-use Rattle·proofrecords.proofs.Steps.{length-steps}
-use Rattle·proofrecords.proofs.Proofs.{length-presence, length-absence}
-use Rattle·messages.specs.Message.{ownPresence}
-use Rattle·messages.specs.Raws.{ownNeighbour, RawPresence}
-use Rattle·messages.proofs.Lending.{own-form}
-use Rattle·message_rules.proofs.Writing.{written-none, written-then}
-use Rattle·sha256.proofs.Digests.{digest-whole}
-use Rattle·message_leaf.specs.declared.Shown.{Shown}
-use Rattle·message_leaf.specs.Shown.{presenceAt}
-use Rattle·message_form.specs.declared.Absent.{Absent}
-use Rattle·message_form.specs.Said.{shownIn, Held, HeldOr, absentAt}
-use Rattle·message_record·specs.specs.Ready.{Ready, ReadyOr, AbsentReady, sizeOf, flagOf, absentSize, ownAbsence}
+use Rattle.terms.specs.Bits.{Bytes, Whole32}
+use Rattle.terms.specs.Fields.{le, flat}
+use Rattle.terms.specs.Records.{Presence, Absence, presence, absence}
+use Rattle.terms.proofs.Fields.{length_le}
+use Rattle.fields.specs.Written.{written}
+use Rattle.fields.proofs.Written.{part_written}
+use Rattle.hash.specs.declared.Hash.{Hash}
+use Rattle.hash.specs.Hash.{hash_bytes}
+use Rattle.hash.proofs.Laws.{hash_whole, put_over}
+use Rattle.sha256.specs.Sha256.{sha256}
+use Rattle.proofrecords.specs.ProofBytes.{steps_bytes, presence_bytes, neighbour_bytes, flags_of, absence_bytes}
+use Rattle.proofrecords.proofs.Steps.{length_steps}
+use Rattle.proofrecords.proofs.Proofs.{length_presence, length_absence}
+use Rattle.messages.specs.Message.{own_presence}
+use Rattle.messages.specs.Raws.{own_neighbour, RawPresence}
+use Rattle.messages.proofs.Lending.{own_form}
+use Rattle.message_rules.proofs.Writing.{written_none, written_then}
+use Rattle.sha256.proofs.Digests.{digest_whole}
+use Rattle.message_leaf.specs.declared.Shown.{Shown}
+use Rattle.message_leaf.specs.Shown.{presence_at}
+use Rattle.message_form.specs.declared.Absent.{Absent}
+use Rattle.message_form.specs.Said.{shown_in, Held, HeldOr, absent_at}
+use Rattle.message_record.specs.Ready.{Ready, ReadyOr, AbsentReady, size_of, flag_of, absent_size, own_absence}
 
-pub digest-put : (at : ℕ) (x room t : Bytes) (h : Hash) → hashBytes h ≡ sha256 x → length (take (at + 32 - at) (drop at room)) ≡ 32 →
-    t ≡ hashBytes h ++ drop 32 (take (at + 32 - at) (drop at room)) →
+pub digest_put : (at : ℕ) (x room t : Bytes) (h : Hash) → hash_bytes h ≡ sha256 x → length (take (at + 32 - at) (drop at room)) ≡ 32 →
+    t ≡ hash_bytes h ++ drop 32 (take (at + 32 - at) (drop at room)) →
     take at room ++ (t ++ drop (at + 32 - at) (drop at room)) ≡ written at (sha256 x) room
-digest-put at x room t h e l f =
-    let n : length (sha256 x) ≡ 32 = digest-whole x .0 in
-    ap (λ u. take at room ++ (u ++ drop (at + 32 - at) (drop at room))) (put-over h (take (at + 32 - at) (drop at room)) t l f ∙ e) ∙ part-written at (at + 32) (sha256 x) room (omega arith)
+digest_put at x room t h e l f =
+    let n : length (sha256 x) ≡ 32 = (digest_whole x).0 in
+    ap (λ u. take at room ++ (u ++ drop (at + 32 - at) (drop at room))) (put_over h (take (at + 32 - at) (drop at room)) t l f ∙ e) ∙ part_written at (at + 32) (sha256 x) room (omega arith)
 
 -- six fields one after the other
 pub six : (A B C D E F r0 r1 r2 r3 r4 r5 r6 : Bytes) (a b c d e f : ℕ) → r1 ≡ written a A r0 → r2 ≡ written b B r1 → r3 ≡ written c C r2 → r4 ≡ written d D r3 →
@@ -46,142 +46,142 @@ six A B C D E F r0 r1 r2 r3 r4 r5 r6 a b c d e f w1 w2 w3 w4 w5 w6 e1 e2 e3 e4 e
     let l3 = length-append (A ++ B) C in
     let l4 = length-append ((A ++ B) ++ C) D in
     let l5 = length-append (((A ++ B) ++ C) ++ D) E in
-    let v2 : r2 ≡ written a (A ++ B) r0 = w2 ∙ ap (written b B) w1 ∙ written-then a b A B r0 e1 (omega arith) in
-    let v3 : r3 ≡ written a ((A ++ B) ++ C) r0 = w3 ∙ ap (written c C) v2 ∙ written-then a c (A ++ B) C r0 (omega arith) (omega arith) in
-    let v4 : r4 ≡ written a (((A ++ B) ++ C) ++ D) r0 = w4 ∙ ap (written d D) v3 ∙ written-then a d ((A ++ B) ++ C) D r0 (omega arith) (omega arith) in
-    let v5 : r5 ≡ written a ((((A ++ B) ++ C) ++ D) ++ E) r0 = w5 ∙ ap (written e E) v4 ∙ written-then a e (((A ++ B) ++ C) ++ D) E r0 (omega arith) (omega arith) in
-    let v6 : r6 ≡ written a (((((A ++ B) ++ C) ++ D) ++ E) ++ F) r0 = w6 ∙ ap (written f F) v5 ∙ written-then a f ((((A ++ B) ++ C) ++ D) ++ E) F r0 (omega arith) (omega arith) in
-    v6 ∙ ap (λ u. written a u r0) (simp (append-assoc, append-nil))
+    let v2 : r2 ≡ written a (A ++ B) r0 = w2 ∙ ap (written b B) w1 ∙ written_then a b A B r0 e1 (omega arith) in
+    let v3 : r3 ≡ written a ((A ++ B) ++ C) r0 = w3 ∙ ap (written c C) v2 ∙ written_then a c (A ++ B) C r0 (omega arith) (omega arith) in
+    let v4 : r4 ≡ written a (((A ++ B) ++ C) ++ D) r0 = w4 ∙ ap (written d D) v3 ∙ written_then a d ((A ++ B) ++ C) D r0 (omega arith) (omega arith) in
+    let v5 : r5 ≡ written a ((((A ++ B) ++ C) ++ D) ++ E) r0 = w5 ∙ ap (written e E) v4 ∙ written_then a e (((A ++ B) ++ C) ++ D) E r0 (omega arith) (omega arith) in
+    let v6 : r6 ≡ written a (((((A ++ B) ++ C) ++ D) ++ E) ++ F) r0 = w6 ∙ ap (written f F) v5 ∙ written_then a f ((((A ++ B) ++ C) ++ D) ++ E) F r0 (omega arith) (omega arith) in
+    v6 ∙ ap (λ u. written a u r0) (simp (append_assoc, append-nil))
 
-pub few-steps : {x : Bytes} {p : Shown} → Ready x p → p .count ≤ 256
-few-steps r = omega (arith, r .raw .short, r .count-is)
+pub few_steps : {x : Bytes} {p : Shown} → Ready x p → p.count ≤ 256
+few_steps r = omega (arith, r.raw.short, r.count_is_lem)
 
-length-its-steps : {x : Bytes} {p : Shown} → Ready x p → length (stepsBytes (presenceAt x p .steps)) ≡ 33 * p .count
-length-its-steps {x} {p} r = length-steps (presenceAt x p .steps) (r .raw .steps32) ∙ ap (33 *_) (r .count-is)
+length_its_steps : {x : Bytes} {p : Shown} → Ready x p → length (steps_bytes (presence_at x p).steps) ≡ 33 * p.count
+length_its_steps {x} {p} r = length_steps (presence_at x p).steps r.raw.steps32 ∙ ap (33 *◌) r.count_is_lem
 
-pub presence-put : {x : Bytes} {p : Shown} (at : ℕ) (r0 r1 r2 r3 r4 r5 r6 : Bytes) → Ready x p → at + (72 + 33 * p .count) ≤ length r0 →
-    r1 ≡ written at (le 4 (72 + 33 * p .count)) r0 → r2 ≡ written (at + 4) (le 2 16) r1 → r3 ≡ written (at + 6) (le 2 (p .count)) r2 →
-    r4 ≡ written (at + 8) (sha256 (presenceAt x p .key)) r3 → r5 ≡ written (at + 40) (sha256 (presenceAt x p .value)) r4 →
-    r6 ≡ written (at + 72) (stepsBytes (presenceAt x p .steps)) r5 →
-    r6 ≡ written at (presenceBytes (ownPresence sha256 (presenceAt x p))) r0
-unfolding presenceBytes
-presence-put {x} {p} at r0 r1 r2 r3 r4 r5 r6 ready room w1 w2 w3 w4 w5 w6 =
-    let a1 = length-le 4 (72 + 33 * p .count) in
-    let a2 = length-le 2 16 in
-    let a3 = length-le 2 (p .count) in
-    let a4 = digest-whole (presenceAt x p .key) .0 in
-    let a5 = digest-whole (presenceAt x p .value) .0 in
-    let a6 = length-its-steps ready in
-    six (le 4 (72 + 33 * p .count)) (le 2 16) (le 2 (p .count)) (sha256 (presenceAt x p .key)) (sha256 (presenceAt x p .value)) (stepsBytes (presenceAt x p .steps)) r0 r1 r2 r3 r4 r5 r6
+pub presence_put : {x : Bytes} {p : Shown} (at : ℕ) (r0 r1 r2 r3 r4 r5 r6 : Bytes) → Ready x p → at + (72 + 33 * p.count) ≤ length r0 →
+    r1 ≡ written at (le 4 (72 + 33 * p.count)) r0 → r2 ≡ written (at + 4) (le 2 16) r1 → r3 ≡ written (at + 6) (le 2 p.count) r2 →
+    r4 ≡ written (at + 8) (sha256 (presence_at x p).key) r3 → r5 ≡ written (at + 40) (sha256 (presence_at x p).value) r4 →
+    r6 ≡ written (at + 72) (steps_bytes (presence_at x p).steps) r5 →
+    r6 ≡ written at (presence_bytes (own_presence sha256 (presence_at x p))) r0
+unfolding presence_bytes
+presence_put {x} {p} at r0 r1 r2 r3 r4 r5 r6 ready room w1 w2 w3 w4 w5 w6 =
+    let a1 = length_le 4 (72 + 33 * p.count) in
+    let a2 = length_le 2 16 in
+    let a3 = length_le 2 p.count in
+    let a4 = (digest_whole (presence_at x p).key).0 in
+    let a5 = (digest_whole (presence_at x p).value).0 in
+    let a6 = length_its_steps ready in
+    six (le 4 (72 + 33 * p.count)) (le 2 16) (le 2 p.count) (sha256 (presence_at x p).key) (sha256 (presence_at x p).value) (steps_bytes (presence_at x p).steps) r0 r1 r2 r3 r4 r5 r6
     at (at + 4) (at + 6) (at + 8) (at + 40) (at + 72) w1 w2 w3 w4 w5 w6 (omega arith) (omega arith) (omega arith) (omega arith) (omega arith) (omega arith)
-    ∙ ap (λ n. written at (flat (le 4 (72 + 33 * n) ∷ le 2 16 ∷ le 2 n ∷ sha256 (presenceAt x p .key) ∷ sha256 (presenceAt x p .value) ∷ stepsBytes (presenceAt x p .steps) ∷ [])) r0)
-    (sym (ready .count-is))
+    ∙ ap (λ n. written at (flat (le 4 (72 + 33 * n) ∷ le 2 16 ∷ le 2 n ∷ sha256 (presence_at x p).key ∷ sha256 (presence_at x p).value ∷ steps_bytes (presence_at x p).steps ∷ [])) r0)
+    (sym ready.count_is_lem)
 
 -- a neighbour's record
-pub size-there : (p : Shown) → p .found ≡ true → sizeOf p ≡ 72 + 33 * p .count
-size-there p e = rw e
+pub size_there : (p : Shown) → p.found ≡ true → size_of p ≡ 72 + 33 * p.count
+size_there p e = rw e
 
-pub size-none : (p : Shown) → p .found ≡ false → sizeOf p ≡ 0
-size-none p e = rw e
+pub size_none : (p : Shown) → p.found ≡ false → size_of p ≡ 0
+size_none p e = rw e
 
-pub neighbour-there : (x : Bytes) (p : Shown) → p .found ≡ true → neighbourBytes (ownNeighbour sha256 (shownIn x p)) ≡ presenceBytes (ownPresence sha256 (presenceAt x p))
-neighbour-there x p e = rw e
+pub neighbour_there : (x : Bytes) (p : Shown) → p.found ≡ true → neighbour_bytes (own_neighbour sha256 (shown_in x p)) ≡ presence_bytes (own_presence sha256 (presence_at x p))
+neighbour_there x p e = rw e
 
-pub neighbour-none : (x : Bytes) (p : Shown) → p .found ≡ false → neighbourBytes (ownNeighbour sha256 (shownIn x p)) ≡ []
-neighbour-none x p e = rw e
+pub neighbour_none : (x : Bytes) (p : Shown) → p.found ≡ false → neighbour_bytes (own_neighbour sha256 (shown_in x p)) ≡ []
+neighbour_none x p e = rw e
 
-pub length-own : {x : Bytes} {p : Shown} → Ready x p → length (presenceBytes (ownPresence sha256 (presenceAt x p))) ≡ 72 + 33 * p .count
-length-own {x} {p} r = length-presence (ownPresence sha256 (presenceAt x p)) (own-form sha256 digest-whole (presence (presenceAt x p)) (r .raw)) ∙ ap (λ n. 72 + 33 * n) (r .count-is)
+pub length_own : {x : Bytes} {p : Shown} → Ready x p → length (presence_bytes (own_presence sha256 (presence_at x p))) ≡ 72 + 33 * p.count
+length_own {x} {p} r = length_presence (own_presence sha256 (presence_at x p)) (own_form sha256 digest_whole (presence (presence_at x p)) r.raw) ∙ ap (λ n. 72 + 33 * n) r.count_is_lem
 
-pub length-neighbour : {x : Bytes} {p : Shown} → ReadyOr x p → length (neighbourBytes (ownNeighbour sha256 (shownIn x p))) ≡ sizeOf p
-length-neighbour {x} {p} r = go (p .found) refl
+pub length_neighbour : {x : Bytes} {p : Shown} → ReadyOr x p → length (neighbour_bytes (own_neighbour sha256 (shown_in x p))) ≡ size_of p
+length_neighbour {x} {p} r = go p.found refl
   where
-    go : (b : Bool) → p .found ≡ b → length (neighbourBytes (ownNeighbour sha256 (shownIn x p))) ≡ sizeOf p
-    go true e = ap length (neighbour-there x p e) ∙ length-own (r .there e) ∙ sym (size-there p e)
-    go false e = ap length (neighbour-none x p e) ∙ sym (size-none p e)
+    go : (b : Bool) → p.found ≡ b → length (neighbour_bytes (own_neighbour sha256 (shown_in x p))) ≡ size_of p
+    go true e = ap length (neighbour_there x p e) ∙ length_own (r.there e) ∙ sym (size_there p e)
+    go false e = ap length (neighbour_none x p e) ∙ sym (size_none p e)
 
 -- the flags
-flags-are : (x y : Bytes) (l r : Shown) → flagsOf (ownNeighbour sha256 (shownIn x l)) (ownNeighbour sha256 (shownIn y r)) ≡ flagOf l 1 + flagOf r 2
-flags-are x y l r = go (l .found) (r .found)
+flags_are : (x y : Bytes) (l r : Shown) → flags_of (own_neighbour sha256 (shown_in x l)) (own_neighbour sha256 (shown_in y r)) ≡ flag_of l 1 + flag_of r 2
+flags_are x y l r = go l.found r.found
   where
     go : (b c : Bool) →
-        flagsOf (ownNeighbour sha256 (cond b (some (presenceAt x l)) none)) (ownNeighbour sha256 (cond c (some (presenceAt y r)) none)) ≡ cond b 1 0 + cond c 2 0
+        flags_of (own_neighbour sha256 (cond b (some (presence_at x l)) none)) (own_neighbour sha256 (cond c (some (presence_at y r)) none)) ≡ cond b 1 0 + cond c 2 0
     go false false = refl
     go false true = refl
     go true false = refl
     go true true = refl
 
-pub few-flags : (p : Shown) (n : ℕ) → flagOf p n ≤ n
-few-flags p n = go (p .found)
+pub few_flags : (p : Shown) (n : ℕ) → flag_of p n ≤ n
+few_flags p n = go p.found
   where
     go : (b : Bool) → cond b n 0 ≤ n
     go false = omega arith
     go true = omega arith
 
-pub few-bytes : {x : Bytes} {p : Shown} → ReadyOr x p → sizeOf p ≤ 8520
-few-bytes {x} {p} r = let f = r .few in go (p .found)
+pub few_bytes : {x : Bytes} {p : Shown} → ReadyOr x p → size_of p ≤ 8520
+few_bytes {x} {p} r = let f = r.few in go p.found
   where
-    go : (b : Bool) → cond b (72 + 33 * p .count) 0 ≤ 8520
+    go : (b : Bool) → cond b (72 + 33 * p.count) 0 ≤ 8520
     go false = omega arith
-    go true = omega (arith, r .few)
+    go true = omega (arith, r.few)
 
-pub absence-put : {x : Bytes} {a : Absent} (size flags after : ℕ) (r0 r1 r2 r3 r4 r5 r6 : Bytes) → AbsentReady x a → size ≡ absentSize a → flags ≡ flagOf (a .left) 1 + flagOf (a .right) 2 →
-    after ≡ 40 + sizeOf (a .left) → size ≤ length r0 →
-    r1 ≡ written 0 (le 4 size) r0 → r2 ≡ written 4 (le 2 17) r1 → r3 ≡ written 6 (le 2 flags) r2 → r4 ≡ written 8 (sha256 (absentAt x a .key)) r3 →
-    r5 ≡ written 40 (neighbourBytes (ownNeighbour sha256 (shownIn (take (a .middle) x) (a .left)))) r4 →
-    r6 ≡ written after (neighbourBytes (ownNeighbour sha256 (shownIn x (a .right)))) r5 →
-    r6 ≡ written 0 (absenceBytes (ownAbsence (absentAt x a))) r0
-unfolding absenceBytes absentSize
-absence-put {x} {a} size flags after r0 r1 r2 r3 r4 r5 r6 ready s g t room w1 w2 w3 w4 w5 w6 =
-    let L = neighbourBytes (ownNeighbour sha256 (shownIn (take (a .middle) x) (a .left))) in
-    let R = neighbourBytes (ownNeighbour sha256 (shownIn x (a .right))) in
-    let a1 = length-le 4 size in
-    let a2 = length-le 2 17 in
-    let a3 = length-le 2 flags in
-    let a4 = digest-whole (absentAt x a .key) .0 in
-    let l = length-neighbour (ready .left-ready) in
-    let r = length-neighbour (ready .right-ready) in
+pub absence_put : {x : Bytes} {a : Absent} (size flags after : ℕ) (r0 r1 r2 r3 r4 r5 r6 : Bytes) → AbsentReady x a → size ≡ absent_size a → flags ≡ flag_of a.left 1 + flag_of a.right 2 →
+    after ≡ 40 + size_of a.left → size ≤ length r0 →
+    r1 ≡ written 0 (le 4 size) r0 → r2 ≡ written 4 (le 2 17) r1 → r3 ≡ written 6 (le 2 flags) r2 → r4 ≡ written 8 (sha256 (absent_at x a).key) r3 →
+    r5 ≡ written 40 (neighbour_bytes (own_neighbour sha256 (shown_in (take a.middle x) a.left))) r4 →
+    r6 ≡ written after (neighbour_bytes (own_neighbour sha256 (shown_in x a.right))) r5 →
+    r6 ≡ written 0 (absence_bytes (own_absence (absent_at x a))) r0
+unfolding absence_bytes absent_size
+absence_put {x} {a} size flags after r0 r1 r2 r3 r4 r5 r6 ready s g t room w1 w2 w3 w4 w5 w6 =
+    let L = neighbour_bytes (own_neighbour sha256 (shown_in (take a.middle x) a.left)) in
+    let R = neighbour_bytes (own_neighbour sha256 (shown_in x a.right)) in
+    let a1 = length_le 4 size in
+    let a2 = length_le 2 17 in
+    let a3 = length_le 2 flags in
+    let a4 = (digest_whole (absent_at x a).key).0 in
+    let l = length_neighbour ready.left_ready in
+    let r = length_neighbour ready.right_ready in
     let total : size ≡ 40 + length L + length R = s ∙ ap₂ (λ u v. 40 + u + v) (sym l) (sym r) in
-    six (le 4 size) (le 2 17) (le 2 flags) (sha256 (absentAt x a .key)) L R r0 r1 r2 r3 r4 r5 r6 0 4 6 8 40 after w1 w2 w3 w4 w5 w6 (omega arith) (omega arith) (omega arith)
+    six (le 4 size) (le 2 17) (le 2 flags) (sha256 (absent_at x a).key) L R r0 r1 r2 r3 r4 r5 r6 0 4 6 8 40 after w1 w2 w3 w4 w5 w6 (omega arith) (omega arith) (omega arith)
     (omega arith) (omega arith) (omega arith)
-    ∙ ap₂ (λ u v. written 0 (flat (le 4 u ∷ le 2 17 ∷ le 2 v ∷ sha256 (absentAt x a .key) ∷ L ∷ R ∷ [])) r0) total
-    (g ∙ sym (flags-are (take (a .middle) x) x (a .left) (a .right)))
+    ∙ ap₂ (λ u v. written 0 (flat (le 4 u ∷ le 2 17 ∷ le 2 v ∷ sha256 (absent_at x a).key ∷ L ∷ R ∷ [])) r0) total
+    (g ∙ sym (flags_are (take a.middle x) x a.left a.right))
 
 -- what is held can be written
-pub held-ready : {n : ℕ} {x : Bytes} {at : ℕ} {p : Shown} → Held n x at p → Ready x p
-held-ready h = record {
-  key-in = (h .inside .key-inside .1, h .inside .key-inside .2);
-  value-in = (h .inside .value-inside .1, h .inside .value-inside .2);
-  path-in = h .inside .path-inside .1;
-  raw = h .raw;
-  count-is = h .count-is;
+pub held_ready : {n : ℕ} {x : Bytes} {at : ℕ} {p : Shown} → Held n x at p → Ready x p
+held_ready h = record {
+  key_in_lem = (h.inside.key_inside.1, h.inside.key_inside.2);
+  value_in = (h.inside.value_inside.1, h.inside.value_inside.2);
+  path_in_lem = h.inside.path_inside.1;
+  raw = h.raw;
+  count_is_lem = h.count_is_lem;
 }
 
-pub length-absent : {x : Bytes} {a : Absent} → AbsentReady x a → length (absenceBytes (ownAbsence (absentAt x a))) ≡ absentSize a
-unfolding absenceBytes absentSize
-length-absent {x} {a} ready =
-    let L = neighbourBytes (ownNeighbour sha256 (shownIn (take (a .middle) x) (a .left))) in
-    let R = neighbourBytes (ownNeighbour sha256 (shownIn x (a .right))) in
+pub length_absent : {x : Bytes} {a : Absent} → AbsentReady x a → length (absence_bytes (own_absence (absent_at x a))) ≡ absent_size a
+unfolding absence_bytes absent_size
+length_absent {x} {a} ready =
+    let L = neighbour_bytes (own_neighbour sha256 (shown_in (take a.middle x) a.left)) in
+    let R = neighbour_bytes (own_neighbour sha256 (shown_in x a.right)) in
     let n = 40 + length L + length R in
-    let f = flagsOf (ownNeighbour sha256 (shownIn (take (a .middle) x) (a .left))) (ownNeighbour sha256 (shownIn x (a .right))) in
+    let f = flags_of (own_neighbour sha256 (shown_in (take a.middle x) a.left)) (own_neighbour sha256 (shown_in x a.right)) in
     simp length-append
     (omega (
       arith,
-      length-le 4 n,
-      length-le 2 17,
-      length-le 2 f,
-      digest-whole (absentAt x a .key) .0,
-      length-neighbour (ready .left-ready),
-      length-neighbour (ready .right-ready),
+      length_le 4 n,
+      length_le 2 17,
+      length_le 2 f,
+      (digest_whole (absent_at x a).key).0,
+      length_neighbour ready.left_ready,
+      length_neighbour ready.right_ready,
     ))
 
-pub few-size : (p : Shown) → p .count ≤ 256 → sizeOf p ≤ 8520
-few-size p h = go (p .found)
+pub few_size : (p : Shown) → p.count ≤ 256 → size_of p ≤ 8520
+few_size p h = go p.found
   where
-    go : (b : Bool) → cond b (72 + 33 * p .count) 0 ≤ 8520
+    go : (b : Bool) → cond b (72 + 33 * p.count) 0 ≤ 8520
     go false = omega arith
     go true = omega arith
 
-pub size-is : (a : Absent) → absentSize a ≡ 40 + sizeOf (a .left) + sizeOf (a .right)
-unfolding absentSize
-size-is a = refl
+pub size_is : (a : Absent) → absent_size a ≡ 40 + size_of a.left + size_of a.right
+unfolding absent_size
+size_is a = refl

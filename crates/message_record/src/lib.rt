@@ -1,34 +1,27 @@
 // Our own record of what a message says, written from the message, document 02, request 2026-02: keys and values are hashed by SHA-256.
-ghost use mathlib.Core.Path.{_≡_};
-ghost use mathlib.Core.Bool.{cond};
-ghost use Prim.Native.Nat.{_+_, _*_, _≤_};
-ghost use lib.ListN.{length};
-ghost use lib.Dec.{eqb};
-ghost use Rattle·fields.specs.Written.{written};
-ghost use Rattle·sha256.specs.Sha256.{sha256};
-ghost use Rattle·proofrecords.specs.ProofBytes.{stepsBytes, presenceBytes, neighbourBytes, absenceBytes};
-ghost use Rattle·messages.specs.Message.{ownPresence};
-ghost use Rattle·messages.specs.Raws.{ownNeighbour};
-ghost use Rattle·message_leaf.specs.Shown.{stepsFrom, presenceAt};
-ghost use Rattle·message_form.specs.Said.{shownIn, absentAt};
-ghost use Rattle·message_record·specs.specs.Ready.{OneStep, StepPut, Ready, ReadyOr, AbsentReady, sizeOf, flagOf, absentSize, ownAbsence};
+#![tactic(auto)]
+
+ghost use Rattle.std.specs.Prelude.{◌≡◌, cond, ◌+◌, ◌*◌, ◌≤◌, length, eqb};
+ghost use Rattle.fields.specs.Written.{written};
+ghost use Rattle.sha256.specs.Sha256.{sha256};
+ghost use Rattle.proofrecords.specs.ProofBytes.{steps_bytes, presence_bytes, neighbour_bytes, absence_bytes};
+ghost use Rattle.messages.specs.Message.{own_presence};
+ghost use Rattle.messages.specs.Raws.{own_neighbour};
+ghost use Rattle.message_leaf.specs.Shown.{steps_from, presence_at};
+ghost use Rattle.message_form.specs.Said.{shown_in, absent_at};
+ghost use Rattle.message_record.specs.Ready.{OneStep, StepPut, Ready, ReadyOr, AbsentReady, size_of, flag_of, absent_size, own_absence};
+
 use digest::digest;
-use fields::copy;
-use fields::put_u16;
-use fields::put_u32;
+use fields::{copy, put_u16, put_u32};
 use hash::put_hash;
 use message_fields::field;
 use message_form::Absent;
 use message_leaf::Shown;
-use proofrecords::ABSENCE_HEAD;
-use proofrecords::ABSENCE_KIND;
-use proofrecords::PRESENCE_HEAD;
-use proofrecords::PRESENCE_KIND;
-use proofrecords::STEP_SIZE;
+use proofrecords::{ABSENCE_HEAD, ABSENCE_KIND, PRESENCE_HEAD, PRESENCE_KIND, STEP_SIZE};
 
 // The side that an inner op says, by its length.
 fn side(n: usize) -> u8
-    ensures { λ r. ⌜ r ≡ cond (eqb n 39) 0 1 ⌝ }
+    ensures { result ≡ cond (eqb n 39) 0 1 }
 {
     if n == 39 {
         return 0;
@@ -38,8 +31,8 @@ fn side(n: usize) -> u8
 
 // Writes the step of an inner op: its side, and the sibling, which are its last 32 bytes.
 fn put_step(room: &mut [u8], at: usize, op: &[u8])
-    requires { ⌜ OneStep (now op) × (at + 33 ≤ length (now room)) ⌝ }
-    ensures { λ _. ⌜ StepPut (now (op .entry)) at (now (room .entry)) (now (room .exit)) ⌝ }
+    requires { OneStep op.now × (at + 33 ≤ length room.old) }
+    ensures { StepPut op.now at room.old room.new }
 {
     let n = op.len();
     let from = n - 32;
@@ -51,8 +44,8 @@ fn put_step(room: &mut [u8], at: usize, op: &[u8])
 
 // Writes the steps of a path of that many.
 fn put_steps(room: &mut [u8], at: usize, x: &[u8], path: usize, count: usize)
-    requires { ⌜ (path ≤ length (now x)) × (length (stepsFrom path (now x)) ≡ count) × (at + 33 * count ≤ length (now room)) ⌝ }
-    ensures { λ _. ⌜ now (room .exit) ≡ written at (stepsBytes (stepsFrom path (now (x .entry)))) (now (room .entry)) ⌝ }
+    requires { (path ≤ length x.now) × (length (steps_from path x.now) ≡ count) × (at + 33 * count ≤ length room.old) }
+    ensures { room.new ≡ written at (steps_bytes (steps_from path x.now)) room.old }
 {
     let mut from = path;
     let mut to = at;
@@ -70,8 +63,8 @@ fn put_steps(room: &mut [u8], at: usize, x: &[u8], path: usize, count: usize)
 
 // Writes the SHA-256 of bytes.
 fn put_digest(room: &mut [u8], at: usize, x: &[u8])
-    requires { ⌜ at + 32 ≤ length (now room) ⌝ }
-    ensures { λ _. ⌜ now (room .exit) ≡ written at (sha256 (now (x .entry))) (now (room .entry)) ⌝ }
+    requires { at + 32 ≤ length room.old }
+    ensures { room.new ≡ written at (sha256 x.now) room.old }
 {
     let end = at + 32;
     let h = digest(x);
@@ -80,16 +73,16 @@ fn put_digest(room: &mut [u8], at: usize, x: &[u8])
 
 // How many bytes our record of an existence proof has.
 pub fn presence_size(p: Shown) -> usize
-    requires { ⌜ p .count ≤ 256 ⌝ }
-    ensures { λ r. ⌜ r ≡ 72 + 33 * p .count ⌝ }
+    requires { p.count ≤ 256 }
+    ensures { result ≡ 72 + 33 * p.count }
 {
     PRESENCE_HEAD + STEP_SIZE * p.count
 }
 
 // Writes our record of an existence proof.
 pub fn put_presence(room: &mut [u8], at: usize, x: &[u8], p: Shown)
-    requires { ⌜ Ready (now x) p × (at + (72 + 33 * p .count) ≤ length (now room)) ⌝ }
-    ensures { λ _. ⌜ now (room .exit) ≡ written at (presenceBytes (ownPresence sha256 (presenceAt (now (x .entry)) p))) (now (room .entry)) ⌝ }
+    requires { Ready x.now p × (at + (72 + 33 * p.count) ≤ length room.old) }
+    ensures { room.new ≡ written at (presence_bytes (own_presence sha256 (presence_at x.now p))) room.old }
 {
     let key = p.key;
     let key_end = p.kstop;
@@ -106,8 +99,8 @@ pub fn put_presence(room: &mut [u8], at: usize, x: &[u8], p: Shown)
 
 // How many bytes our record of a neighbour has, 0 where there is nobody.
 fn neighbour_size(p: Shown) -> usize
-    requires { ⌜ p .count ≤ 256 ⌝ }
-    ensures { λ r. ⌜ r ≡ sizeOf p ⌝ }
+    requires { p.count ≤ 256 }
+    ensures { result ≡ size_of p }
 {
     if p.found {
         return presence_size(p);
@@ -117,8 +110,8 @@ fn neighbour_size(p: Shown) -> usize
 
 // Writes our record of a neighbour, where there is somebody.
 fn put_neighbour(room: &mut [u8], at: usize, x: &[u8], p: Shown)
-    requires { ⌜ ReadyOr (now x) p × (at + sizeOf p ≤ length (now room)) ⌝ }
-    ensures { λ _. ⌜ now (room .exit) ≡ written at (neighbourBytes (ownNeighbour sha256 (shownIn (now (x .entry)) p))) (now (room .entry)) ⌝ }
+    requires { ReadyOr x.now p × (at + size_of p ≤ length room.old) }
+    ensures { room.new ≡ written at (neighbour_bytes (own_neighbour sha256 (shown_in x.now p))) room.old }
 {
     if !p.found {
         return;
@@ -127,7 +120,7 @@ fn put_neighbour(room: &mut [u8], at: usize, x: &[u8], p: Shown)
 }
 
 fn flag(p: Shown, bit: u16) -> u16
-    ensures { λ r. ⌜ r ≡ flagOf p bit ⌝ }
+    ensures { result ≡ flag_of p bit }
 {
     if p.found {
         return bit;
@@ -137,8 +130,8 @@ fn flag(p: Shown, bit: u16) -> u16
 
 // How many bytes our record of a non-existence proof has.
 pub fn absence_size(a: Absent) -> usize
-    requires { ⌜ (a .left .count ≤ 256) × (a .right .count ≤ 256) ⌝ }
-    ensures { λ r. ⌜ r ≡ absentSize a ⌝ }
+    requires { (a.left.count ≤ 256) × (a.right.count ≤ 256) }
+    ensures { result ≡ absent_size a }
 {
     let left = a.left;
     let right = a.right;
@@ -147,8 +140,8 @@ pub fn absence_size(a: Absent) -> usize
 
 // Writes our record of a non-existence proof.
 pub fn put_absence(room: &mut [u8], x: &[u8], a: Absent)
-    requires { ⌜ AbsentReady (now x) a × (absentSize a ≤ length (now room)) ⌝ }
-    ensures { λ _. ⌜ now (room .exit) ≡ written 0 (absenceBytes (ownAbsence (absentAt (now (x .entry)) a))) (now (room .entry)) ⌝ }
+    requires { AbsentReady x.now a × (absent_size a ≤ length room.old) }
+    ensures { room.new ≡ written 0 (absence_bytes (own_absence (absent_at x.now a))) room.old }
 {
     let key = a.key;
     let key_end = a.kstop;

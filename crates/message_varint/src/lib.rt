@@ -1,11 +1,11 @@
 // A varint where it stands in the bytes of a message, document 02, request 2026-02. Any bytes may be handed in.
-ghost use mathlib.Core.Path.{_≡_};
-ghost use Prim.Native.Nat.{_<_, _≤_};
-ghost use lib.ListN.{length};
-ghost use mathlib.Core.Bool.{false};
-ghost use Rattle·message_varint·specs.specs.Numbers.{Reads, Joins};
+#![tactic(auto)]
+
+ghost use Rattle.std.specs.Prelude.{◌≡◌, ◌<◌, ◌≤◌, length, false};
+ghost use Rattle.message_varint.specs.Numbers.{Reads, Joins};
 
 // A varint that was read: its number, and where the bytes after it begin.
+#[derive(Clone, Copy)]
 pub struct Number {
     pub found: bool,
     pub value: usize,
@@ -13,13 +13,13 @@ pub struct Number {
 }
 
 fn wide(x: u8) -> usize
-    ensures { λ r. ⌜ (r ≡ x) × (r < 256) ⌝ }
+    ensures { (result ≡ x) × (result < 256) }
 {
     x as usize
 }
 
 fn no_number() -> Number
-    ensures { λ r. ⌜ (r .found ≡ false) × (r .value ≡ 0) ⌝ }
+    ensures { (result.found ≡ false) × (result.value ≡ 0) }
 {
     Number {
         found: false,
@@ -30,8 +30,8 @@ fn no_number() -> Number
 
 // Seven bits more below a number that follows.
 fn joined(low: usize, more: Number) -> Number
-    requires { ⌜ (low < 128) × (more .value < 16384) ⌝ }
-    ensures { λ r. ⌜ Joins low more r ⌝ }
+    requires { (low < 128) × (more.value < 16384) }
+    ensures { Joins low more result }
 {
     if !more.found {
         return no_number();
@@ -48,8 +48,8 @@ fn joined(low: usize, more: Number) -> Number
 
 // A varint of one byte.
 fn one_byte(m: &[u8], at: usize) -> Number
-    requires { ⌜ at ≤ length (now m) ⌝ }
-    ensures { λ r. ⌜ Reads 0 (now (m .entry)) at r ⌝ }
+    requires { at ≤ length m.now }
+    ensures { Reads 0 m.now at result }
 {
     if m.len() <= at {
         return no_number();
@@ -67,8 +67,8 @@ fn one_byte(m: &[u8], at: usize) -> Number
 
 // A varint of at most two bytes.
 fn two_bytes(m: &[u8], at: usize) -> Number
-    requires { ⌜ at ≤ length (now m) ⌝ }
-    ensures { λ r. ⌜ Reads 1 (now (m .entry)) at r ⌝ }
+    requires { at ≤ length m.now }
+    ensures { Reads 1 m.now at result }
 {
     if m.len() <= at {
         return no_number();
@@ -87,8 +87,8 @@ fn two_bytes(m: &[u8], at: usize) -> Number
 
 // A varint of at most three bytes: no length in a message takes more.
 pub fn varint(m: &[u8], at: usize) -> Number
-    requires { ⌜ at ≤ length (now m) ⌝ }
-    ensures { λ r. ⌜ Reads 2 (now (m .entry)) at r ⌝ }
+    requires { at ≤ length m.now }
+    ensures { Reads 2 m.now at result }
 {
     if m.len() <= at {
         return no_number();

@@ -1,33 +1,31 @@
 -- What the code answers when it writes a message, beside `messages/Lending`. No public promise reaches this file.
 -- Assumes nothing.
-use Prim.Native.Nat.{ℕ, _≤_}
-use mathlib.Core.Path.{_≡_}
-use mathlib.Core.Option.{Option}
-use lib.ListN.{length}
-use Rattle·terms.specs.Bits.{Bytes}
-use Rattle·terms.specs.Records.{Presence, Proof, absence}
-use Rattle·meaning.specs.Calls.{Answer, refused, accepted}
-use Rattle·meaning.specs.Answers.{roomAfter}
-use Rattle·meaning.specs.Sized.{sized}
-use Rattle·sha256.specs.Sha256.{sha256}
-use Rattle·messages.specs.Message.{messageBytes}
-use Rattle·messages.specs.Lending.{Leaf, Lent, rawNeighbour, fitted}
-use Rattle·message_lent.specs.Lent.{InForm}
-use Rattle·message_put.specs.Inner.{Lendable}
-use Rattle·message_write·specs.specs.declared.Wrote.{Wrote}
-use Rattle·message_write·specs.specs.declared.Wrote.the-variants.{Refused, Length}
+use Rattle.std.specs.Prelude.{ℕ, ◌≤◌, ◌≡◌, length}
+use Rattle.std.proofs.Math.Option.{Option}
+use Rattle.terms.specs.Bits.{Bytes}
+use Rattle.terms.specs.Records.{Presence, Proof, absence}
+use Rattle.meaning.specs.Calls.{Answer, refused, accepted}
+use Rattle.meaning.specs.Answers.{room_after}
+use Rattle.meaning.specs.Sized.{sized}
+use Rattle.sha256.specs.Sha256.{sha256}
+use Rattle.messages.specs.Message.{message_bytes}
+use Rattle.messages.specs.Lending.{Leaf, Lent, raw_neighbour, fitted}
+use Rattle.message_lent.specs.Lent.{InForm}
+use Rattle.message_put.specs.Inner.{Lendable}
+use Rattle.message_write.specs.declared.Wrote.{Wrote}
+use Rattle.message_write.specs.declared.Wrote.TheVariants.{Refused, Length}
 
 abbrev pub lent : Bytes → Leaf → Leaf → Lent
 lent asked first second = record { asked = asked; first = first; second = second }
 
 -- The message of a proof, if it fits the room.
-abbrev pub fittedIn : Proof → Bytes → Answer Bytes
-fittedIn q room = fitted sha256 (length room) (messageBytes q) (messageBytes q)
+abbrev pub fitted_in : Proof → Bytes → Answer Bytes
+fitted_in q room = fitted sha256 (length room) (message_bytes q) (message_bytes q)
 
 -- An absence with raw neighbours.
 abbrev pub besides : Bytes → Leaf → Option Presence → Leaf → Option Presence → Proof
 besides asked left l right r =
-    absence (record { key = asked; leftward = rawNeighbour left l; rightward = rawNeighbour right r })
+    absence (record { key = asked; leftward = raw_neighbour left l; rightward = raw_neighbour right r })
 
 abbrev pub AskedRaw : Bytes → Type 0
 AskedRaw asked = (1 ≤ length asked) × (length asked ≤ 256)
@@ -41,9 +39,9 @@ abbrev pub says : Wrote → Answer ℕ
 says (Refused n) = refused n
 says (Length n) = accepted n
 
-abbrev pub lengthOf : Answer Bytes → Answer ℕ
-lengthOf a = sized length a
+abbrev pub length_of : Answer Bytes → Answer ℕ
+length_of a = sized length a
 
 pub record Writes (a : Answer Bytes) (room : Bytes) (r : Wrote) (t : Bytes) : Type 0 where
-  pub answer : says r ≡ lengthOf a
-  pub bytes : t ≡ roomAfter (λ m. m) a room
+  pub answer : says r ≡ length_of a
+  pub bytes : t ≡ room_after (λ m. m) a room

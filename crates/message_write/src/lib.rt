@@ -1,44 +1,32 @@
 // Writing a message, document 02, request 2026-02: our own record with the raw keys and values lent, as the message of ICS 23. Order: 10, 15, 9.
-ghost use mathlib.Core.Path.{_≡_};
-ghost use mathlib.Core.Bool.{true, cond, _&&_};
-ghost use mathlib.Core.Option.{some};
-ghost use Prim.Native.Nat.{_≤_};
-ghost use lib.ListN.{length};
-ghost use Rattle·terms.specs.Bits.{Bytes};
-ghost use Rattle·terms.specs.Fields.{slice};
-ghost use Rattle·terms.specs.Records.{presence, absence};
-ghost use Rattle·meaning.specs.Calls.{refused};
-ghost use Rattle·sha256.specs.Sha256.{sha256};
-ghost use Rattle·proofrecords.specs.ProofBytes.{flags, isPresence, presenceIn, isAbsence, absenceIn, proofIn};
-ghost use Rattle·messages.specs.Message.{messageBytes};
-ghost use Rattle·messages.specs.Lending.{hashesTo, rawPresence, writtenFrom};
-ghost use Rattle·message_lent.specs.Lent.{leaf, recordIn, InForm, neighbourFits};
-ghost use Rattle·message_put.specs.Inner.{Lendable};
-ghost use Rattle·message_write·specs.specs.Wrote.{lent, fittedIn, besides, AskedRaw, LendableOr, Writes};
-use fields::get_u16;
-use fields::get_u32;
-use message_lent::MOST_KEY;
-use message_lent::existence_size;
-use message_lent::field_size;
-use message_lent::hashes_to;
-use message_lent::leaf_fits;
-use message_lent::neighbour_fits;
-use message_lent::neighbour_size;
-use message_lent::unlent;
-use message_put::put_existence;
-use message_put::put_field;
-use message_put::put_head;
-use message_put::put_neighbour;
-use proofrecords::ABSENCE_HEAD;
-use proofrecords::FLAGS_AT;
-use proofrecords::KEY_AT;
-use refusal_numbers::NO_ROOM;
-use refusal_numbers::NOT_IN_FORM;
-use refusal_numbers::NOT_RAW;
-use verify_form::is_absence;
-use verify_form::is_presence;
+#![tactic(auto)]
+
+ghost use Rattle.std.specs.Prelude.{◌≡◌, true, cond, ◌&&◌, ◌≤◌, length};
+ghost use Rattle.std.proofs.Math.Option.{some};
+ghost use Rattle.terms.specs.Bits.{Bytes};
+ghost use Rattle.terms.specs.Fields.{slice};
+ghost use Rattle.terms.specs.Records.{presence, absence};
+ghost use Rattle.meaning.specs.Calls.{refused};
+ghost use Rattle.sha256.specs.Sha256.{sha256};
+ghost use Rattle.proofrecords.specs.ProofBytes.{flags, is_presence, presence_in, is_absence, absence_in, proof_in};
+ghost use Rattle.messages.specs.Message.{message_bytes};
+ghost use Rattle.messages.specs.Lending.{hashes_to, raw_presence, written_from};
+ghost use Rattle.message_lent.specs.Lent.{leaf, record_in, InForm, neighbour_fits};
+ghost use Rattle.message_put.specs.Inner.{Lendable};
+ghost use Rattle.message_write.specs.Wrote.{lent, fitted_in, besides, AskedRaw, LendableOr, Writes};
+
+use fields::{get_u16, get_u32};
+use message_lent::{
+    MOST_KEY, existence_size, field_size, hashes_to, leaf_fits, neighbour_fits, neighbour_size,
+    unlent,
+};
+use message_put::{put_existence, put_field, put_head, put_neighbour};
+use proofrecords::{ABSENCE_HEAD, FLAGS_AT, KEY_AT};
+use refusal_numbers::{NO_ROOM, NOT_IN_FORM, NOT_RAW};
+use verify_form::{is_absence, is_presence};
 
 // The answer: a number of refusal, or the message's length.
+#[derive(Clone, Copy)]
 pub enum Wrote {
     Refused(u32),
     Length(u32),
@@ -46,8 +34,8 @@ pub enum Wrote {
 
 // Writes the message of a presence, if it fits the room.
 fn write_exist(p: &[u8], key: &[u8], value: &[u8], room: &mut [u8]) -> Wrote
-    requires { ⌜ (isPresence (now p) ≡ true) × Lendable (now key) (now value) ⌝ }
-    ensures { λ r. ⌜ Writes (fittedIn (presence (rawPresence (leaf (now (key .entry)) (now (value .entry))) (presenceIn (now (p .entry))))) (now (room .entry))) (now (room .entry)) r (now (room .exit)) ⌝ }
+    requires { (is_presence p.now ≡ true) × Lendable key.now value.now }
+    ensures { Writes (fitted_in (presence (raw_presence (leaf key.now value.now) (presence_in p.now))) room.old) room.old result room.new }
 {
     let size = existence_size(key.len(), value.len(), p);
     let total = field_size(size);
@@ -68,8 +56,8 @@ fn write_presence(
     value2: &[u8],
     room: &mut [u8],
 ) -> Wrote
-    requires { ⌜ isPresence (now p) ≡ true ⌝ }
-    ensures { λ r. ⌜ Writes (writtenFrom sha256 (some (presence (presenceIn (now (p .entry))))) (lent (now (asked .entry)) (leaf (now (key1 .entry)) (now (value1 .entry))) (leaf (now (key2 .entry)) (now (value2 .entry)))) (length (now (room .entry)))) (now (room .entry)) r (now (room .exit)) ⌝ }
+    requires { is_presence p.now ≡ true }
+    ensures { Writes (written_from sha256 (some (presence (presence_in p.now))) (lent asked.now (leaf key1.now value1.now) (leaf key2.now value2.now)) (length room.old)) room.old result room.new }
 {
     if !hashes_to(asked, MOST_KEY, p, KEY_AT) {
         return Wrote::Refused(NOT_RAW);
@@ -94,8 +82,8 @@ fn write_nonexist(
     rvalue: &[u8],
     room: &mut [u8],
 ) -> Wrote
-    requires { ⌜ AskedRaw (now asked) × (LendableOr (now left) (now lkey) (now lvalue) × LendableOr (now right) (now rkey) (now rvalue)) ⌝ }
-    ensures { λ r. ⌜ Writes (fittedIn (besides (now (asked .entry)) (leaf (now (lkey .entry)) (now (lvalue .entry))) (recordIn (now (left .entry))) (leaf (now (rkey .entry)) (now (rvalue .entry))) (recordIn (now (right .entry)))) (now (room .entry))) (now (room .entry)) r (now (room .exit)) ⌝ }
+    requires { AskedRaw asked.now × (LendableOr left.now lkey.now lvalue.now × LendableOr right.now rkey.now rvalue.now) }
+    ensures { Writes (fitted_in (besides asked.now (leaf lkey.now lvalue.now) (record_in left.now) (leaf rkey.now rvalue.now) (record_in right.now)) room.old) room.old result room.new }
 {
     let size = field_size(asked.len())
         + neighbour_size(lkey.len(), lvalue.len(), left)
@@ -122,8 +110,8 @@ fn write_neighbours(
     rvalue: &[u8],
     room: &mut [u8],
 ) -> Wrote
-    requires { ⌜ AskedRaw (now asked) × (InForm (now left) × InForm (now right)) ⌝ }
-    ensures { λ r. ⌜ Writes (cond (neighbourFits (leaf (now (lkey .entry)) (now (lvalue .entry))) (recordIn (now (left .entry))) && neighbourFits (leaf (now (rkey .entry)) (now (rvalue .entry))) (recordIn (now (right .entry)))) (fittedIn (besides (now (asked .entry)) (leaf (now (lkey .entry)) (now (lvalue .entry))) (recordIn (now (left .entry))) (leaf (now (rkey .entry)) (now (rvalue .entry))) (recordIn (now (right .entry)))) (now (room .entry))) (refused 15)) (now (room .entry)) r (now (room .exit)) ⌝ }
+    requires { AskedRaw asked.now × (InForm left.now × InForm right.now) }
+    ensures { Writes (cond (neighbour_fits (leaf lkey.now lvalue.now) (record_in left.now) && neighbour_fits (leaf rkey.now rvalue.now) (record_in right.now)) (fitted_in (besides asked.now (leaf lkey.now lvalue.now) (record_in left.now) (leaf rkey.now rvalue.now) (record_in right.now)) room.old) (refused 15)) room.old result room.new }
 {
     if !neighbour_fits(lkey, lvalue, left) {
         return Wrote::Refused(NOT_RAW);
@@ -144,8 +132,8 @@ fn write_one(
     value2: &[u8],
     room: &mut [u8],
 ) -> Wrote
-    requires { ⌜ ((isAbsence (now p) ≡ true) × (flags (now p) ≤ 2)) × (hashesTo sha256 256 (now asked) (slice 8 32 (now p)) ≡ true) ⌝ }
-    ensures { λ r. ⌜ Writes (writtenFrom sha256 (some (absence (absenceIn (now (p .entry))))) (lent (now (asked .entry)) (leaf (now (key1 .entry)) (now (value1 .entry))) (leaf (now (key2 .entry)) (now (value2 .entry)))) (length (now (room .entry)))) (now (room .entry)) r (now (room .exit)) ⌝ }
+    requires { ((is_absence p.now ≡ true) × (flags p.now ≤ 2)) × (hashes_to sha256 256 asked.now (slice 8 32 p.now) ≡ true) }
+    ensures { Writes (written_from sha256 (some (absence (absence_in p.now))) (lent asked.now (leaf key1.now value1.now) (leaf key2.now value2.now)) (length room.old)) room.old result room.new }
 {
     if !unlent(key2, value2) {
         return Wrote::Refused(NOT_RAW);
@@ -184,8 +172,8 @@ fn write_absence(
     value2: &[u8],
     room: &mut [u8],
 ) -> Wrote
-    requires { ⌜ isAbsence (now p) ≡ true ⌝ }
-    ensures { λ r. ⌜ Writes (writtenFrom sha256 (some (absence (absenceIn (now (p .entry))))) (lent (now (asked .entry)) (leaf (now (key1 .entry)) (now (value1 .entry))) (leaf (now (key2 .entry)) (now (value2 .entry)))) (length (now (room .entry)))) (now (room .entry)) r (now (room .exit)) ⌝ }
+    requires { is_absence p.now ≡ true }
+    ensures { Writes (written_from sha256 (some (absence (absence_in p.now))) (lent asked.now (leaf key1.now value1.now) (leaf key2.now value2.now)) (length room.old)) room.old result room.new }
 {
     if !hashes_to(asked, MOST_KEY, p, KEY_AT) {
         return Wrote::Refused(NOT_RAW);
@@ -218,7 +206,7 @@ pub fn write(
     value2: &[u8],
     room: &mut [u8],
 ) -> Wrote
-    ensures { λ r. ⌜ Writes (writtenFrom sha256 (proofIn (now (p .entry))) (lent (now (asked .entry)) (leaf (now (key1 .entry)) (now (value1 .entry))) (leaf (now (key2 .entry)) (now (value2 .entry)))) (length (now (room .entry)))) (now (room .entry)) r (now (room .exit)) ⌝ }
+    ensures { Writes (written_from sha256 (proof_in p.now) (lent asked.now (leaf key1.now value1.now) (leaf key2.now value2.now)) (length room.old)) room.old result room.new }
 {
     if is_presence(p) {
         return write_presence(p, asked, key1, value1, key2, value2, room);

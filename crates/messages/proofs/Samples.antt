@@ -1,19 +1,19 @@
 -- Messages byte by byte, as another encoder gives them from the proto file, and bytes that are none, by computing. Assumes nothing.
-use mathlib.Core.Path.{_≡_, refl}
+use mathlib.Core.Path.{◌≡◌, refl}
 use mathlib.Core.Bool.{true, false}
-use mathlib.Core.List.{[], _∷_, _++_}
+use mathlib.Core.List.{[], ◌∷◌, ◌++◌}
 use mathlib.Core.Option.{Option, none, some}
-use lib.ListN.{length, getD, replicate}
-use Rattle·terms.specs.Bits.{Bytes}
-use Rattle·terms.specs.Fields.{le, slice, field, allOf}
-use Rattle·terms.specs.Records.{Presence, Proof, presence, absence}
-use Rattle·proofrecords.specs.ProofBytes.{presenceBytes, stepCount, isPresence, presenceIn, leftLength, leftPart, rightPart, flags, neighboursFit, isAbsence, proofIn}
-use Rattle·meaning.specs.Calls.{refused, accepted}
-use Rattle·messages·specs.specs.Wire.{varintIn, varint, bytesTag, messageField, bytesField, numberField}
-use Rattle·messages·specs.specs.Message.{existence, nonexistence, messageBytes, leafBytes, innerBytes, existenceBytes}
-use Rattle·messages·specs.specs.Raws.{leafOp, innerOp}
-use Rattle·messages·specs.specs.Reading.{onward, onlyIf, notZero, stepIn, lengthRight, existenceIn, neighbourFrom, nonexistenceIn, fieldAlone, messageIn}
-use Rattle·messages·specs.specs.Lending.{Lent, unlent, hashesTo, leafFits, fitted, writtenFrom, recordOf, readFrom, read}
+use lib.ListN.{length, get_or, replicate}
+use Rattle.terms.specs.Bits.{Bytes}
+use Rattle.terms.specs.Fields.{le, slice, field, all_of}
+use Rattle.terms.specs.Records.{Presence, Proof, presence, absence}
+use Rattle.proofrecords.specs.ProofBytes.{presence_bytes, step_count, is_presence, presence_in, left_length, left_part, right_part, flags, neighbours_fit, is_absence, proof_in}
+use Rattle.meaning.specs.Calls.{refused, accepted}
+use Rattle.messages.specs.Wire.{varint_in, varint, bytes_tag, message_field, bytes_field, number_field}
+use Rattle.messages.specs.Message.{existence, nonexistence, message_bytes, leaf_bytes, inner_bytes, existence_bytes}
+use Rattle.messages.specs.Raws.{leaf_op, inner_op}
+use Rattle.messages.specs.Reading.{onward, only_if, not_zero, step_in, length_right, existence_in, neighbour_from, nonexistence_in, field_alone, message_in}
+use Rattle.messages.specs.Lending.{Lent, unlent, hashes_to, leaf_fits, fitted, written_from, record_of, read_from, read}
 
 -- key a, value b, no step
 abbrev alone : Presence
@@ -37,67 +37,67 @@ abbrev between : Option Presence → Option Presence → Proof
 between l r = absence (record { key = 109 ∷ []; leftward = l; rightward = r })
 
 -- field 3, the leaf op
-abbrev leafField : Bytes
-leafField = 26 ∷ 9 ∷ 8 ∷ 1 ∷ 16 ∷ 1 ∷ 24 ∷ 1 ∷ 42 ∷ 1 ∷ 1 ∷ []
+abbrev leaf_field : Bytes
+leaf_field = 26 ∷ 9 ∷ 8 ∷ 1 ∷ 16 ∷ 1 ∷ 24 ∷ 1 ∷ 42 ∷ 1 ∷ 1 ∷ []
 
 -- a proof, and its message
 abbrev Is : Proof → Bytes → Type 0
-Is p x = (messageBytes p ≡ x) × (messageIn x ≡ some p)
+Is p x = (message_bytes p ≡ x) × (message_in x ≡ some p)
 
 abbrev No : Bytes → Type 0
-No x = messageIn x ≡ none
+No x = message_in x ≡ none
 
 presences :
-    Is (presence alone) ((10 ∷ 17 ∷ 10 ∷ 1 ∷ 97 ∷ 18 ∷ 1 ∷ 98 ∷ []) ++ leafField)
+    Is (presence alone) ((10 ∷ 17 ∷ 10 ∷ 1 ∷ 97 ∷ 18 ∷ 1 ∷ 98 ∷ []) ++ leaf_field)
     × Is (presence climbing) (
     (10 ∷ 170 ∷ 2 ∷ 10 ∷ 2 ∷ 97 ∷ 98 ∷ 18 ∷ 200 ∷ 1 ∷ [])
     ++ replicate 200 7
-    ++ leafField
+    ++ leaf_field
     ++ (34 ∷ 39 ∷ 8 ∷ 1 ∷ 18 ∷ 1 ∷ 0 ∷ 26 ∷ 32 ∷ [])
     ++ replicate 32 3
     ++ (34 ∷ 37 ∷ 8 ∷ 1 ∷ 18 ∷ 33 ∷ 0 ∷ [])
     ++ replicate 32 9
     )
-unfolding varintIn varint bytesTag messageField bytesField numberField leafBytes innerBytes existenceBytes allOf onward onlyIf notZero stepIn lengthRight existenceIn
-    fieldAlone messageIn
+unfolding varint_in varint bytes_tag message_field bytes_field number_field leaf_bytes inner_bytes existence_bytes all_of onward only_if not_zero step_in length_right existence_in
+    field_alone message_in
 presences = ((refl, refl), (refl, refl))
 
 absences :
-    Is (between (some alone) none) ((18 ∷ 22 ∷ 10 ∷ 1 ∷ 109 ∷ 18 ∷ 17 ∷ 10 ∷ 1 ∷ 97 ∷ 18 ∷ 1 ∷ 98 ∷ []) ++ leafField)
-    × Is (between none (some alone)) ((18 ∷ 22 ∷ 10 ∷ 1 ∷ 109 ∷ 26 ∷ 17 ∷ 10 ∷ 1 ∷ 97 ∷ 18 ∷ 1 ∷ 98 ∷ []) ++ leafField)
+    Is (between (some alone) none) ((18 ∷ 22 ∷ 10 ∷ 1 ∷ 109 ∷ 18 ∷ 17 ∷ 10 ∷ 1 ∷ 97 ∷ 18 ∷ 1 ∷ 98 ∷ []) ++ leaf_field)
+    × Is (between none (some alone)) ((18 ∷ 22 ∷ 10 ∷ 1 ∷ 109 ∷ 26 ∷ 17 ∷ 10 ∷ 1 ∷ 97 ∷ 18 ∷ 1 ∷ 98 ∷ []) ++ leaf_field)
     × Is (between (some least) (some greatest)) (
     (18 ∷ 121 ∷ 10 ∷ 1 ∷ 109 ∷ 18 ∷ 58 ∷ 10 ∷ 1 ∷ 97 ∷ 18 ∷ 1 ∷ 98 ∷ [])
-    ++ leafField
+    ++ leaf_field
     ++ (34 ∷ 39 ∷ 8 ∷ 1 ∷ 18 ∷ 1 ∷ 0 ∷ 26 ∷ 32 ∷ [])
     ++ replicate 32 3
     ++ (26 ∷ 56 ∷ 10 ∷ 1 ∷ 122 ∷ 18 ∷ 1 ∷ 121 ∷ [])
-    ++ leafField
+    ++ leaf_field
     ++ (34 ∷ 37 ∷ 8 ∷ 1 ∷ 18 ∷ 33 ∷ 0 ∷ [])
     ++ replicate 32 4
     )
-unfolding varintIn varint bytesTag messageField bytesField numberField leafBytes innerBytes existenceBytes nonexistence allOf onward onlyIf notZero stepIn lengthRight existenceIn
-    neighbourFrom nonexistenceIn fieldAlone messageIn
+unfolding varint_in varint bytes_tag message_field bytes_field number_field leaf_bytes inner_bytes existence_bytes nonexistence all_of onward only_if not_zero step_in length_right existence_in
+    neighbour_from nonexistence_in field_alone message_in
 absences = ((refl, refl), (refl, refl), (refl, refl))
 
 -- nothing; a byte over; a field too short
 ends :
     No []
-    × No ((10 ∷ 17 ∷ 10 ∷ 1 ∷ 97 ∷ 18 ∷ 1 ∷ 98 ∷ []) ++ leafField ++ (0 ∷ []))
-    × No ((10 ∷ 18 ∷ 10 ∷ 1 ∷ 97 ∷ 18 ∷ 1 ∷ 98 ∷ []) ++ leafField)
-unfolding varintIn varint bytesTag messageField bytesField numberField leafBytes allOf onward onlyIf notZero stepIn lengthRight existenceIn neighbourFrom nonexistenceIn
-    fieldAlone messageIn
+    × No ((10 ∷ 17 ∷ 10 ∷ 1 ∷ 97 ∷ 18 ∷ 1 ∷ 98 ∷ []) ++ leaf_field ++ (0 ∷ []))
+    × No ((10 ∷ 18 ∷ 10 ∷ 1 ∷ 97 ∷ 18 ∷ 1 ∷ 98 ∷ []) ++ leaf_field)
+unfolding varint_in varint bytes_tag message_field bytes_field number_field leaf_bytes all_of onward only_if not_zero step_in length_right existence_in neighbour_from nonexistence_in
+    field_alone message_in
 ends = (refl, refl, refl)
 
 -- a varint that is not the shortest; value before key; the key twice; a field 5; an empty key; an empty suffix written out
 others :
-    No ((10 ∷ 145 ∷ 0 ∷ 10 ∷ 1 ∷ 97 ∷ 18 ∷ 1 ∷ 98 ∷ []) ++ leafField)
-    × No ((10 ∷ 17 ∷ 18 ∷ 1 ∷ 98 ∷ 10 ∷ 1 ∷ 97 ∷ []) ++ leafField)
-    × No ((10 ∷ 20 ∷ 10 ∷ 1 ∷ 97 ∷ 10 ∷ 1 ∷ 97 ∷ 18 ∷ 1 ∷ 98 ∷ []) ++ leafField)
-    × No ((10 ∷ 20 ∷ 10 ∷ 1 ∷ 97 ∷ 18 ∷ 1 ∷ 98 ∷ []) ++ leafField ++ (42 ∷ 1 ∷ 0 ∷ []))
-    × No ((10 ∷ 16 ∷ 10 ∷ 0 ∷ 18 ∷ 1 ∷ 98 ∷ []) ++ leafField)
-    × No ((10 ∷ 58 ∷ 10 ∷ 1 ∷ 97 ∷ 18 ∷ 1 ∷ 98 ∷ []) ++ leafField ++ (34 ∷ 39 ∷ 8 ∷ 1 ∷ 18 ∷ 33 ∷ 0 ∷ []) ++ replicate 32 9 ++ (26 ∷ 0 ∷ []))
-unfolding varintIn varint bytesTag messageField bytesField numberField leafBytes allOf onward onlyIf notZero stepIn lengthRight existenceIn neighbourFrom nonexistenceIn
-    fieldAlone messageIn
+    No ((10 ∷ 145 ∷ 0 ∷ 10 ∷ 1 ∷ 97 ∷ 18 ∷ 1 ∷ 98 ∷ []) ++ leaf_field)
+    × No ((10 ∷ 17 ∷ 18 ∷ 1 ∷ 98 ∷ 10 ∷ 1 ∷ 97 ∷ []) ++ leaf_field)
+    × No ((10 ∷ 20 ∷ 10 ∷ 1 ∷ 97 ∷ 10 ∷ 1 ∷ 97 ∷ 18 ∷ 1 ∷ 98 ∷ []) ++ leaf_field)
+    × No ((10 ∷ 20 ∷ 10 ∷ 1 ∷ 97 ∷ 18 ∷ 1 ∷ 98 ∷ []) ++ leaf_field ++ (42 ∷ 1 ∷ 0 ∷ []))
+    × No ((10 ∷ 16 ∷ 10 ∷ 0 ∷ 18 ∷ 1 ∷ 98 ∷ []) ++ leaf_field)
+    × No ((10 ∷ 58 ∷ 10 ∷ 1 ∷ 97 ∷ 18 ∷ 1 ∷ 98 ∷ []) ++ leaf_field ++ (34 ∷ 39 ∷ 8 ∷ 1 ∷ 18 ∷ 33 ∷ 0 ∷ []) ++ replicate 32 9 ++ (26 ∷ 0 ∷ []))
+unfolding varint_in varint bytes_tag message_field bytes_field number_field leaf_bytes all_of onward only_if not_zero step_in length_right existence_in neighbour_from nonexistence_in
+    field_alone message_in
 others = (refl, refl, refl, refl, refl, refl)
 
 -- operation codes: the length op written out, another prefix, another hash; inner prefix 1; no neighbour; both exist and nonexist; a batch
@@ -105,34 +105,34 @@ codes :
     No ((10 ∷ 19 ∷ 10 ∷ 1 ∷ 97 ∷ 18 ∷ 1 ∷ 98 ∷ []) ++ (26 ∷ 11 ∷ 8 ∷ 1 ∷ 16 ∷ 1 ∷ 24 ∷ 1 ∷ 32 ∷ 0 ∷ 42 ∷ 1 ∷ 1 ∷ []))
     × No ((10 ∷ 17 ∷ 10 ∷ 1 ∷ 97 ∷ 18 ∷ 1 ∷ 98 ∷ []) ++ (26 ∷ 9 ∷ 8 ∷ 1 ∷ 16 ∷ 1 ∷ 24 ∷ 1 ∷ 42 ∷ 1 ∷ 0 ∷ []))
     × No ((10 ∷ 17 ∷ 10 ∷ 1 ∷ 97 ∷ 18 ∷ 1 ∷ 98 ∷ []) ++ (26 ∷ 9 ∷ 8 ∷ 2 ∷ 16 ∷ 1 ∷ 24 ∷ 1 ∷ 42 ∷ 1 ∷ 1 ∷ []))
-    × No ((10 ∷ 56 ∷ 10 ∷ 1 ∷ 97 ∷ 18 ∷ 1 ∷ 98 ∷ []) ++ leafField ++ (34 ∷ 37 ∷ 8 ∷ 1 ∷ 18 ∷ 33 ∷ 1 ∷ []) ++ replicate 32 9)
+    × No ((10 ∷ 56 ∷ 10 ∷ 1 ∷ 97 ∷ 18 ∷ 1 ∷ 98 ∷ []) ++ leaf_field ++ (34 ∷ 37 ∷ 8 ∷ 1 ∷ 18 ∷ 33 ∷ 1 ∷ []) ++ replicate 32 9)
     × No (18 ∷ 3 ∷ 10 ∷ 1 ∷ 109 ∷ [])
-    × No ((10 ∷ 17 ∷ 10 ∷ 1 ∷ 97 ∷ 18 ∷ 1 ∷ 98 ∷ []) ++ leafField ++ (18 ∷ 22 ∷ 10 ∷ 1 ∷ 109 ∷ 18 ∷ 17 ∷ 10 ∷ 1 ∷ 97 ∷ 18 ∷ 1 ∷ 98 ∷ []) ++ leafField)
-    × No ((26 ∷ 17 ∷ 10 ∷ 1 ∷ 97 ∷ 18 ∷ 1 ∷ 98 ∷ []) ++ leafField)
-unfolding varintIn varint bytesTag messageField bytesField numberField leafBytes allOf onward onlyIf notZero stepIn lengthRight existenceIn neighbourFrom nonexistenceIn
-    fieldAlone messageIn
+    × No ((10 ∷ 17 ∷ 10 ∷ 1 ∷ 97 ∷ 18 ∷ 1 ∷ 98 ∷ []) ++ leaf_field ++ (18 ∷ 22 ∷ 10 ∷ 1 ∷ 109 ∷ 18 ∷ 17 ∷ 10 ∷ 1 ∷ 97 ∷ 18 ∷ 1 ∷ 98 ∷ []) ++ leaf_field)
+    × No ((26 ∷ 17 ∷ 10 ∷ 1 ∷ 97 ∷ 18 ∷ 1 ∷ 98 ∷ []) ++ leaf_field)
+unfolding varint_in varint bytes_tag message_field bytes_field number_field leaf_bytes all_of onward only_if not_zero step_in length_right existence_in neighbour_from nonexistence_in
+    field_alone message_in
 codes = (refl, refl, refl, refl, refl, refl, refl)
 
 -- raw lengths: a key of 256 bytes is taken, of 257 isn't; nor is a value of 4,097
 lengths :
     Is (presence (record { key = replicate 256 5; value = 98 ∷ []; steps = [] }))
-    ((10 ∷ 145 ∷ 2 ∷ 10 ∷ 128 ∷ 2 ∷ []) ++ replicate 256 5 ++ (18 ∷ 1 ∷ 98 ∷ []) ++ leafField)
-    × No ((10 ∷ 146 ∷ 2 ∷ 10 ∷ 129 ∷ 2 ∷ []) ++ replicate 257 5 ++ (18 ∷ 1 ∷ 98 ∷ []) ++ leafField)
-    × No ((10 ∷ 146 ∷ 32 ∷ 10 ∷ 1 ∷ 97 ∷ 18 ∷ 129 ∷ 32 ∷ []) ++ replicate 4097 5 ++ leafField)
-unfolding varintIn varint bytesTag messageField bytesField numberField leafBytes existenceBytes allOf onward onlyIf notZero stepIn lengthRight existenceIn
-    neighbourFrom nonexistenceIn fieldAlone messageIn
+    ((10 ∷ 145 ∷ 2 ∷ 10 ∷ 128 ∷ 2 ∷ []) ++ replicate 256 5 ++ (18 ∷ 1 ∷ 98 ∷ []) ++ leaf_field)
+    × No ((10 ∷ 146 ∷ 2 ∷ 10 ∷ 129 ∷ 2 ∷ []) ++ replicate 257 5 ++ (18 ∷ 1 ∷ 98 ∷ []) ++ leaf_field)
+    × No ((10 ∷ 146 ∷ 32 ∷ 10 ∷ 1 ∷ 97 ∷ 18 ∷ 129 ∷ 32 ∷ []) ++ replicate 4097 5 ++ leaf_field)
+unfolding varint_in varint bytes_tag message_field bytes_field number_field leaf_bytes existence_bytes all_of onward only_if not_zero step_in length_right existence_in
+    neighbour_from nonexistence_in field_alone message_in
 lengths = ((refl, refl), refl, refl)
 
 -- the calls, with a stand-in for SHA-256 that says the first byte 32 times
 abbrev shown32 : Bytes → Bytes
-shown32 x = replicate 32 (getD x 0 0)
+shown32 x = replicate 32 (get_or x 0 0)
 
 -- the record of key a, value b, and its message
-abbrev aloneRecord : Bytes
-aloneRecord = (72 ∷ 0 ∷ 0 ∷ 0 ∷ 16 ∷ 0 ∷ 0 ∷ 0 ∷ []) ++ replicate 32 97 ++ replicate 32 98
+abbrev alone_record : Bytes
+alone_record = (72 ∷ 0 ∷ 0 ∷ 0 ∷ 16 ∷ 0 ∷ 0 ∷ 0 ∷ []) ++ replicate 32 97 ++ replicate 32 98
 
-abbrev aloneMessage : Bytes
-aloneMessage = (10 ∷ 17 ∷ 10 ∷ 1 ∷ 97 ∷ 18 ∷ 1 ∷ 98 ∷ []) ++ leafField
+abbrev alone_message : Bytes
+alone_message = (10 ∷ 17 ∷ 10 ∷ 1 ∷ 97 ∷ 18 ∷ 1 ∷ 98 ∷ []) ++ leaf_field
 
 abbrev lending : Bytes → Bytes → Bytes → Bytes → Bytes → Lent
 lending asked key value key2 value2 =
@@ -141,26 +141,26 @@ lending asked key value key2 value2 =
 -- written with just enough room; 10 before 15, 15 before 9, 9 with a byte less; 15 for a key, a value or a key asked for that hashes to something else, has no byte or
 -- 257, and for a leaf too many
 writing :
-    (writtenFrom shown32 (proofIn aloneRecord) (lending (97 ∷ []) (97 ∷ []) (98 ∷ []) [] []) 19 ≡ accepted aloneMessage)
-    × (writtenFrom shown32 (proofIn (aloneRecord ++ (0 ∷ []))) (lending [] [] [] [] []) 0 ≡ refused 10)
-    × (writtenFrom shown32 (proofIn aloneRecord) (lending (97 ∷ []) (99 ∷ []) (98 ∷ []) [] []) 18 ≡ refused 15)
-    × (writtenFrom shown32 (proofIn aloneRecord) (lending (97 ∷ []) (97 ∷ []) (98 ∷ []) [] []) 18 ≡ refused 9)
-    × (writtenFrom shown32 (proofIn aloneRecord) (lending (97 ∷ []) (97 ∷ []) (99 ∷ []) [] []) 19 ≡ refused 15)
-    × (writtenFrom shown32 (proofIn aloneRecord) (lending (99 ∷ []) (97 ∷ []) (98 ∷ []) [] []) 19 ≡ refused 15)
-    × (writtenFrom shown32 (proofIn aloneRecord) (lending [] (97 ∷ []) (98 ∷ []) [] []) 19 ≡ refused 15)
-    × (writtenFrom shown32 (proofIn aloneRecord) (lending (97 ∷ []) (replicate 257 97) (98 ∷ []) [] []) 600 ≡ refused 15)
-    × (writtenFrom shown32 (proofIn aloneRecord) (lending (97 ∷ []) (97 ∷ []) (98 ∷ []) (97 ∷ []) (98 ∷ [])) 19 ≡ refused 15)
-unfolding varintIn varint bytesTag messageField bytesField numberField leafBytes existenceBytes allOf slice field le stepCount isPresence presenceIn leftLength leftPart
-    rightPart flags neighboursFit isAbsence proofIn lengthRight unlent hashesTo leafFits fitted writtenFrom
+    (written_from shown32 (proof_in alone_record) (lending (97 ∷ []) (97 ∷ []) (98 ∷ []) [] []) 19 ≡ accepted alone_message)
+    × (written_from shown32 (proof_in (alone_record ++ (0 ∷ []))) (lending [] [] [] [] []) 0 ≡ refused 10)
+    × (written_from shown32 (proof_in alone_record) (lending (97 ∷ []) (99 ∷ []) (98 ∷ []) [] []) 18 ≡ refused 15)
+    × (written_from shown32 (proof_in alone_record) (lending (97 ∷ []) (97 ∷ []) (98 ∷ []) [] []) 18 ≡ refused 9)
+    × (written_from shown32 (proof_in alone_record) (lending (97 ∷ []) (97 ∷ []) (99 ∷ []) [] []) 19 ≡ refused 15)
+    × (written_from shown32 (proof_in alone_record) (lending (99 ∷ []) (97 ∷ []) (98 ∷ []) [] []) 19 ≡ refused 15)
+    × (written_from shown32 (proof_in alone_record) (lending [] (97 ∷ []) (98 ∷ []) [] []) 19 ≡ refused 15)
+    × (written_from shown32 (proof_in alone_record) (lending (97 ∷ []) (replicate 257 97) (98 ∷ []) [] []) 600 ≡ refused 15)
+    × (written_from shown32 (proof_in alone_record) (lending (97 ∷ []) (97 ∷ []) (98 ∷ []) (97 ∷ []) (98 ∷ [])) 19 ≡ refused 15)
+unfolding varint_in varint bytes_tag message_field bytes_field number_field leaf_bytes existence_bytes all_of slice field le step_count is_presence presence_in left_length left_part
+    right_part flags neighbours_fit is_absence proof_in length_right unlent hashes_to leaf_fits fitted written_from
 writing = (refl, refl, refl, refl, refl, refl, refl, refl, refl)
 
 reading :
-    (read shown32 aloneMessage 72 ≡ accepted (presence alone))
-    × (recordOf shown32 (presence alone) ≡ aloneRecord)
-    × (read shown32 (aloneMessage ++ (0 ∷ [])) 0 ≡ refused 10)
-    × (read shown32 aloneMessage 71 ≡ refused 9)
-unfolding varintIn varint bytesTag messageField bytesField numberField leafBytes existenceBytes allOf onward onlyIf notZero stepIn lengthRight existenceIn neighbourFrom
-    nonexistenceIn fieldAlone messageIn le presenceBytes fitted readFrom read
+    (read shown32 alone_message 72 ≡ accepted (presence alone))
+    × (record_of shown32 (presence alone) ≡ alone_record)
+    × (read shown32 (alone_message ++ (0 ∷ [])) 0 ≡ refused 10)
+    × (read shown32 alone_message 71 ≡ refused 9)
+unfolding varint_in varint bytes_tag message_field bytes_field number_field leaf_bytes existence_bytes all_of onward only_if not_zero step_in length_right existence_in neighbour_from
+    nonexistence_in field_alone message_in le presence_bytes fitted read_from read
 reading = (refl, refl, refl, refl)
 
 -- the longest messages there are
@@ -168,7 +168,7 @@ abbrev longest : Presence
 longest = record { key = replicate 256 5; value = replicate 4096 5; steps = replicate 256 (record { side = false; sibling = replicate 32 5 }) }
 
 sizes :
-    (length (messageBytes (presence longest)) ≡ 14868)
-    × (length (messageBytes (absence (record { key = replicate 256 5; leftward = some longest; rightward = some longest }))) ≡ 29999)
-unfolding varintIn varint bytesTag messageField bytesField numberField leafBytes innerBytes existenceBytes nonexistence
+    (length (message_bytes (presence longest)) ≡ 14868)
+    × (length (message_bytes (absence (record { key = replicate 256 5; leftward = some longest; rightward = some longest }))) ≡ 29999)
+unfolding varint_in varint bytes_tag message_field bytes_field number_field leaf_bytes inner_bytes existence_bytes nonexistence
 sizes = (refl, refl)

@@ -1,38 +1,36 @@
 -- The code's own words: the bytes of a leaf op and of a path, and which proofs a message may say, case by case; that
--- is what `Parts` and the form of our own record say (`raw-parts` and `parts-raw` of proofs/Parts). No public promise
+-- is what `Parts` and the form of our own record say (`raw_parts` and `parts_raw` of proofs/Parts). No public promise
 -- reaches this file. Assumes nothing.
-use Prim.Native.Nat.{ℕ, _≤_}
-use mathlib.Core.List.{List, [], _∷_, _++_}
-use mathlib.Core.Option.{Option, none, some, Option·map}
-use lib.ListN.{length}
-use Rattle·terms.specs.Bits.{Bytes, All}
-use Rattle·terms.specs.Records.{Step, Presence, Proof, presence, absence}
-use Rattle·proofrecords.specs.ProofBytes.{StepForm, mostSteps, flagsOf}
-use Rattle·messages·specs.specs.Wire.{messageField}
-use Rattle·messages·specs.specs.Message.{leafBytes, innerBytes, ourLeaf, opOf, ownPresence}
-use Rattle·messages·specs.specs.Parts.{Raw}
+use Rattle.std.specs.Prelude.{ℕ, ◌≤◌, List, [], ◌∷◌, ◌++◌, length}
+use Rattle.std.proofs.Math.Option.{Option, none, some, map}
+use Rattle.terms.specs.Bits.{Bytes, All}
+use Rattle.terms.specs.Records.{Step, Presence, Proof, presence, absence}
+use Rattle.proofrecords.specs.ProofBytes.{StepForm, most_steps, flags_of}
+use Rattle.messages.specs.Wire.{message_field}
+use Rattle.messages.specs.Message.{leaf_bytes, inner_bytes, our_leaf, op_of, own_presence}
+use Rattle.messages.specs.Parts.{Raw}
 
-abbrev pub leafOp : Bytes
-leafOp = leafBytes ourLeaf
+abbrev pub leaf_op : Bytes
+leaf_op = leaf_bytes our_leaf
 
-abbrev pub innerOp : Step → Bytes
-innerOp s = innerBytes (opOf s)
+abbrev pub inner_op : Step → Bytes
+inner_op s = inner_bytes (op_of s)
 
 abbrev pub path : List Step → Bytes
 path [] = []
-path (s ∷ steps) = messageField 4 (innerOp s) ++ path steps
+path (s ∷ steps) = message_field 4 (inner_op s) ++ path steps
 
-abbrev pub mostKey : ℕ
-mostKey = 256
+abbrev pub most_key : ℕ
+most_key = 256
 
-abbrev pub mostValue : ℕ
-mostValue = 4096
+abbrev pub most_value : ℕ
+most_value = 4096
 
 pub record RawPresence (p : Presence) : Type 0 where
-  pub key-raw : Raw mostKey (p .key)
-  pub value-raw : Raw mostValue (p .value)
-  pub short : length (p .steps) ≤ mostSteps
-  pub steps32 : All StepForm (p .steps)
+  pub key_raw : Raw most_key p.key
+  pub value_raw : Raw most_value p.value
+  pub short : length p.steps ≤ most_steps
+  pub steps32 : All StepForm p.steps
 
 abbrev pub RawNeighbour : Option Presence → Type 0
 RawNeighbour none = Unit {0}
@@ -41,10 +39,10 @@ RawNeighbour (some p) = RawPresence p
 abbrev pub RawProof : Proof → Type 0
 RawProof (presence p) = RawPresence p
 RawProof (absence a) =
-    Raw mostKey (a .key)
-    × RawNeighbour (a .leftward)
-    × RawNeighbour (a .rightward)
-    × (1 ≤ flagsOf (a .leftward) (a .rightward))
+    Raw most_key a.key
+    × RawNeighbour a.leftward
+    × RawNeighbour a.rightward
+    × (1 ≤ flags_of a.leftward a.rightward)
 
-abbrev pub ownNeighbour : (Bytes → Bytes) → Option Presence → Option Presence
-ownNeighbour sha o = Option·map (ownPresence sha) o
+abbrev pub own_neighbour : (Bytes → Bytes) → Option Presence → Option Presence
+own_neighbour sha o = map (own_presence sha) o

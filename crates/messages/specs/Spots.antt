@@ -1,16 +1,13 @@
 -- Document 02, request 2026-02: where in a message the raw keys and values stand that reading gives back. Assumes
 -- nothing.
-use Prim.Native.Nat.{ℕ, _+_}
-use mathlib.Core.Path.{_≡_}
-use mathlib.Core.List.{_++_}
-use mathlib.Core.Option.{Option, none, some}
-use lib.ListN.{length}
-use Rattle·terms.specs.Bits.{Bytes}
-use Rattle·terms.specs.Fields.{slice}
-use Rattle·terms.specs.Records.{Presence, Absence, Proof, presence, absence}
-use Rattle·messages·specs.specs.Wire.{varint, bytesTag, bytesField}
-use Rattle·messages·specs.specs.Message.{existence, neighbourField, nonexistence}
-use Rattle·messages·specs.specs.Lending.{Lent}
+use Rattle.std.specs.Prelude.{ℕ, ◌+◌, ◌≡◌, ◌++◌, length}
+use Rattle.std.proofs.Math.Option.{Option, none, some}
+use Rattle.terms.specs.Bits.{Bytes}
+use Rattle.terms.specs.Fields.{slice}
+use Rattle.terms.specs.Records.{Presence, Absence, Proof, presence, absence}
+use Rattle.messages.specs.Wire.{varint, bytes_tag, bytes_field}
+use Rattle.messages.specs.Message.{existence, neighbour_field, nonexistence}
+use Rattle.messages.specs.Lending.{Lent}
 
 -- Where bytes begin, and how many they are; 0 and 0 where there are none.
 pub record Spot : Type 0 where
@@ -29,44 +26,44 @@ pub record Spots : Type 0 where
   pub value2 : Spot
 
 -- What stands before the bytes of field n: its tag and their length.
-unfoldable pub fieldHead : ℕ → Bytes → Bytes
-fieldHead n x = bytesTag n ++ varint (length x)
+unfoldable pub field_head : ℕ → Bytes → Bytes
+field_head n x = bytes_tag n ++ varint (length x)
 
 -- Key and value of an existence proof that begins there; and the key of a non-existence proof.
-abbrev pub keySpot : ℕ → Bytes → Spot
-keySpot start key = record { at = start + length (fieldHead 1 key); size = length key }
+abbrev pub key_spot : ℕ → Bytes → Spot
+key_spot start key = record { at = start + length (field_head 1 key); size = length key }
 
-abbrev pub valueSpot : ℕ → Presence → Spot
-valueSpot start p =
-    record { at = start + length (bytesField 1 (p .key)) + length (fieldHead 2 (p .value)); size = length (p .value) }
+abbrev pub value_spot : ℕ → Presence → Spot
+value_spot start p =
+    record { at = start + length (bytes_field 1 p.key) + length (field_head 2 p.value); size = length p.value }
 
 -- The leaves of an absence proof whose neighbours begin there.
-abbrev pub leafSpots : Spot → ℕ → Option Presence → Option Presence → Spots
-leafSpots asked start none none =
+abbrev pub leaf_spots : Spot → ℕ → Option Presence → Option Presence → Spots
+leaf_spots asked start none none =
     record { asked = asked; key1 = nowhere; value1 = nowhere; key2 = nowhere; value2 = nowhere }
-leafSpots asked start (some l) none =
-    let s = start + length (fieldHead 2 (existence l)) in
-    record { asked = asked; key1 = keySpot s (l .key); value1 = valueSpot s l; key2 = nowhere; value2 = nowhere }
-leafSpots asked start none (some r) =
-    let s = start + length (fieldHead 3 (existence r)) in
-    record { asked = asked; key1 = keySpot s (r .key); value1 = valueSpot s r; key2 = nowhere; value2 = nowhere }
-leafSpots asked start (some l) (some r) =
-    let s = start + length (fieldHead 2 (existence l)) in
-    let t = start + length (neighbourField 2 (some l)) + length (fieldHead 3 (existence r)) in
+leaf_spots asked start (some l) none =
+    let s = start + length (field_head 2 (existence l)) in
+    record { asked = asked; key1 = key_spot s l.key; value1 = value_spot s l; key2 = nowhere; value2 = nowhere }
+leaf_spots asked start none (some r) =
+    let s = start + length (field_head 3 (existence r)) in
+    record { asked = asked; key1 = key_spot s r.key; value1 = value_spot s r; key2 = nowhere; value2 = nowhere }
+leaf_spots asked start (some l) (some r) =
+    let s = start + length (field_head 2 (existence l)) in
+    let t = start + length (neighbour_field 2 (some l)) + length (field_head 3 (existence r)) in
     record {
       asked = asked;
-      key1 = keySpot s (l .key);
-      value1 = valueSpot s l;
-      key2 = keySpot t (r .key);
-      value2 = valueSpot t r;
+      key1 = key_spot s l.key;
+      value1 = value_spot s l;
+      key2 = key_spot t r.key;
+      value2 = value_spot t r;
     }
 
 -- In the message of a presence the leaf's key is the one asked for.
-unfoldable pub spotsIn : Proof → Spots
-spotsIn (presence p) =
-    let s = length (fieldHead 1 (existence p)) in
-    let k = keySpot s (p .key) in
-    record { asked = k; key1 = k; value1 = valueSpot s p; key2 = nowhere; value2 = nowhere }
-spotsIn (absence a) =
-    let s = length (fieldHead 2 (nonexistence a)) in
-    leafSpots (keySpot s (a .key)) (s + length (bytesField 1 (a .key))) (a .leftward) (a .rightward)
+unfoldable pub spots_in : Proof → Spots
+spots_in (presence p) =
+    let s = length (field_head 1 (existence p)) in
+    let k = key_spot s p.key in
+    record { asked = k; key1 = k; value1 = value_spot s p; key2 = nowhere; value2 = nowhere }
+spots_in (absence a) =
+    let s = length (field_head 2 (nonexistence a)) in
+    leaf_spots (key_spot s a.key) (s + length (bytes_field 1 a.key)) a.leftward a.rightward

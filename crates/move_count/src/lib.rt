@@ -1,40 +1,32 @@
 // The leaves below the children of each inner record of a plain store, document 02, request 2026-10: the longest places first, so that what a
 // record's children have is there before it is asked for. Children are guessed, and looked at before they are believed.
+#![tactic(auto)]
+
+ghost use Rattle.std.specs.Prelude.{◌≡◌, true, ◌+◌, ◌≤◌, ◌<◌, length};
+ghost use Rattle.place.specs.Place.{place_of, Proper};
+ghost use Rattle.layout.specs.Slots.{is_inner, count_in};
+ghost use Rattle.layout.specs.Stores.{slot_in, Has};
+ghost use Rattle.lookup.specs.Lookup.{FoundIn};
+ghost use Rattle.check_pass.specs.Passes.{Room};
+ghost use Rattle.move_count.specs.Count.{Countable, plain_store, NodeIn, leaves_at, WeighsIn, CountedFrom, SlotCounted, LevelAt, Leveled, LevelCounted};
+
 use agree::agrees;
 use check_guess::guessed;
 use check_sort::sort;
 use layout::sizes::LEAF_KIND;
-use lookup::Found;
-use lookup::find;
-use place::Place;
-use place::child_place;
-use place::place_at;
+use lookup::{Found, find};
+use place::{Place, child_place, place_at};
 use slots::bits_of;
-use store::child_version_at;
-use store::count_at;
-use store::kind_at;
-use store::slot_count;
-use store::slot_of;
-use store::wide;
+use store::{child_version_at, count_at, kind_at, slot_count, slot_of, wide};
 use terms::Form;
-ghost use mathlib.Core.Path.{_≡_};
-ghost use mathlib.Core.Bool.{true};
-ghost use Prim.Native.Nat.{_+_, _≤_, _<_};
-ghost use lib.ListN.{length};
-ghost use Rattle·place.specs.Place.{placeOf, Proper};
-ghost use Rattle·layout.specs.Slots.{isInner, countIn};
-ghost use Rattle·layout.specs.Stores.{slotIn, Has};
-ghost use Rattle·lookup.specs.Lookup.{FoundIn};
-ghost use Rattle·check_pass.specs.Passes.{Room};
-ghost use Rattle·move_count·specs.specs.Count.{Countable, plainStore, NodeIn, leavesAt, WeighsIn, CountedFrom, SlotCounted, LevelAt, Leveled, LevelCounted};
 
 // The level of a slot that holds no inner record.
 const NO_LEVEL: u16 = 256;
 
 // Whether slot c holds the node of a version at a place.
 fn is_node(store: &[u8], c: usize, version: u32, place: Place) -> bool
-    requires { ⌜ Countable (now store) × (1 ≤ version) × Proper place ⌝ }
-    ensures { λ r. ⌜ NodeIn (now (store .entry)) c version (placeOf place) r ⌝ }
+    requires { Countable store.now × (1 ≤ version) × Proper place }
+    ensures { NodeIn store.now c version (place_of place) result }
 {
     let n = slot_count(Form::Plain, store);
     if n <= c {
@@ -45,8 +37,8 @@ fn is_node(store: &[u8], c: usize, version: u32, place: Place) -> bool
 
 // The slot of the node of a version at a place: a guess that is right, or what a search finds; version 0 is no node.
 fn child_slot(store: &[u8], version: u32, place: Place, guess: usize) -> Found
-    requires { ⌜ Countable (now store) × Proper place ⌝ }
-    ensures { λ r. ⌜ FoundIn (plainStore (now (store .entry)) .slots) version (placeOf place) r ⌝ }
+    requires { Countable store.now × Proper place }
+    ensures { FoundIn (plain_store store.now).slots version (place_of place) result }
 {
     if version == 0 {
         return Found::Nothing;
@@ -59,8 +51,8 @@ fn child_slot(store: &[u8], version: u32, place: Place, guess: usize) -> Found
 
 // The leaves at the record in slot c, by the counts that were made.
 fn weight_of(store: &[u8], counts: &[u16; 32768], c: usize) -> usize
-    requires { ⌜ Has Form.Plain (now store) c ⌝ }
-    ensures { λ r. ⌜ WeighsIn (now (store .entry)) (now (counts .entry)) c r ⌝ }
+    requires { Has Form.Plain store.now c }
+    ensures { WeighsIn store.now counts.now c result }
 {
     if kind_at(Form::Plain, store, c) == LEAF_KIND {
         return 1;
@@ -70,8 +62,8 @@ fn weight_of(store: &[u8], counts: &[u16; 32768], c: usize) -> usize
 
 // The leaves at the node of a version at a place, 0 where there is none.
 fn leaves_at(store: &[u8], counts: &[u16; 32768], version: u32, place: Place, guess: usize) -> usize
-    requires { ⌜ Countable (now store) × Proper place × CountedFrom (now store) (now counts) (place .count) ⌝ }
-    ensures { λ r. ⌜ (r ≡ leavesAt (now (store .entry)) version (placeOf place)) × (r ≤ 16384) ⌝ }
+    requires { Countable store.now × Proper place × CountedFrom store.now counts.now place.count }
+    ensures { (result ≡ leaves_at store.now version (place_of place)) × (result ≤ 16384) }
 {
     let found = child_slot(store, version, place, guess);
     match found {
@@ -85,8 +77,8 @@ fn leaves_at(store: &[u8], counts: &[u16; 32768], version: u32, place: Place, gu
 
 // Writes the counts of the inner record in slot i, with a guess for each of its children.
 fn count_slot(store: &[u8], i: usize, a: usize, b: usize, counts: &mut [u16; 32768])
-    requires { ⌜ Countable (now store) × Has Form.Plain (now store) i × (isInner (slotIn Form.Plain i (now store)) ≡ true) × CountedFrom (now store) (now counts) (countIn (slotIn Form.Plain i (now store)) + 1) ⌝ }
-    ensures { λ _. ⌜ SlotCounted (now (store .entry)) i (now (counts .entry)) (now (counts .exit)) ⌝ }
+    requires { Countable store.now × Has Form.Plain store.now i × (is_inner (slot_in Form.Plain i store.now) ≡ true) × CountedFrom store.now counts.old (count_in (slot_in Form.Plain i store.now) + 1) }
+    ensures { SlotCounted store.now i counts.old counts.new }
 {
     let up = place_at(
         bits_of(slot_of(Form::Plain, store, i)),
@@ -109,8 +101,8 @@ fn count_at_level(
     guess: &[u16; 32768],
     counts: &mut [u16; 32768],
 )
-    requires { ⌜ Countable (now store) × Has Form.Plain (now store) i × LevelAt (now store) i mine × (level < 256) × CountedFrom (now store) (now counts) (level + 1) ⌝ }
-    ensures { λ _. ⌜ LevelCounted (now (store .entry)) level i (now (counts .entry)) (now (counts .exit)) ⌝ }
+    requires { Countable store.now × Has Form.Plain store.now i × LevelAt store.now i mine × (level < 256) × CountedFrom store.now counts.old (level + 1) }
+    ensures { LevelCounted store.now level i counts.old counts.new }
 {
     if mine != level {
         return;
@@ -127,8 +119,8 @@ fn count_level(
     guess: &[u16; 32768],
     counts: &mut [u16; 32768],
 )
-    requires { ⌜ Countable (now store) × Room Form.Plain (now store) n × Leveled (now store) (now levels) n × (level < 256) × CountedFrom (now store) (now counts) (level + 1) ⌝ }
-    ensures { λ _. ⌜ CountedFrom (now (store .entry)) (now (counts .exit)) level ⌝ }
+    requires { Countable store.now × Room Form.Plain store.now n × Leveled store.now levels.now n × (level < 256) × CountedFrom store.now counts.old (level + 1) }
+    ensures { CountedFrom store.now counts.new level }
 {
     let mut i = 0;
     while i < n {
@@ -139,8 +131,8 @@ fn count_level(
 
 // The level of slot i.
 fn level_of(store: &[u8], i: usize) -> u16
-    requires { ⌜ Countable (now store) × Has Form.Plain (now store) i ⌝ }
-    ensures { λ r. ⌜ LevelAt (now (store .entry)) i r ⌝ }
+    requires { Countable store.now × Has Form.Plain store.now i }
+    ensures { LevelAt store.now i result }
 {
     if kind_at(Form::Plain, store, i) <= LEAF_KIND {
         return NO_LEVEL;
@@ -150,8 +142,8 @@ fn level_of(store: &[u8], i: usize) -> u16
 
 // The level of each slot.
 fn levels_of(store: &[u8], n: usize, levels: &mut [u16; 16384])
-    requires { ⌜ Countable (now store) × Room Form.Plain (now store) n × (length (now levels) ≡ 16384) ⌝ }
-    ensures { λ _. ⌜ Leveled (now (store .entry)) (now (levels .exit)) n ⌝ }
+    requires { Countable store.now × Room Form.Plain store.now n × (length levels.old ≡ 16384) }
+    ensures { Leveled store.now levels.new n }
 {
     let mut i = 0;
     while i < n {
@@ -162,8 +154,8 @@ fn levels_of(store: &[u8], n: usize, levels: &mut [u16; 16384])
 
 // All levels, the longest places first.
 fn count_levels(store: &[u8], n: usize, guess: &[u16; 32768], counts: &mut [u16; 32768])
-    requires { ⌜ Countable (now store) × Room Form.Plain (now store) n × (length (now counts) ≡ 32768) ⌝ }
-    ensures { λ _. ⌜ CountedFrom (now (store .entry)) (now (counts .exit)) 0 ⌝ }
+    requires { Countable store.now × Room Form.Plain store.now n × (length counts.old ≡ 32768) }
+    ensures { CountedFrom store.now counts.new 0 }
 {
     let mut levels = [0u16; 16384];
     levels_of(store, n, &mut levels);
@@ -176,7 +168,7 @@ fn count_levels(store: &[u8], n: usize, guess: &[u16; 32768], counts: &mut [u16;
 
 // A guess at the slots of the children that each slot names.
 fn guess_children(store: &[u8], n: usize, guess: &mut [u16; 32768])
-    requires { ⌜ Room Form.Plain (now store) n × (n ≤ 16384) ⌝ }
+    requires { Room Form.Plain store.now n × (n ≤ 16384) }
 {
     let mut table = [0u16; 16384];
     let mut spare = [0u16; 16384];
@@ -186,8 +178,8 @@ fn guess_children(store: &[u8], n: usize, guess: &mut [u16; 32768])
 
 // The counts of every inner record of a sound store, two for each slot.
 pub fn count_leaves(store: &[u8], counts: &mut [u16; 32768])
-    requires { ⌜ Countable (now store) × (length (now counts) ≡ 32768) ⌝ }
-    ensures { λ _. ⌜ CountedFrom (now (store .entry)) (now (counts .exit)) 0 ⌝ }
+    requires { Countable store.now × (length counts.old ≡ 32768) }
+    ensures { CountedFrom store.now counts.new 0 }
 {
     let n = slot_count(Form::Plain, store);
     let mut guess = [0u16; 32768];

@@ -1,189 +1,189 @@
 -- Writing from slot to slot: before slot i the target has the new header and slots, from it on its old bytes. Assumes nothing.
-use Prim.Native.Nat.{ℕ, zero, suc, _+_, _*_, _-_, _<_, _≤_}
+use Prim.Native.Nat.{ℕ, zero, suc, ◌+◌, ◌*◌, ◌-◌, ◌<◌, ◌≤◌}
 use native.Mathlib.Omega.{arith}
-use mathlib.Core.Path.{_≡_, refl, ap, ap₂, sym, _∙_, subst}
+use mathlib.Core.Path.{◌≡◌, refl, ap, ap₂, sym, ◌∙◌, subst}
 use mathlib.Core.Bool.{true}
-use mathlib.Core.List.{List, [], _∷_, _++_, append-nil, append-assoc}
-use lib.ListN.{length, getD, take, drop, length-append, length-take, length-drop, take-append-drop, drop-of-length-le}
-use lib.Seq.{take-at, drop-at, drop-drop, take-all, length-take-le}
-use Rattle·terms.specs.declared.Form.{Form}
-use Rattle·terms.specs.declared.Form.the-variants.{Plain as plain, Counted as counted}
-use Rattle·terms.specs.Bits.{Bytes, All}
-use Rattle·terms.specs.Records.{Tally, Slot, free, used, spoiled, Store}
-use Rattle·terms.proofs.Lists.{all-at, all-take}
-use Rattle·fields.specs.Written.{written}
-use Rattle·fields.proofs.Written.{written-between, length-written}
-use Rattle·layout.specs.Sizes.{mostSlots, slotSize, roomOf, slotAt}
-use Rattle·layout.specs.Headers.{headerBytes, sizeRight}
-use Rattle·layout.specs.Slots.{slotBytes, SlotForm}
-use Rattle·layout.specs.Stores.{slotsBytes, storeIn, storeBytes, slotNo, Has, SlotWithin, withSlot}
-use Rattle·layout.proofs.Slots.{length-slot}
-use Rattle·layout.proofs.Headers.{length-header, size-says, size-least, size-ends, slot-before, slot-after}
-use Rattle·layout.proofs.Stores.{length-slots-bytes}
-use Rattle·store.proofs.Slots.{slots-many}
-use Rattle·move_rules.specs.Moves.{SameRoom}
-use Rattle·move_put·specs.specs.Put.{tallyAt, tallied, talliedFrom, talliedAs, Movable}
+use mathlib.Core.List.{List, [], ◌∷◌, ◌++◌, append-nil, append_assoc}
+use lib.ListN.{length, get_or, take, drop, length-append, length-take, length-drop, take-append-drop, drop_of_length-le}
+use lib.Seq.{take_at, drop_at, drop-drop, take_all, length-take-le}
+use Rattle.terms.specs.declared.Form.{Form}
+use Rattle.terms.specs.declared.Form.TheVariants.{Plain as plain, Counted as counted}
+use Rattle.terms.specs.Bits.{Bytes, All}
+use Rattle.terms.specs.Records.{Tally, Slot, free, used, spoiled, Store}
+use Rattle.terms.proofs.Lists.{all_at, all_take}
+use Rattle.fields.specs.Written.{written}
+use Rattle.fields.proofs.Written.{written_between, length_written}
+use Rattle.layout.specs.Sizes.{most_slots, slot_size, room_of, slot_at}
+use Rattle.layout.specs.Headers.{header_bytes, size_right}
+use Rattle.layout.specs.Slots.{slot_bytes, SlotForm}
+use Rattle.layout.specs.Stores.{slots_bytes, store_in, store_bytes, slot_no, Has, SlotWithin, with_slot}
+use Rattle.layout.proofs.Slots.{length_slot}
+use Rattle.layout.proofs.Headers.{length_header, size_says, size_least, size_ends, slot_before, slot_after}
+use Rattle.layout.proofs.Stores.{length_slots_bytes}
+use Rattle.store.proofs.Slots.{slots_many}
+use Rattle.move_rules.specs.Moves.{SameRoom}
+use Rattle.move_put.specs.Put.{tally_at, tallied, tallied_from, tallied_as, Movable}
 
-length-tallied : (t : List ℕ) (i : ℕ) (xs : List Slot) → length (talliedFrom t i xs) ≡ length xs
-length-tallied t i [] = refl
-length-tallied t i (x ∷ xs) = ap suc (length-tallied t (suc i) xs)
+length_tallied : (t : List ℕ) (i : ℕ) (xs : List Slot) → length (tallied_from t i xs) ≡ length xs
+length_tallied t i [] = refl
+length_tallied t i (x ∷ xs) = ap suc (length_tallied t (suc i) xs)
 
-tallied-at : (t : List ℕ) (k : ℕ) (xs : List Slot) (i : ℕ) → i < length xs → getD (talliedFrom t k xs) i free ≡ tallied (tallyAt t (k + i)) (getD xs i free)
-tallied-at t k [] i h = absurd (omega arith)
-tallied-at t k (x ∷ xs) zero h = let e : k ≡ k + 0 = omega arith in ap (λ m. tallied (tallyAt t m) x) e
-tallied-at t k (x ∷ xs) (suc i) h =
+tallied_at : (t : List ℕ) (k : ℕ) (xs : List Slot) (i : ℕ) → i < length xs → get_or (tallied_from t k xs) i free ≡ tallied (tally_at t (k + i)) (get_or xs i free)
+tallied_at t k [] i h = absurd (omega arith)
+tallied_at t k (x ∷ xs) zero h = let e : k ≡ k + 0 = omega arith in ap (λ m. tallied (tally_at t m) x) e
+tallied_at t k (x ∷ xs) (suc i) h =
     let e : suc k + i ≡ k + suc i = omega arith in
-    tallied-at t (suc k) xs i (omega arith) ∙ ap (λ m. tallied (tallyAt t m) (getD xs i free)) e
+    tallied_at t (suc k) xs i (omega arith) ∙ ap (λ m. tallied (tally_at t m) (get_or xs i free)) e
 
 -- one slot more
-slots-more : (fm : Form) (xs : List Slot) (i : ℕ) → i < length xs → slotsBytes fm (take (suc i) xs) ≡ slotsBytes fm (take i xs) ++ slotBytes fm (getD xs i free)
-slots-more fm [] i h = absurd (omega arith)
-slots-more fm (x ∷ xs) zero h = append-nil (slotBytes fm x)
-slots-more fm (x ∷ xs) (suc i) h =
-    ap (slotBytes fm x ++_) (slots-more fm xs i (omega arith)) ∙ sym (append-assoc (slotBytes fm x) (slotsBytes fm (take i xs)) (slotBytes fm (getD xs i free)))
+slots_more : (fm : Form) (xs : List Slot) (i : ℕ) → i < length xs → slots_bytes fm (take (suc i) xs) ≡ slots_bytes fm (take i xs) ++ slot_bytes fm (get_or xs i free)
+slots_more fm [] i h = absurd (omega arith)
+slots_more fm (x ∷ xs) zero h = append-nil (slot_bytes fm x)
+slots_more fm (x ∷ xs) (suc i) h =
+    ap (slot_bytes fm x ++◌) (slots_more fm xs i (omega arith)) ∙ sym (append_assoc (slot_bytes fm x) (slots_bytes fm (take i xs)) (slot_bytes fm (get_or xs i free)))
 
 -- where slots begin
-slots-up : (fm : Form) (i n : ℕ) → i ≤ n → slotAt fm i ≤ slotAt fm n
-slots-up plain i n h = omega arith
-slots-up counted i n h = omega arith
+slots_up : (fm : Form) (i n : ℕ) → i ≤ n → slot_at fm i ≤ slot_at fm n
+slots_up plain i n h = omega arith
+slots_up counted i n h = omega arith
 
-slot-next : (fm : Form) (i : ℕ) → slotAt fm i + slotSize fm ≡ slotAt fm (i + 1)
-slot-next fm i = let z : suc i ≡ i + 1 = omega arith in let e = slot-after fm i ∙ ap (slotSize fm *_) z in omega arith
+slot_next : (fm : Form) (i : ℕ) → slot_at fm i + slot_size fm ≡ slot_at fm (i + 1)
+slot_next fm i = let z : suc i ≡ i + 1 = omega arith in let e = slot_after fm i ∙ ap (slot_size fm *◌) z in omega arith
 
 -- bytes written behind a front that was written
-front-grows : (p f old : Bytes) (k m : ℕ) → length p ≡ k → length f ≡ m → k + m ≤ length old → written k f (p ++ drop k old) ≡ (p ++ f) ++ drop (k + m) old
-front-grows p f old k m e l h =
+front_grows : (p f old : Bytes) (k m : ℕ) → length p ≡ k → length f ≡ m → k + m ≤ length old → written k f (p ++ drop k old) ≡ (p ++ f) ++ drop (k + m) old
+front_grows p f old k m e l h =
     let part : length f ≡ length (take m (drop k old)) = l ∙ sym (length-take-le m (drop k old) (simp length-drop (omega arith))) in
     let cut : drop k old ≡ take m (drop k old) ++ drop (k + m) old =
-    sym (take-append-drop m (drop k old)) ∙ ap (take m (drop k old) ++_) (drop-drop m k old)
+    sym (take-append-drop m (drop k old)) ∙ ap (take m (drop k old) ++◌) (drop-drop m k old)
     in
     ap (λ r. written k f (p ++ r)) cut
-    ∙ written-between p (take m (drop k old)) (drop (k + m) old) f k e part
-    ∙ sym (append-assoc p f (drop (k + m) old))
+    ∙ written_between p (take m (drop k old)) (drop (k + m) old) f k e part
+    ∙ sym (append_assoc p f (drop (k + m) old))
 
 module _ (from to : Form) (s : Bytes) (t : List ℕ) (old : Bytes) where
   -- the slots as they are to be written
   abbrev news : List Slot
-  news = talliedFrom t 0 (storeIn from s .slots)
+  news = tallied_from t 0 (store_in from s).slots
 
   -- the header and the first i slots
   abbrev front : ℕ → Bytes
-  front i = headerBytes to (length (storeIn from s .slots)) (storeIn from s .oldest) (storeIn from s .latest) ++ slotsBytes to (take i news)
+  front i = header_bytes to (length (store_in from s).slots) (store_in from s).oldest (store_in from s).latest ++ slots_bytes to (take i news)
 
   -- at slot i of n
   pub record Putting (cur : Bytes) (n i : ℕ) : Type 0 where
     pub able : Movable from to s t old
-    pub many : n ≡ roomOf from (length s)
+    pub many : n ≡ room_of from (length s)
     pub within : i ≤ n
-    pub bytes : cur ≡ front i ++ drop (slotAt to i) old
+    pub bytes : cur ≡ front i ++ drop (slot_at to i) old
 
 module _ {from to : Form} {s : Bytes} {t : List ℕ} {old : Bytes} where
-  module _ {n : ℕ} (w : Movable from to s t old) (e : n ≡ roomOf from (length s)) where
-    news-many : length (news from to s t old) ≡ n
-    news-many = length-tallied t 0 (storeIn from s .slots) ∙ slots-many from s ∙ sym e
+  module _ {n : ℕ} (w : Movable from to s t old) (e : n ≡ room_of from (length s)) where
+    news_many : length (news from to s t old) ≡ n
+    news_many = length_tallied t 0 (store_in from s).slots ∙ slots_many from s ∙ sym e
 
-    pub few-slots : (1 ≤ n) × (n ≤ 16384)
-    few-slots = let z = size-says from (length s) (w .room .source) in (omega (arith, z .1), omega (arith, z .2))
+    pub few_slots : (1 ≤ n) × (n ≤ 16384)
+    few_slots = let z = size_says from (length s) w.room.source in (omega (arith, z.1), omega (arith, z.2))
 
-    target-ends : length old ≡ slotAt to n
-    target-ends = size-ends to (length old) (w .room .target) ∙ ap (slotAt to) (sym (w .room .equal) ∙ sym e)
+    target_ends : length old ≡ slot_at to n
+    target_ends = size_ends to (length old) w.room.target ∙ ap (slot_at to) (sym w.room.equal ∙ sym e)
 
-    front-long : (i : ℕ) → i ≤ n → length (front from to s t old i) ≡ slotAt to i
-    front-long i h =
-        let l : length (take i (news from to s t old)) ≡ i = length-take-le i (news from to s t old) (omega (arith, news-many)) in
+    front_long : (i : ℕ) → i ≤ n → length (front from to s t old i) ≡ slot_at to i
+    front_long i h =
+        let l : length (take i (news from to s t old)) ≡ i = length-take-le i (news from to s t old) (omega (arith, news_many)) in
         simp length-append
         (omega (
           arith,
-          length-header to (length (storeIn from s .slots)) (storeIn from s .oldest) (storeIn from s .latest),
-          length-slots-bytes to (take i (news from to s t old)) (all-take (SlotForm to) i (news from to s t old) (w .each)),
-          ap (λ k. slotSize to * k) l,
+          length_header to (length (store_in from s).slots) (store_in from s).oldest (store_in from s).latest,
+          length_slots_bytes to (take i (news from to s t old)) (all_take (SlotForm to) i (news from to s t old) w.each),
+          ap (λ k. slot_size to * k) l,
         ))
 
-    pub putting-starts : {cur : Bytes} → cur ≡ written 0 (headerBytes to n (storeIn from s .oldest) (storeIn from s .latest)) old → Putting from to s t cur cur n 0
+    pub putting_starts : {cur : Bytes} → cur ≡ written 0 (header_bytes to n (store_in from s).oldest (store_in from s).latest) old → Putting from to s t cur cur n 0
     unfolding written
-    putting-starts {cur} p =
-        let hb = headerBytes to n (storeIn from s .oldest) (storeIn from s .latest) in
-        let many : n ≡ length (storeIn from s .slots) = e ∙ sym (slots-many from s) in
-        let long : length hb ≡ slotAt to 0 = omega (arith, length-header to n (storeIn from s .oldest) (storeIn from s .latest)) in
+    putting_starts {cur} p =
+        let hb = header_bytes to n (store_in from s).oldest (store_in from s).latest in
+        let many : n ≡ length (store_in from s).slots = e ∙ sym (slots_many from s) in
+        let long : length hb ≡ slot_at to 0 = omega (arith, length_header to n (store_in from s).oldest (store_in from s).latest) in
         let same : length cur ≡ length old =
         ap length p
-        ∙ length-written 0 hb old (omega (arith, length-header to n (storeIn from s .oldest) (storeIn from s .latest), size-least to (length old) (w .room .target)))
+        ∙ length_written 0 hb old (omega (arith, length_header to n (store_in from s).oldest (store_in from s).latest, size_least to (length old) w.room.target))
         in
-        let rest : drop (0 + length hb) old ≡ drop (slotAt to 0) cur = sym (ap (drop (slotAt to 0)) p ∙ drop-at hb (drop (0 + length hb) old) (slotAt to 0) long) in
+        let rest : drop (0 + length hb) old ≡ drop (slot_at to 0) cur = sym (ap (drop (slot_at to 0)) p ∙ drop_at hb (drop (0 + length hb) old) (slot_at to 0) long) in
         record {
           able = record {
-            room = record { source = w .room .source; target = rw same (w .room .target); equal = w .room .equal ∙ ap (roomOf to) (sym same) };
-            whole = w .whole;
-            each = w .each;
+            room = record { source = w.room.source; target = rw same w.room.target; equal = w.room.equal ∙ ap (room_of to) (sym same) };
+            whole = w.whole;
+            each = w.each;
           };
           many = e;
           within = omega arith;
           bytes =
-              p ∙ ap (hb ++_) rest
-              ∙ ap (λ m. headerBytes to m (storeIn from s .oldest) (storeIn from s .latest) ++ drop (slotAt to 0) cur) many
-              ∙ ap (_++ drop (slotAt to 0) cur) (sym (append-nil (headerBytes to (length (storeIn from s .slots)) (storeIn from s .oldest) (storeIn from s .latest))));
+              p ∙ ap (hb ++◌) rest
+              ∙ ap (λ m. header_bytes to m (store_in from s).oldest (store_in from s).latest ++ drop (slot_at to 0) cur) many
+              ∙ ap (◌++ drop (slot_at to 0) cur) (sym (append-nil (header_bytes to (length (store_in from s).slots) (store_in from s).oldest (store_in from s).latest)));
         }
 
   module _ {cur : Bytes} {n i : ℕ} (w : Putting from to s t old cur n i) where
-    pub putting-same : length cur ≡ length old
-    putting-same =
-        let h : slotAt to i ≤ length old = omega (arith, target-ends (w .able) (w .many), slots-up to i n (w .within)) in
-        let l : length (front from to s t old i ++ drop (slotAt to i) old) ≡ length old =
-        length-append (front from to s t old i) (drop (slotAt to i) old) ∙ simp length-drop (omega (arith, front-long (w .able) (w .many) i (w .within), h))
+    pub putting_same : length cur ≡ length old
+    putting_same =
+        let h : slot_at to i ≤ length old = omega (arith, target_ends w.able w.many, slots_up to i n w.within) in
+        let l : length (front from to s t old i ++ drop (slot_at to i) old) ≡ length old =
+        length-append (front from to s t old i) (drop (slot_at to i) old) ∙ simp length-drop (omega (arith, front_long w.able w.many i w.within, h))
         in
-        ap length (w .bytes) ∙ l
+        ap length w.bytes ∙ l
 
     module _ (h : i < n) where
-      pub putting-has : Has from s i
-      putting-has = record { size = w .able .room .source; inside = omega (arith, w .many) }
+      pub putting_has : Has from s i
+      putting_has = record { size = w.able.room.source; inside = omega (arith, w.many) }
 
-      pub putting-whole : (y : Bytes) → slotNo from i s ≡ spoiled y → ⊥
-      putting-whole y e = w .able .whole i y (omega (arith, slots-many from s, w .many)) e
+      pub putting_whole : (y : Bytes) → slot_no from i s ≡ spoiled y → ⊥
+      putting_whole y e = w.able.whole i y (omega (arith, slots_many from s, w.many)) e
 
-      after : slotAt to i + slotSize to ≤ length old
-      after = omega (arith, slot-before to i n h, target-ends (w .able) (w .many))
+      after : slot_at to i + slot_size to ≤ length old
+      after = omega (arith, slot_before to i n h, target_ends w.able w.many)
 
-      pub putting-within : SlotWithin to i cur
-      putting-within = rw putting-same after
+      pub putting_within : SlotWithin to i cur
+      putting_within = rw putting_same after
 
-      pub putting-next : {l m : ℕ} {u : Bytes} → l ≡ getD t (2 * i) 0 → m ≡ getD t (2 * i + 1) 0 →
-          u ≡ withSlot to i (tallied (record { leftward = l; rightward = m }) (slotNo from i s)) cur → Putting from to s t old u n (i + 1)
-      putting-next {l} {m} {u} a b p =
-          let inside : i < length (storeIn from s .slots) = omega (arith, slots-many from s, w .many) in
-          let new = tallied (tallyAt t i) (slotNo from i s) in
+      pub putting_next : {l m : ℕ} {u : Bytes} → l ≡ get_or t (2 * i) 0 → m ≡ get_or t (2 * i + 1) 0 →
+          u ≡ with_slot to i (tallied (record { leftward = l; rightward = m }) (slot_no from i s)) cur → Putting from to s t old u n (i + 1)
+      putting_next {l} {m} {u} a b p =
+          let inside : i < length (store_in from s).slots = omega (arith, slots_many from s, w.many) in
+          let new = tallied (tally_at t i) (slot_no from i s) in
           let zi : 0 + i ≡ i = omega arith in
-          let here : getD (news from to s t old) i free ≡ new =
-          tallied-at t 0 (storeIn from s .slots) i inside ∙ ap (λ k. tallied (tallyAt t k) (slotNo from i s)) zi
+          let here : get_or (news from to s t old) i free ≡ new =
+          tallied_at t 0 (store_in from s).slots i inside ∙ ap (λ k. tallied (tally_at t k) (slot_no from i s)) zi
           in
-          let there : i < length (news from to s t old) = omega (arith, news-many (w .able) (w .many)) in
-          let long : length (slotBytes to new) ≡ slotSize to =
-          length-slot to new (subst (SlotForm to) here (all-at (SlotForm to) (news from to s t old) free i (w .able .each) there))
+          let there : i < length (news from to s t old) = omega (arith, news_many w.able w.many) in
+          let long : length (slot_bytes to new) ≡ slot_size to =
+          length_slot to new (subst (SlotForm to) here (all_at (SlotForm to) (news from to s t old) free i w.able.each there))
           in
           let up : suc i ≡ i + 1 = omega arith in
           record {
-            able = w .able;
-            many = w .many;
+            able = w.able;
+            many = w.many;
             within = omega arith;
             bytes =
-                p ∙ ap₂ (λ x y. withSlot to i (tallied (record { leftward = x; rightward = y }) (slotNo from i s)) cur) a b
-                ∙ ap (withSlot to i new) (w .bytes)
-                ∙ front-grows (front from to s t old i) (slotBytes to new) old (slotAt to i) (slotSize to) (front-long (w .able) (w .many) i (w .within)) long after
-                ∙ ap₂ _++_
-                (append-assoc (headerBytes to (length (storeIn from s .slots)) (storeIn from s .oldest) (storeIn from s .latest)) (slotsBytes to (take i (news from to s t old))) (slotBytes to new)
-                ∙ ap (headerBytes to (length (storeIn from s .slots)) (storeIn from s .oldest) (storeIn from s .latest) ++_)
-                (ap (λ y. slotsBytes to (take i (news from to s t old)) ++ slotBytes to y) (sym here) ∙ sym (slots-more to (news from to s t old) i there)
-                ∙ ap (λ k. slotsBytes to (take k (news from to s t old))) up))
-                (ap (λ k. drop k old) (slot-next to i));
+                p ∙ ap₂ (λ x y. with_slot to i (tallied (record { leftward = x; rightward = y }) (slot_no from i s)) cur) a b
+                ∙ ap (with_slot to i new) w.bytes
+                ∙ front_grows (front from to s t old i) (slot_bytes to new) old (slot_at to i) (slot_size to) (front_long w.able w.many i w.within) long after
+                ∙ ap₂ ◌++◌
+                (append_assoc (header_bytes to (length (store_in from s).slots) (store_in from s).oldest (store_in from s).latest) (slots_bytes to (take i (news from to s t old))) (slot_bytes to new)
+                ∙ ap (header_bytes to (length (store_in from s).slots) (store_in from s).oldest (store_in from s).latest ++◌)
+                (ap (λ y. slots_bytes to (take i (news from to s t old)) ++ slot_bytes to y) (sym here) ∙ sym (slots_more to (news from to s t old) i there)
+                ∙ ap (λ k. slots_bytes to (take k (news from to s t old))) up))
+                (ap (λ k. drop k old) (slot_next to i));
           }
 
-    pub putting-done : n ≤ i → cur ≡ storeBytes (talliedAs to t (storeIn from s))
-    unfolding storeBytes
-    putting-done h =
-        let e : n ≡ i = omega (arith, w .within) in
-        let all : take i (news from to s t old) ≡ news from to s t old = take-all i (news from to s t old) (omega (arith, news-many (w .able) (w .many))) in
-        let none : drop (slotAt to i) old ≡ [] = drop-of-length-le old {i = slotAt to i} (omega (arith, target-ends (w .able) (w .many), ap (slotAt to) e)) in
-        let many : length (storeIn from s .slots) ≡ length (news from to s t old) = sym (length-tallied t 0 (storeIn from s .slots)) in
-        w .bytes
-        ∙ ap₂ (λ xs r. (headerBytes to (length (storeIn from s .slots)) (storeIn from s .oldest) (storeIn from s .latest) ++ slotsBytes to xs) ++ r) all none
+    pub putting_done : n ≤ i → cur ≡ store_bytes (tallied_as to t (store_in from s))
+    unfolding store_bytes
+    putting_done h =
+        let e : n ≡ i = omega (arith, w.within) in
+        let all : take i (news from to s t old) ≡ news from to s t old = take_all i (news from to s t old) (omega (arith, news_many w.able w.many)) in
+        let none : drop (slot_at to i) old ≡ [] = drop_of_length-le old {i = slot_at to i} (omega (arith, target_ends w.able w.many, ap (slot_at to) e)) in
+        let many : length (store_in from s).slots ≡ length (news from to s t old) = sym (length_tallied t 0 (store_in from s).slots) in
+        w.bytes
+        ∙ ap₂ (λ xs r. (header_bytes to (length (store_in from s).slots) (store_in from s).oldest (store_in from s).latest ++ slots_bytes to xs) ++ r) all none
         ∙ append-nil _
-        ∙ ap (λ k. headerBytes to k (storeIn from s .oldest) (storeIn from s .latest) ++ slotsBytes to (news from to s t old)) many
+        ∙ ap (λ k. header_bytes to k (store_in from s).oldest (store_in from s).latest ++ slots_bytes to (news from to s t old)) many

@@ -1,21 +1,17 @@
 // A store written in the other form, document 02, request 2026-10: each record in its slot, as it was, with the counts that a table has for it.
+#![tactic(auto)]
+
+ghost use Rattle.std.specs.Prelude.{◌≡◌};
+ghost use Rattle.terms.specs.Bits.{Bytes};
+ghost use Rattle.terms.specs.Records.{spoiled, tally};
+ghost use Rattle.layout.specs.Stores.{store_in, store_bytes, slot_no, Has, SlotWithin, with_slot};
+ghost use Rattle.move_put.specs.Put.{tallied, tallied_as, Movable};
+
 use header::put_header;
-use slots::Kind;
-use slots::grant_of;
-use slots::read_slot;
-use store::latest_of;
-use store::oldest_of;
-use store::slot_count;
-use store::slot_of;
-use store_put::clear_slot_at;
-use store_put::put_inner_at;
-use store_put::put_leaf_at;
+use slots::{Kind, grant_of, read_slot};
+use store::{latest_of, oldest_of, slot_count, slot_of};
+use store_put::{clear_slot_at, put_inner_at, put_leaf_at};
 use terms::Form;
-ghost use mathlib.Core.Path.{_≡_};
-ghost use Rattle·terms.specs.Bits.{Bytes};
-ghost use Rattle·terms.specs.Records.{spoiled, tally};
-ghost use Rattle·layout.specs.Stores.{storeIn, storeBytes, slotNo, Has, SlotWithin, withSlot};
-ghost use Rattle·move_put·specs.specs.Put.{tallied, talliedAs, Movable};
 
 // Writes slot i of the target: what slot i of the source holds, with these counts where it is an inner record.
 fn put_slot(
@@ -27,8 +23,8 @@ fn put_slot(
     lefts: u32,
     rights: u32,
 )
-    requires { ⌜ Has from (now source) i × ((x : Bytes) → slotNo from i (now source) ≡ spoiled x → ⊥) × SlotWithin to i (now target) ⌝ }
-    ensures { λ _. ⌜ now (target .exit) ≡ withSlot to i (tallied (tally lefts rights) (slotNo from i (now (source .entry)))) (now (target .entry)) ⌝ }
+    requires { Has from source.now i × ((x : Bytes) → slot_no from i source.now ≡ spoiled x → ⊥) × SlotWithin to i target.old }
+    ensures { target.new ≡ with_slot to i (tallied (tally lefts rights) (slot_no from i source.now)) target.old }
 {
     let s = slot_of(from, source, i);
     let slot = read_slot(s);
@@ -68,15 +64,15 @@ fn put_slot(
 }
 
 fn wide(x: u16) -> u32
-    ensures { λ r. ⌜ r ≡ x ⌝ }
+    ensures { result ≡ x }
 {
     x as u32
 }
 
 // Writes the target whole: the header, and each slot.
 pub fn put_store(from: Form, to: Form, source: &[u8], counts: &[u16; 32768], target: &mut [u8])
-    requires { ⌜ Movable from to (now source) (now counts) (now target) ⌝ }
-    ensures { λ _. ⌜ now (target .exit) ≡ storeBytes (talliedAs to (now (counts .entry)) (storeIn from (now (source .entry)))) ⌝ }
+    requires { Movable from to source.now counts.now target.old }
+    ensures { target.new ≡ store_bytes (tallied_as to counts.now (store_in from source.now)) }
 {
     let n = slot_count(from, source);
     put_header(to, target, n as u32, oldest_of(source), latest_of(source));

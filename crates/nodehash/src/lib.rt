@@ -1,35 +1,32 @@
 // The hash of a leaf and of an inner node, from hashes as numbers: no message is put together in memory.
-ghost use mathlib.Core.Path.{_≡_};
-ghost use Prim.Native.Nat.{_+_, _*_, _%_, _<_};
-ghost use lib.ListN.{length, take, drop};
-ghost use Rattle·hash.specs.Hash.{hashBytes};
-ghost use Rattle·sha256.specs.Sha256.{padded, sha256};
-ghost use Rattle·sha256.specs.Rolling.{blockAt};
-ghost use Rattle·nodehash·specs.specs.Node.{leafHash, innerHash};
-ghost use Rattle·nodehash·specs.specs.Words.{message, seamWord, middleWord};
-use hash::Hash;
-use hash::hash_at;
-use sha256::Words;
-use sha256::compress;
-use sha256::start;
-use sha256::to_hash;
+#![tactic(auto)]
+
+ghost use Rattle.std.specs.Prelude.{◌≡◌, ◌+◌, ◌*◌, ◌%◌, ◌<◌, length, take, drop};
+ghost use Rattle.hash.specs.Hash.{hash_bytes};
+ghost use Rattle.sha256.specs.Sha256.{padded, sha256};
+ghost use Rattle.sha256.specs.Rolling.{block_at};
+ghost use Rattle.nodehash.specs.Node.{leaf_hash, inner_hash};
+ghost use Rattle.nodehash.specs.Words.{message, seam_word, middle_word};
+
+use hash::{Hash, hash_at};
+use sha256::{Words, compress, start, to_hash};
 use sha256_second_block::compress_second;
 
 fn seam(x: u64, y: u64) -> u32
-    ensures { λ v. ⌜ v ≡ seamWord x y ⌝ }
+    ensures { result ≡ seam_word x y }
 {
     (x % 256 * 0x100_0000 + y / 0x100_0000_0000 % 0x100_0000) as u32
 }
 
 fn middle(x: u64) -> u32
-    ensures { λ v. ⌜ v ≡ middleWord x ⌝ }
+    ensures { result ≡ middle_word x }
 {
     (x / 256 % 0x1_0000_0000) as u32
 }
 
 pub fn first_words(t: u64, l: Hash, r: Hash) -> Words
-    requires { ⌜ t < 256 ⌝ }
-    ensures { λ v. ⌜ v ≡ blockAt (padded (message t l r)) 0 ⌝ }
+    requires { t < 256 }
+    ensures { result ≡ block_at (padded (message t l r)) 0 }
 {
     Words {
         w0: seam(t, l.a),
@@ -53,15 +50,15 @@ pub fn first_words(t: u64, l: Hash, r: Hash) -> Words
 
 // The first word of the second block: the message's last byte, and the byte 128.
 pub fn last_word(x: u64) -> u32
-    ensures { λ v. ⌜ v ≡ x % 256 * 16777216 + 8388608 ⌝ }
+    ensures { result ≡ x % 256 * 16777216 + 8388608 }
 {
     (x % 256 * 0x100_0000 + 0x80_0000) as u32
 }
 
 // SHA-256 of the byte t and the two hashes.
 fn node_hash(t: u64, l: Hash, r: Hash) -> Hash
-    requires { ⌜ t < 256 ⌝ }
-    ensures { λ v. ⌜ hashBytes v ≡ sha256 (message t l r) ⌝ }
+    requires { t < 256 }
+    ensures { hash_bytes result ≡ sha256 (message t l r) }
 {
     let s = compress(start(), first_words(t, l, r));
     to_hash(compress_second(s, last_word(r.d)))
@@ -69,22 +66,22 @@ fn node_hash(t: u64, l: Hash, r: Hash) -> Hash
 
 // The hash of the leaf of a grant, given as its key and its value one after the other, as a slot, a batch and a proof have them.
 pub fn leaf_hash(grant: &[u8]) -> Hash
-    requires { ⌜ length (now grant) ≡ 64 ⌝ }
-    ensures { λ v. ⌜ hashBytes v ≡ leafHash (take 32 (now (grant .entry))) (drop 32 (now (grant .entry))) ⌝ }
+    requires { length grant.now ≡ 64 }
+    ensures { hash_bytes result ≡ leaf_hash (take 32 grant.now) (drop 32 grant.now) }
 {
     node_hash(1, hash_at(grant, 0), hash_at(grant, 32))
 }
 
 // The same, of a key and a value by their numbers.
 pub fn grant_hash(key: Hash, value: Hash) -> Hash
-    ensures { λ v. ⌜ hashBytes v ≡ leafHash (hashBytes key) (hashBytes value) ⌝ }
+    ensures { hash_bytes result ≡ leaf_hash (hash_bytes key) (hash_bytes value) }
 {
     node_hash(1, key, value)
 }
 
 // The hash of an inner node, given its children's hashes.
 pub fn inner_hash(l: Hash, r: Hash) -> Hash
-    ensures { λ v. ⌜ hashBytes v ≡ innerHash (hashBytes l) (hashBytes r) ⌝ }
+    ensures { hash_bytes result ≡ inner_hash (hash_bytes l) (hash_bytes r) }
 {
     node_hash(0, l, r)
 }

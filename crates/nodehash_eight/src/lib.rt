@@ -1,25 +1,21 @@
 // The hashes of eight nodes side by side: two runs over eight lanes.
+#![tactic(auto)]
+
+ghost use Rattle.std.specs.Prelude.{◌≡◌, ◌<◌, length};
+ghost use Rattle.hash.specs.Hash.{hash_bytes};
+ghost use Rattle.sha256.specs.Sha256.{sha256, state_bytes};
+ghost use Rattle.sha256_second_start.specs.Second.{second_block};
+ghost use Rattle.sha256_eight.specs.Lanes.{value_inside};
+ghost use Rattle.nodehash.specs.Words.{message};
+ghost use Rattle.nodehash_eight.specs.Eight.{Put, Starts, SecondBlocks, AllHashed};
+
 use hash::Hash;
-use nodehash::first_words;
-use nodehash::last_word;
-use sha256::Words;
-use sha256::start;
-use sha256::to_hash;
-use sha256_eight::compress_eight;
-use sha256_eight::put_value;
-use sha256_eight::put_words;
-use sha256_eight::value_in;
-ghost use mathlib.Core.Path.{_≡_};
-ghost use Prim.Native.Nat.{_<_};
-ghost use lib.ListN.{length};
-ghost use Rattle·hash.specs.Hash.{hashBytes};
-ghost use Rattle·sha256.specs.Sha256.{sha256, stateBytes};
-ghost use Rattle·sha256_second_start.specs.Second.{secondBlock};
-ghost use Rattle·sha256_eight.specs.Lanes.{valueIn};
-ghost use Rattle·nodehash.specs.Words.{message};
-ghost use Rattle·nodehash_eight·specs.specs.Eight.{Put, Starts, SecondBlocks, AllHashed};
+use nodehash::{first_words, last_word};
+use sha256::{Words, start, to_hash};
+use sha256_eight::{compress_eight, put_value, put_words, value_in};
 
 // A message of 65 bytes: a byte that tells its kind, and two hashes.
+#[derive(Clone, Copy)]
 pub struct Message {
     pub kind: u64,
     pub left: Hash,
@@ -28,15 +24,15 @@ pub struct Message {
 
 // Lane l has this message: its first block, and after the eight blocks the first word of its second, whose others are known.
 pub fn put_message(x: &mut [u32; 136], l: usize, m: Message)
-    requires { ⌜ (length (now x) ≡ 136) × (l < 8) × (m .kind < 256) ⌝ }
-    ensures { λ _. ⌜ Put (now (x .entry)) (now (x .exit)) l (sha256 (message (m .kind) (m .left) (m .right))) ⌝ }
+    requires { (length x.old ≡ 136) × (l < 8) × (m.kind < 256) }
+    ensures { Put x.old x.new l (sha256 (message m.kind m.left m.right)) }
 {
     put_words(x, l, first_words(m.kind, m.left, m.right));
     x[128 + l] = last_word(m.right.d);
 }
 
 fn starts() -> [u32; 64]
-    ensures { λ r. ⌜ Starts 8 r ⌝ }
+    ensures { Starts 8 result }
 {
     let mut r = [0u32; 64];
     for l in 0..8 {
@@ -47,7 +43,7 @@ fn starts() -> [u32; 64]
 
 // The words of a second block, from the first of them.
 fn second_words(w: u32) -> Words
-    ensures { λ v. ⌜ v ≡ secondBlock w ⌝ }
+    ensures { result ≡ second_block w }
 {
     Words {
         w0: w,
@@ -70,7 +66,7 @@ fn second_words(w: u32) -> Words
 }
 
 fn second_blocks(x: &[u32; 136]) -> [u32; 136]
-    ensures { λ r. ⌜ SecondBlocks (now (x .entry)) 8 r ⌝ }
+    ensures { SecondBlocks x.now 8 result }
 {
     let mut r = [0u32; 136];
     for l in 0..8 {
@@ -81,7 +77,7 @@ fn second_blocks(x: &[u32; 136]) -> [u32; 136]
 
 // The hash values of eight messages.
 pub fn eight_hashes(x: &[u32; 136]) -> [u32; 64]
-    ensures { λ r. ⌜ AllHashed (now (x .entry)) r ⌝ }
+    ensures { AllHashed x.now result }
 {
     let z = starts();
     let s = compress_eight(&z, x);
@@ -91,8 +87,8 @@ pub fn eight_hashes(x: &[u32; 136]) -> [u32; 64]
 
 // The hash of lane l.
 pub fn hash_in(s: &[u32; 64], l: usize) -> Hash
-    requires { ⌜ l < 8 ⌝ }
-    ensures { λ r. ⌜ hashBytes r ≡ stateBytes (valueIn (now (s .entry)) l) ⌝ }
+    requires { l < 8 }
+    ensures { hash_bytes result ≡ state_bytes (value_inside s.now l) }
 {
     to_hash(value_in(s, l))
 }

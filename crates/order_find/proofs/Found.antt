@@ -1,88 +1,88 @@
 -- Where the search by an ordered table ends: the entry has the node, or no slot has it. Assumes nothing.
-use Prim.Native.Nat.{ℕ, _<_, _≤_}
+use Prim.Native.Nat.{ℕ, ◌<◌, ◌≤◌}
 use native.Mathlib.Omega.{arith}
-use mathlib.Core.Path.{_≡_, ap, ap₂, sym, _∙_, subst}
+use mathlib.Core.Path.{◌≡◌, ap, ap₂, sym, ◌∙◌, subst}
 use mathlib.Core.Bool.{true}
 use mathlib.Core.List.{List}
-use lib.ListN.{length, getD}
-use Rattle·terms.specs.declared.Form.the-variants.{Counted as counted}
-use Rattle·terms.specs.Bits.{Bytes, Byte, All, Place, before}
-use Rattle·terms.specs.Records.{Body, leafBody, innerBody, Record, free, used}
-use Rattle·terms.specs.Form.{placeLimit}
-use Rattle·terms.proofs.Order.{before-irrefl}
-use Rattle·meaning.specs.Store.{isNode}
-use Rattle·place.specs.declared.Place as declared-place
-use Rattle·place.specs.Place.{placeOf, Proper}
-use Rattle·place.proofs.Places.{proper-count}
-use Rattle·layout.specs.Headers.{sizeRight}
-use Rattle·layout.specs.Stores.{slotIn, storeOf, Has}
-use Rattle·store.proofs.Slots.{slot-long, slot-bytes, slot-within, slot-is}
-use Rattle·lookup.specs.Lookup.{FoundIn}
-use Rattle·lookup.specs.declared.Found.the-variants.{At, Nothing}
-use Rattle·lookup.proofs.Matching.{says}
-use Rattle·ordered.specs.Ordered.{nodeKey, keyNo, Ordered, Between}
-use Rattle·ordered.proofs.Ordered.{key-node, first-lowest, first-found, first-none}
-use Rattle·order_look.specs.Looks.{headKey, keyIn, Stands}
-use Rattle·order_look.specs.declared.Look as declared
-use Rattle·order_look.specs.declared.Look.the-variants.{Before, After, Same}
-use Rattle·order_look.proofs.Keys.{inside}
-use Rattle·order_halves.proofs.Looked.{place-key, entry-has, mine as its-key, said as its-look}
-use Rattle·order_find·specs.specs.Finds.{NoLower}
+use lib.ListN.{length, get_or}
+use Rattle.terms.specs.declared.Form.TheVariants.{Counted as counted}
+use Rattle.terms.specs.Bits.{Bytes, Byte, All, Place, before}
+use Rattle.terms.specs.Records.{Body, leaf_body, inner_body, Record, free, used}
+use Rattle.terms.specs.Form.{place_limit}
+use Rattle.terms.proofs.Order.{before_irrefl}
+use Rattle.meaning.specs.Store.{is_node}
+use Rattle.place.specs.declared.Place as declared-place
+use Rattle.place.specs.Place.{place_of, Proper}
+use Rattle.place.proofs.Places.{proper_count}
+use Rattle.layout.specs.Headers.{size_right}
+use Rattle.layout.specs.Stores.{slot_in, store_of, Has}
+use Rattle.store.proofs.Slots.{slot_long, slot_bytes_lem, slot_within, slot_is}
+use Rattle.lookup.specs.Lookup.{FoundIn}
+use Rattle.lookup.specs.declared.Found.TheVariants.{At, Nothing}
+use Rattle.lookup.proofs.Matching.{says}
+use Rattle.ordered.specs.Ordered.{node_key, key_no, Ordered, Between}
+use Rattle.ordered.proofs.Ordered.{key_node, first_lowest, first_found, first_none}
+use Rattle.order_look.specs.Looks.{head_key, key_in, Stands}
+use Rattle.order_look.specs.declared.Look as declared
+use Rattle.order_look.specs.declared.Look.TheVariants.{Before, After, Same}
+use Rattle.order_look.proofs.Keys.{inside}
+use Rattle.order_halves.proofs.Looked.{place_key, entry_has, mine as its_key, said as its-look}
+use Rattle.order_find.specs.Finds.{NoLower}
 
-limit : (b : Body) → placeLimit b ≤ 256
-limit (leafBody k x) = omega arith
-limit (innerBody l r) = omega arith
+limit : (b : Body) → place_limit b ≤ 256
+limit (leaf_body k x) = omega arith
+limit (inner_body l r) = omega arith
 
 -- the place of a record in form has at most 256 bits
-record-short : {s : Bytes} {i : ℕ} → All Byte s → Has counted s i → (r : Record) → getD (storeOf s .slots) i free ≡ used r → length (r .place) ≤ 256
-record-short {s} {i} b has r e =
-    let w = says {fm = counted} (slotIn counted i s) (slot-long counted i s (slot-within has)) (slot-bytes counted i s b) r (sym (slot-is has) ∙ e) in
-    omega (arith, w .form .short, limit (r .body))
+record_short : {s : Bytes} {i : ℕ} → All Byte s → Has counted s i → (r : Record) → get_or (store_of s).slots i free ≡ used r → length r.place ≤ 256
+record_short {s} {i} b has r e =
+    let w = says {fm = counted} (slot_in counted i s) (slot_long counted i s (slot_within has)) (slot_bytes_lem counted i s b) r (sym (slot_is has) ∙ e) in
+    omega (arith, w.form.short, limit r.body)
 
-module _ (s : Bytes) {t : List ℕ} {n : ℕ} (size : sizeRight counted (length s) ≡ true) (o : Ordered (storeOf s .slots) t n) where
-  module _ (b : All Byte s) (v : ℕ) (p : declared-place.Place) (proper : Proper p) (k : ℕ) (h : k < n) {i : ℕ} (e : i ≡ getD t k 0)
-      (r : declared.Look) (w : Stands r (slotIn counted i s) (headKey (p .count) (p .bits) v)) where
-    mine : keyIn (slotIn counted i s) ≡ keyNo (storeOf s .slots) (getD t k 0)
-    mine = its-key s size o b v p proper k h e r w
+module _ (s : Bytes) {t : List ℕ} {n : ℕ} (size : size_right counted (length s) ≡ true) (o : Ordered (store_of s).slots t n) where
+  module _ (b : All Byte s) (v : ℕ) (p : declared-place.Place) (proper : Proper p) (k : ℕ) (h : k < n) {i : ℕ} (e : i ≡ get_or t k 0)
+      (r : declared.Look) (w : Stands r (slot_in counted i s) (head_key p.count p.bits v)) where
+    mine : key_in (slot_in counted i s) ≡ key_no (store_of s).slots (get_or t k 0)
+    mine = its_key s size o b v p proper k h e r w
 
-    said : (l : declared.Look) → r ≡ l → Stands l (slotIn counted i s) (headKey (p .count) (p .bits) v)
+    said : (l : declared.Look) → r ≡ l → Stands l (slot_in counted i s) (head_key p.count p.bits v)
     said = its-look s size o b v p proper k h e r w
 
-    module _ (first : Between (storeOf s .slots) t n (nodeKey v (placeOf p)) k k) where
-      node : r ≡ Same → isNode v (placeOf p) (o .names k h .0) ≡ true
+    module _ (first : Between (store_of s).slots t n (node_key v (place_of p)) k k) where
+      node : r ≡ Same → is_node v (place_of p) (o.names k h).0 ≡ true
       node f =
-          let held = o .names k h in
-          key-node (storeOf s .slots) (getD t k 0) (held .0) v (placeOf p) (held .1) (record-short b (entry-has s size o k h) (held .0) (held .1))
-          (omega (arith, proper .short, proper-count p proper)) (sym mine ∙ said Same f ∙ place-key v p proper)
+          let held = o.names k h in
+          key_node (store_of s).slots (get_or t k 0) held.0 v (place_of p) held.1 (record_short b (entry_has s size o k h) held.0 held.1)
+          (omega (arith, proper.short, proper_count p proper)) (sym mine ∙ said Same f ∙ place_key v p proper)
 
       -- The slot of the first entry that isn't before the node has it: it is found, and no lower slot has it.
-      pub found-here : r ≡ Same → FoundIn (storeOf s .slots) v (placeOf p) (At i) × NoLower (storeOf s .slots) v (placeOf p) (At i)
-      found-here f =
-          let held = o .names k h in
-          let q = held .0 in
-          let st = storeOf s .slots in (
+      pub found_here : r ≡ Same → FoundIn (store_of s).slots v (place_of p) (At i) × NoLower (store_of s).slots v (place_of p) (At i)
+      found_here f =
+          let held = o.names k h in
+          let q = held.0 in
+          let st = (store_of s).slots in (
             (
-              subst (λ z. z < length st) (sym e) (inside st (getD t k 0) q (held .1)),
-              (q, ap (λ z. getD st z free) e ∙ held .1, first-found o v (placeOf p) first (omega arith) q (held .1) (node f)),
+              subst (λ z. z < length st) (sym e) (inside st (get_or t k 0) q held.1),
+              (q, ap (λ z. get_or st z free) e ∙ held.1, first_found o v (place_of p) first (omega arith) q held.1 (node f)),
             ),
-            λ j x l. first-lowest o v (placeOf p) first (omega arith) q (held .1) (node f) j x (subst (λ z. j < z) e l),
+            λ j x l. first_lowest o v (place_of p) first (omega arith) q held.1 (node f) j x (subst (λ z. j < z) e l),
           )
 
       -- It has another: none is found.
-      pub none-before : r ≡ Before → FoundIn (storeOf s .slots) v (placeOf p) Nothing × NoLower (storeOf s .slots) v (placeOf p) Nothing
-      none-before f = (
-        first-none o v (placeOf p) first (omega arith)
-            (λ l g. before-irrefl (nodeKey v (placeOf p)) (subst (λ z. before z (nodeKey v (placeOf p)) ≡ true) g (sym (ap₂ before mine (place-key v p proper)) ∙ said Before f))),
+      pub none_before : r ≡ Before → FoundIn (store_of s).slots v (place_of p) Nothing × NoLower (store_of s).slots v (place_of p) Nothing
+      none_before f = (
+        first_none o v (place_of p) first (omega arith)
+            (λ l g. before_irrefl (node_key v (place_of p)) (subst (λ z. before z (node_key v (place_of p)) ≡ true) g (sym (ap₂ before mine (place_key v p proper)) ∙ said Before f))),
         tt,
       )
 
-      pub none-after : r ≡ After → FoundIn (storeOf s .slots) v (placeOf p) Nothing × NoLower (storeOf s .slots) v (placeOf p) Nothing
-      none-after f = (
-        first-none o v (placeOf p) first (omega arith)
-            (λ l g. before-irrefl (nodeKey v (placeOf p)) (subst (λ z. before (nodeKey v (placeOf p)) z ≡ true) g (sym (ap₂ before (place-key v p proper) mine) ∙ said After f))),
+      pub none_after : r ≡ After → FoundIn (store_of s).slots v (place_of p) Nothing × NoLower (store_of s).slots v (place_of p) Nothing
+      none_after f = (
+        first_none o v (place_of p) first (omega arith)
+            (λ l g. before_irrefl (node_key v (place_of p)) (subst (λ z. before (node_key v (place_of p)) z ≡ true) g (sym (ap₂ before (place_key v p proper) mine) ∙ said After f))),
         tt,
       )
 
   -- All entries are before the node.
-  pub none-left : (v : ℕ) (p : Place) (k : ℕ) → n ≤ k → Between (storeOf s .slots) t n (nodeKey v p) k k → FoundIn (storeOf s .slots) v p Nothing × NoLower (storeOf s .slots) v p Nothing
-  none-left v p k l first = (first-none o v p first (omega arith) (λ h g. absurd (omega arith)), tt)
+  pub none_left : (v : ℕ) (p : Place) (k : ℕ) → n ≤ k → Between (store_of s).slots t n (node_key v p) k k → FoundIn (store_of s).slots v p Nothing × NoLower (store_of s).slots v p Nothing
+  none_left v p k l first = (first_none o v p first (omega arith) (λ h g. absurd (omega arith)), tt)

@@ -1,27 +1,25 @@
 // Finding a node by an ordered table: the first entry that isn't before the node is guessed or searched for by halves, so of slots with the same node the lowest is found.
+#![tactic(auto)]
+
+ghost use Rattle.std.specs.Prelude.{◌≡◌, true, ◌≤◌, length};
+ghost use Rattle.place.specs.Place.{place_of, Proper};
+ghost use Rattle.layout.specs.Headers.{size_right};
+ghost use Rattle.layout.specs.Stores.{store_of};
+ghost use Rattle.lookup.specs.Lookup.{FoundIn};
+ghost use Rattle.ordered.specs.Ordered.{node_key, Ordered};
+ghost use Rattle.order_halves.specs.First.{First};
+ghost use Rattle.order_find.specs.Finds.{NoLower};
+
 use lookup::Found;
-use order_look::Look;
-use order_look::compared;
+use order_look::{Look, compared};
 use order_near::first_near;
 use place::Place;
-use store::version_at;
-use store::wide;
+use store::{version_at, wide};
 use terms::Form;
-ghost use mathlib.Core.Path.{_≡_};
-ghost use mathlib.Core.Bool.{true};
-ghost use Prim.Native.Nat.{_≤_};
-ghost use lib.ListN.{length};
-ghost use Rattle·place.specs.Place.{placeOf, Proper};
-ghost use Rattle·layout.specs.Headers.{sizeRight};
-ghost use Rattle·layout.specs.Stores.{storeOf};
-ghost use Rattle·lookup.specs.Lookup.{FoundIn};
-ghost use Rattle·ordered.specs.Ordered.{nodeKey, Ordered};
-ghost use Rattle·order_halves.specs.First.{First};
-ghost use Rattle·order_find·specs.specs.Finds.{NoLower};
 
 // A guess where the root of a version is, right where numbers have no gaps: roots stand first in the order, by version. For another place none.
 fn root_guess(store: &[u8], table: &[u16; 16384], many: usize, version: u32, place: Place) -> usize
-    requires { ⌜ (sizeRight Form.Counted (length (now store)) ≡ true) × (many ≤ 16384) × Ordered (storeOf (now store) .slots) (now table) many × Proper place ⌝ }
+    requires { (size_right Form.Counted (length store.now) ≡ true) × (many ≤ 16384) × Ordered (store_of store.now).slots table.now many × Proper place }
 {
     if place.count != 0 {
         return many;
@@ -38,8 +36,8 @@ fn root_guess(store: &[u8], table: &[u16; 16384], many: usize, version: u32, pla
 
 // The first entry that isn't before a version and place.
 pub fn first(store: &[u8], table: &[u16; 16384], many: usize, version: u32, place: Place) -> usize
-    requires { ⌜ (sizeRight Form.Counted (length (now store)) ≡ true) × (many ≤ 16384) × Ordered (storeOf (now store) .slots) (now table) many × Proper place ⌝ }
-    ensures { λ r. ⌜ First (storeOf (now (store .entry)) .slots) (now (table .entry)) many (nodeKey version (placeOf place)) r ⌝ }
+    requires { (size_right Form.Counted (length store.now) ≡ true) × (many ≤ 16384) × Ordered (store_of store.now).slots table.now many × Proper place }
+    ensures { First (store_of store.now).slots table.now many (node_key version (place_of place)) result }
 {
     let near = root_guess(store, table, many, version, place);
     first_near(store, table, many, near, version, place)
@@ -54,8 +52,8 @@ pub fn find_first(
     version: u32,
     place: Place,
 ) -> Found
-    requires { ⌜ (sizeRight Form.Counted (length (now store)) ≡ true) × (many ≤ 16384) × Ordered (storeOf (now store) .slots) (now table) many × Proper place × First (storeOf (now store) .slots) (now table) many (nodeKey version (placeOf place)) k ⌝ }
-    ensures { λ r. ⌜ FoundIn (storeOf (now (store .entry)) .slots) version (placeOf place) r × NoLower (storeOf (now (store .entry)) .slots) version (placeOf place) r ⌝ }
+    requires { (size_right Form.Counted (length store.now) ≡ true) × (many ≤ 16384) × Ordered (store_of store.now).slots table.now many × Proper place × First (store_of store.now).slots table.now many (node_key version (place_of place)) k }
+    ensures { FoundIn (store_of store.now).slots version (place_of place) result × NoLower (store_of store.now).slots version (place_of place) result }
 {
     if many <= k {
         return Found::Nothing;
@@ -73,8 +71,8 @@ pub fn find_first(
 
 // The lowest slot that matches a version and place, as `find` finds it, by a table that names the slots in form in their order.
 pub fn find_by(store: &[u8], table: &[u16; 16384], many: usize, version: u32, place: Place) -> Found
-    requires { ⌜ (sizeRight Form.Counted (length (now store)) ≡ true) × (many ≤ 16384) × Ordered (storeOf (now store) .slots) (now table) many × Proper place ⌝ }
-    ensures { λ r. ⌜ FoundIn (storeOf (now (store .entry)) .slots) version (placeOf place) r × NoLower (storeOf (now (store .entry)) .slots) version (placeOf place) r ⌝ }
+    requires { (size_right Form.Counted (length store.now) ≡ true) × (many ≤ 16384) × Ordered (store_of store.now).slots table.now many × Proper place }
+    ensures { FoundIn (store_of store.now).slots version (place_of place) result × NoLower (store_of store.now).slots version (place_of place) result }
 {
     let k = first(store, table, many, version, place);
     find_first(store, table, many, k, version, place)

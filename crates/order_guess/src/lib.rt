@@ -1,23 +1,21 @@
 // A table to find by, made for one call on its own stack: a sort guesses the order, a look says whether it is right, and where it isn't there is no table.
+#![tactic(auto)]
+
+ghost use Rattle.std.specs.Prelude.{◌≡◌, true, ◌≤◌, length};
+ghost use Rattle.layout.specs.Headers.{size_right};
+ghost use Rattle.layout.specs.Stores.{store_of};
+ghost use Rattle.check_pass.specs.Passes.{Room};
+ghost use Rattle.ordered.specs.Ordered.{Guide};
+
 use check_sort::sort;
-use order_table::names_form;
-use order_table::ordered;
-use store::slot_count;
-use store::wide;
+use order_table::{names_form, ordered};
+use store::{slot_count, wide};
 use terms::Form;
-ghost use mathlib.Core.Path.{_≡_};
-ghost use mathlib.Core.Bool.{true};
-ghost use Prim.Native.Nat.{_≤_};
-ghost use lib.ListN.{length};
-ghost use Rattle·layout.specs.Headers.{sizeRight};
-ghost use Rattle·layout.specs.Stores.{storeOf};
-ghost use Rattle·check_pass.specs.Passes.{Room};
-ghost use Rattle·ordered.specs.Ordered.{Guide};
 
 // An entry put into the row behind the first `many`, where it is to stay.
 fn put(table: &mut [u16; 16384], many: usize, i: u16, stays: bool) -> usize
-    requires { ⌜ many ≤ 16384 ⌝ }
-    ensures { λ r. ⌜ r ≤ 16384 ⌝ }
+    requires { many ≤ 16384 }
+    ensures { result ≤ 16384 }
 {
     if !stays {
         return many;
@@ -31,8 +29,8 @@ fn put(table: &mut [u16; 16384], many: usize, i: u16, stays: bool) -> usize
 
 // The entries that name slots in form, in the order they had, and how many there are.
 fn in_form(store: &[u8], n: usize, table: &mut [u16; 16384], many: usize) -> usize
-    requires { ⌜ Room Form.Counted (now store) n × (many ≤ 16384) ⌝ }
-    ensures { λ r. ⌜ r ≤ 16384 ⌝ }
+    requires { Room Form.Counted store.now n × (many ≤ 16384) }
+    ensures { result ≤ 16384 }
 {
     let mut kept = 0;
     let mut k = 0;
@@ -47,8 +45,8 @@ fn in_form(store: &[u8], n: usize, table: &mut [u16; 16384], many: usize) -> usi
 
 // A guess at the table: the slots in form by bit count, bits, version and number, and how many there are.
 fn guess_order(store: &[u8], table: &mut [u16; 16384], spare: &mut [u16; 16384]) -> usize
-    requires { ⌜ sizeRight Form.Counted (length (now store)) ≡ true ⌝ }
-    ensures { λ r. ⌜ r ≤ 16384 ⌝ }
+    requires { size_right Form.Counted (length store.now) ≡ true }
+    ensures { result ≤ 16384 }
 {
     let n = slot_count(Form::Counted, store);
     let many = sort(Form::Counted, store, n, table, spare);
@@ -57,8 +55,8 @@ fn guess_order(store: &[u8], table: &mut [u16; 16384], spare: &mut [u16; 16384])
 
 // Makes a table to find by, and says how many entries it has: none where the guess wasn't right. The spare room is for the work.
 pub fn guide_with(store: &[u8], table: &mut [u16; 16384], spare: &mut [u16; 16384]) -> usize
-    requires { ⌜ sizeRight Form.Counted (length (now store)) ≡ true ⌝ }
-    ensures { λ r. ⌜ Guide (storeOf (now (store .entry)) .slots) (now (table .exit)) r ⌝ }
+    requires { size_right Form.Counted (length store.now) ≡ true }
+    ensures { Guide (store_of store.now).slots table.new result }
 {
     let many = guess_order(store, table, spare);
     if !ordered(store, table, many, spare) {
@@ -69,8 +67,8 @@ pub fn guide_with(store: &[u8], table: &mut [u16; 16384], spare: &mut [u16; 1638
 
 // The same with room of its own for the work.
 pub fn guide(store: &[u8], table: &mut [u16; 16384]) -> usize
-    requires { ⌜ sizeRight Form.Counted (length (now store)) ≡ true ⌝ }
-    ensures { λ r. ⌜ Guide (storeOf (now (store .entry)) .slots) (now (table .exit)) r ⌝ }
+    requires { size_right Form.Counted (length store.now) ≡ true }
+    ensures { Guide (store_of store.now).slots table.new result }
 {
     let mut spare = [0u16; 16384];
     guide_with(store, table, &mut spare)

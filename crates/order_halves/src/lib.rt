@@ -1,19 +1,18 @@
 // The first entry of an ordered table that isn't before a node, by halves: one look at an entry says whether it is before.
-use order_look::Look;
-use order_look::compared;
+#![tactic(auto)]
+
+ghost use Rattle.std.specs.Prelude.{◌≡◌, true, ◌<◌, ◌≤◌, length, get_or};
+ghost use Rattle.terms.specs.Bits.{before};
+ghost use Rattle.place.specs.Place.{place_of, Proper};
+ghost use Rattle.layout.specs.Headers.{size_right};
+ghost use Rattle.layout.specs.Stores.{store_of};
+ghost use Rattle.ordered.specs.Ordered.{node_key, key_no, Ordered};
+ghost use Rattle.order_halves.specs.First.{First};
+
+use order_look::{Look, compared};
 use place::Place;
 use store::wide;
 use terms::Form;
-ghost use mathlib.Core.Path.{_≡_};
-ghost use mathlib.Core.Bool.{true};
-ghost use Prim.Native.Nat.{_<_, _≤_};
-ghost use lib.ListN.{length, getD};
-ghost use Rattle·terms.specs.Bits.{before};
-ghost use Rattle·place.specs.Place.{placeOf, Proper};
-ghost use Rattle·layout.specs.Headers.{sizeRight};
-ghost use Rattle·layout.specs.Stores.{storeOf};
-ghost use Rattle·ordered.specs.Ordered.{nodeKey, keyNo, Ordered};
-ghost use Rattle·order_halves·specs.specs.First.{First};
 
 // Whether entry k is before a version and place.
 pub fn is_before(
@@ -24,8 +23,8 @@ pub fn is_before(
     version: u32,
     place: Place,
 ) -> bool
-    requires { ⌜ (sizeRight Form.Counted (length (now store)) ≡ true) × (many ≤ 16384) × Ordered (storeOf (now store) .slots) (now table) many × Proper place × (k < many) ⌝ }
-    ensures { λ r. ⌜ r ≡ before (keyNo (storeOf (now (store .entry)) .slots) (getD (now (table .entry)) k 0)) (nodeKey version (placeOf place)) ⌝ }
+    requires { (size_right Form.Counted (length store.now) ≡ true) × (many ≤ 16384) × Ordered (store_of store.now).slots table.now many × Proper place × (k < many) }
+    ensures { result ≡ before (key_no (store_of store.now).slots (get_or table.now k 0)) (node_key version (place_of place)) }
 {
     let bits = place.bits;
     let count = place.count;
@@ -45,8 +44,8 @@ pub fn by_halves(
     version: u32,
     place: Place,
 ) -> usize
-    requires { ⌜ (sizeRight Form.Counted (length (now store)) ≡ true) × (many ≤ 16384) × Ordered (storeOf (now store) .slots) (now table) many × Proper place ⌝ }
-    ensures { λ r. ⌜ First (storeOf (now (store .entry)) .slots) (now (table .entry)) many (nodeKey version (placeOf place)) r ⌝ }
+    requires { (size_right Form.Counted (length store.now) ≡ true) × (many ≤ 16384) × Ordered (store_of store.now).slots table.now many × Proper place }
+    ensures { First (store_of store.now).slots table.now many (node_key version (place_of place)) result }
 {
     let mut lo = 0;
     let mut hi = many;

@@ -1,36 +1,31 @@
 // Where the children of each record stand, made for one call on its own stack: guessed by an ordered table, and each guess looked at once. What stays names
 // only slots that a scan finds too, the lowest of their node.
+#![tactic(auto)]
+
+ghost use Rattle.std.specs.Prelude.{◌≡◌, true, ◌<◌, length, get_or};
+ghost use Rattle.terms.specs.Bits.{before};
+ghost use Rattle.layout.specs.Headers.{size_right};
+ghost use Rattle.layout.specs.Stores.{store_of};
+ghost use Rattle.check_pass.specs.Passes.{Passed};
+ghost use Rattle.ordered.specs.Ordered.{key_no, Leads, LeadsIf, Leading};
+ghost use Rattle.order_look.specs.Looks.{Formed};
+ghost use Rattle.order_kids.specs.Kids.{Tabled};
+
 use check_guess::guessed;
 use check_sort::rank;
 use order_guess::guide_with;
-use order_look::Look;
-use order_look::compared;
+use order_look::{Look, compared};
 use slots::bits_of;
-use store::count_at;
-use store::slot_count;
-use store::slot_of;
-use store::version_at;
-use store::wide;
+use store::{count_at, slot_count, slot_of, version_at, wide};
 use terms::Form;
-ghost use mathlib.Core.Path.{_≡_};
-ghost use mathlib.Core.Bool.{true};
-ghost use Prim.Native.Nat.{_<_};
-ghost use lib.ListN.{length, getD};
-ghost use Rattle·terms.specs.Bits.{before};
-ghost use Rattle·layout.specs.Headers.{sizeRight};
-ghost use Rattle·layout.specs.Stores.{storeOf};
-ghost use Rattle·check_pass.specs.Passes.{Passed};
-ghost use Rattle·ordered.specs.Ordered.{keyNo, Leads, LeadsIf, Leading};
-ghost use Rattle·order_look.specs.Looks.{Formed};
-ghost use Rattle·order_kids·specs.specs.Kids.{Tabled};
 
 // A guess for each side of each slot of the largest store.
 const GUESSES: usize = 32768;
 
 // Whether the node of slot i, in form, stands before that of slot j, in form.
 fn node_before(store: &[u8], i: usize, j: usize) -> bool
-    requires { ⌜ Formed (now store) i × Formed (now store) j ⌝ }
-    ensures { λ r. ⌜ Passed r (before (keyNo (storeOf (now (store .entry)) .slots) i) (keyNo (storeOf (now (store .entry)) .slots) j) ≡ true) ⌝ }
+    requires { Formed store.now i × Formed store.now j }
+    ensures { Passed result (before (key_no (store_of store.now).slots i) (key_no (store_of store.now).slots j) ≡ true) }
 {
     let count = wide(count_at(Form::Counted, store, j));
     let version = version_at(Form::Counted, store, j);
@@ -45,8 +40,8 @@ fn node_before(store: &[u8], i: usize, j: usize) -> bool
 
 // Whether entry k names the lowest slot of its node: no entry before it names one with the same node.
 fn leads_at(store: &[u8], table: &[u16; 16384], many: usize, k: usize) -> bool
-    requires { ⌜ Tabled (now store) (now table) many × (k < many) ⌝ }
-    ensures { λ r. ⌜ Passed r (Leads (storeOf (now (store .entry)) .slots) (getD (now (table .entry)) k 0)) ⌝ }
+    requires { Tabled store.now table.now many × (k < many) }
+    ensures { Passed result (Leads (store_of store.now).slots (get_or table.now k 0)) }
 {
     if k == 0 {
         return true;
@@ -56,8 +51,8 @@ fn leads_at(store: &[u8], table: &[u16; 16384], many: usize, k: usize) -> bool
 
 // Whether a slot is the lowest of its node, by where its rank says that it is named.
 fn leads(store: &[u8], table: &[u16; 16384], many: usize, ranks: &[u16; 16384], i: usize) -> bool
-    requires { ⌜ Tabled (now store) (now table) many × (i < 16384) ⌝ }
-    ensures { λ r. ⌜ Passed r (Leads (storeOf (now (store .entry)) .slots) i) ⌝ }
+    requires { Tabled store.now table.now many × (i < 16384) }
+    ensures { Passed result (Leads (store_of store.now).slots i) }
 {
     let k = wide(ranks[i]);
     if many <= k {
@@ -71,8 +66,8 @@ fn leads(store: &[u8], table: &[u16; 16384], many: usize, ranks: &[u16; 16384], 
 
 // A guess that names the lowest slot of a node, one higher; instead of another 0, which names none.
 fn kept(store: &[u8], table: &[u16; 16384], many: usize, ranks: &[u16; 16384], guess: u16) -> u16
-    requires { ⌜ Tabled (now store) (now table) many ⌝ }
-    ensures { λ r. ⌜ LeadsIf (storeOf (now (store .entry)) .slots) r ⌝ }
+    requires { Tabled store.now table.now many }
+    ensures { LeadsIf (store_of store.now).slots result }
 {
     let i = wide(guess);
     if 16384 <= i {
@@ -92,8 +87,8 @@ fn keep_all(
     ranks: &[u16; 16384],
     kids: &mut [u16; 32768],
 )
-    requires { ⌜ Tabled (now store) (now table) many ⌝ }
-    ensures { λ _. ⌜ Leading (storeOf (now (store .entry)) .slots) (now (kids .exit)) ⌝ }
+    requires { Tabled store.now table.now many }
+    ensures { Leading (store_of store.now).slots kids.new }
 {
     let mut m = 0;
     while m < GUESSES {
@@ -104,8 +99,8 @@ fn keep_all(
 
 // The slots of the children of each slot, on the left and on the right, each one higher; 0 where none is guessed.
 pub fn children(store: &[u8], kids: &mut [u16; 32768])
-    requires { ⌜ sizeRight Form.Counted (length (now store)) ≡ true ⌝ }
-    ensures { λ _. ⌜ Leading (storeOf (now (store .entry)) .slots) (now (kids .exit)) ⌝ }
+    requires { size_right Form.Counted (length store.now) ≡ true }
+    ensures { Leading (store_of store.now).slots kids.new }
 {
     let n = slot_count(Form::Counted, store);
     let mut table = [0u16; 16384];

@@ -1,23 +1,23 @@
 -- Numbers with the top byte first stand to each other as their bytes do; of bits compared eight bytes at a time the first that differ decide. Assumes nothing.
-use Prim.Native.Nat.{ℕ, suc, _+_, _*_, _^_, _<_, _≤_}
+use Prim.Native.Nat.{ℕ, suc, ◌+◌, ◌*◌, ◌^◌, ◌<◌, ◌≤◌}
 use native.Mathlib.Omega.{arith}
-use native.Mathlib.Nat.{mul-le-mul-right, suc-mul, mod-lt}
-use mathlib.Core.Path.{_≡_, refl, ap, ap₂, sym, _∙_, subst, subst₂}
+use native.Mathlib.Nat.{mul-le-mul_right, suc-mul, mod-lt}
+use mathlib.Core.Path.{◌≡◌, refl, ap, ap₂, sym, ◌∙◌, subst, subst₂}
 use mathlib.Core.Bool.{Bool, true, false}
-use mathlib.Core.List.{[], _∷_, _++_}
+use mathlib.Core.List.{[], ◌∷◌, ◌++◌}
 use lib.ListN.{length, take, drop, length-take, length-drop, take-append-drop}
 use lib.Dec.{ltb}
-use lib.Seq.{take-add, take-all}
-use lib.Pow.{pow-pos}
+use lib.Seq.{take-add, take_all}
+use lib.Pow.{pow_pos}
 use borrow.Author.Tests.{ltb-true, ltb-false, eq-eqb}
-use Rattle·terms.specs.Bits.{Bytes, Byte, All, before}
-use Rattle·terms.proofs.Lists.{all-take, all-drop}
-use Rattle·hash.specs.BigEndian.{number, big}
-use Rattle·hash.proofs.Digits.{number-big, big-number}
-use Rattle·order_look·proofs.proofs.Keys.{before-longer, before-common}
+use Rattle.terms.specs.Bits.{Bytes, Byte, All, before}
+use Rattle.terms.proofs.Lists.{all_take, all_drop}
+use Rattle.hash.specs.BigEndian.{number, big}
+use Rattle.hash.proofs.Digits.{number_big, big_number}
+use Rattle.order_look.proofs.Keys.{before_longer, before_common}
 
 below : (x : Bytes) → All Byte x → number x < 2 ^ (length x * 8)
-below x h = subst (λ n. n < 2 ^ (length x * 8)) (sym (number-big (length x) (number x)) ∙ ap number (big-number x h)) (mod-lt (number x) (pow-pos (length x * 8)))
+below x h = subst (λ n. n < 2 ^ (length x * 8)) (sym (number_big (length x) (number x)) ∙ ap number (big_number x h)) (mod-lt (number x) (pow_pos (length x * 8)))
 
 -- of two numbers the lower has no higher top
 tops : (a b p m n : ℕ) → n < p → a * p + m < b * p + n → a ≤ b
@@ -26,14 +26,14 @@ tops a b p m n h l = go (ltb b a) refl
     go : (t : Bool) → ltb b a ≡ t → a ≤ b
     go false f = ltb-false b a f
     go true f =
-        let more : suc b * p ≤ a * p = mul-le-mul-right p (ltb-true b a f) in
+        let more : suc b * p ≤ a * p = mul-le-mul_right p (ltb-true b a f) in
         absurd (omega (arith, suc-mul b p))
 
-number-before : (x y : Bytes) → All Byte x → All Byte y → length x ≡ length y → number x < number y → before x y ≡ true
-number-before [] [] hx hy e l = absurd (omega arith)
-number-before [] (b ∷ y) hx hy e l = absurd (omega arith)
-number-before (a ∷ x) [] hx hy e l = absurd (omega arith)
-number-before (a ∷ x) (b ∷ y) (ha, hx) (hb, hy) e l = go (ltb a b) refl (number-before x y hx hy even)
+number_before : (x y : Bytes) → All Byte x → All Byte y → length x ≡ length y → number x < number y → before x y ≡ true
+number_before [] [] hx hy e l = absurd (omega arith)
+number_before [] (b ∷ y) hx hy e l = absurd (omega arith)
+number_before (a ∷ x) [] hx hy e l = absurd (omega arith)
+number_before (a ∷ x) (b ∷ y) (ha, hx) (hb, hy) e l = go (ltb a b) refl (number_before x y hx hy even)
   where
     even : length x ≡ length y
     even = omega arith
@@ -61,28 +61,28 @@ module _ (x y : Bytes) (hx : All Byte x) (hy : All Byte y) (e : length x ≡ len
   part z = take width (drop at z)
 
   whole : (z : Bytes) → All Byte z → All Byte (part z)
-  whole z h = all-take Byte 8 (drop at z) (all-drop Byte at z h)
+  whole z h = all_take Byte 8 (drop at z) (all_drop Byte at z h)
 
   long : (z : Bytes) → at + 8 ≤ length z → length (part z) ≡ 8
   long z h = simp (length-take, length-drop) (omega arith)
 
-  in-parts : (z : Bytes) → take at z ++ (part z ++ drop width (drop at z)) ≡ z
-  in-parts z = ap (λ r. take at z ++ r) (take-append-drop width (drop at z)) ∙ take-append-drop at z
+  in_parts : (z : Bytes) → take at z ++ (part z ++ drop width (drop at z)) ≡ z
+  in_parts z = ap (λ r. take at z ++ r) (take-append-drop width (drop at z)) ∙ take-append-drop at z
 
   -- Where all before are the same, the lower eight bytes stand before.
-  pub eight-before : number (part x) < number (part y) → before x y ≡ true
-  eight-before l =
-      subst₂ (λ u w. before u w ≡ true) (in-parts x) (ap (λ r. r ++ (part y ++ drop width (drop at y))) same ∙ in-parts y)
-      (before-common (take at x) _ _ (before-longer (part x) (part y) _ _ (long x room ∙ sym (long y (omega arith)))
-      (number-before (part x) (part y) (whole x hx) (whole y hy) (long x room ∙ sym (long y (omega arith))) l)))
+  pub eight_before : number (part x) < number (part y) → before x y ≡ true
+  eight_before l =
+      subst₂ (λ u w. before u w ≡ true) (in_parts x) (ap (λ r. r ++ (part y ++ drop width (drop at y))) same ∙ in_parts y)
+      (before_common (take at x) _ _ (before_longer (part x) (part y) _ _ (long x room ∙ sym (long y (omega arith)))
+      (number_before (part x) (part y) (whole x hx) (whole y hy) (long x room ∙ sym (long y (omega arith))) l)))
 
   -- Where they are the same too, eight more are.
-  pub eight-same : number (part x) ≡ number (part y) → take (at + 8) x ≡ take (at + 8) y
-  eight-same f =
+  pub eight_same : number (part x) ≡ number (part y) → take (at + 8) x ≡ take (at + 8) y
+  eight_same f =
       let spelt : (z : Bytes) → All Byte z → at + 8 ≤ length z → part z ≡ big 8 (number (part z)) =
-      λ z h r. sym (ap (λ n. big n (number (part z))) (sym (long z r)) ∙ big-number (part z) (whole z h)) in
+      λ z h r. sym (ap (λ n. big n (number (part z))) (sym (long z r)) ∙ big_number (part z) (whole z h)) in
       take-add at 8 x ∙ ap₂ (λ u w. u ++ w) same (spelt x hx room ∙ ap (big 8) f ∙ sym (spelt y hy (omega arith))) ∙ sym (take-add at 8 y)
 
 -- All 32 are the same.
-pub all-eights : (x y : Bytes) (at : ℕ) → length x ≡ 32 → length y ≡ 32 → 32 ≤ at → take at x ≡ take at y → x ≡ y
-all-eights x y at e f l same = sym (take-all at x (omega arith)) ∙ same ∙ take-all at y (omega arith)
+pub all_eights : (x y : Bytes) (at : ℕ) → length x ≡ 32 → length y ≡ 32 → 32 ≤ at → take at x ≡ take at y → x ≡ y
+all_eights x y at e f l same = sym (take_all at x (omega arith)) ∙ same ∙ take_all at y (omega arith)

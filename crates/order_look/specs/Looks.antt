@@ -1,23 +1,20 @@
 -- What a look at a slot's head says. Assumes nothing.
-use Prim.Native.Nat.{ℕ, _<_}
-use mathlib.Core.Path.{_≡_}
-use mathlib.Core.Bool.{true}
-use mathlib.Core.List.{[], _∷_, _++_}
-use Rattle·terms.specs.declared.Form.the-variants.{Counted as counted}
-use Rattle·terms.specs.Bits.{Bytes, before}
-use Rattle·layout.specs.Slots.{countIn, bitsIn, versionIn}
-use Rattle·layout.specs.Stores.{storeOf, Has}
-use Rattle·ordered.specs.Ordered.{InForm}
-use Rattle·order_look·specs.specs.declared.Look as declared
-use Rattle·order_look·specs.specs.declared.Look.the-variants.{Before, After, Same}
+use Rattle.std.specs.Prelude.{ℕ, ◌<◌, ◌≡◌, true, [], ◌∷◌, ◌++◌}
+use Rattle.terms.specs.declared.Form.TheVariants.{Counted as counted}
+use Rattle.terms.specs.Bits.{Bytes, before}
+use Rattle.layout.specs.Slots.{count_in, bits_in, version_in}
+use Rattle.layout.specs.Stores.{store_of, Has}
+use Rattle.ordered.specs.Ordered.{InForm}
+use Rattle.order_look.specs.declared.Look as declared
+use Rattle.order_look.specs.declared.Look.TheVariants.{Before, After, Same}
 
 -- The key of a bit count, bits and a version.
-unfoldable pub headKey : ℕ → Bytes → ℕ → Bytes
-headKey c b v = c ∷ (b ++ (v ∷ []))
+unfoldable pub head_key : ℕ → Bytes → ℕ → Bytes
+head_key c b v = c ∷ (b ++ (v ∷ []))
 
 -- The key that a slot's bytes say.
-abbrev pub keyIn : Bytes → Bytes
-keyIn x = headKey (countIn x) (bitsIn x) (versionIn x)
+abbrev pub key_in : Bytes → Bytes
+key_in x = head_key (count_in x) (bits_in x) (version_in x)
 
 -- How byte strings stand to each other.
 abbrev pub BytesStand : declared.Look → Bytes → Bytes → Type 0
@@ -33,8 +30,8 @@ VersionsStand Same v w = v ≡ w
 
 -- How the key of a slot's bytes stands to a key.
 abbrev pub Stands : declared.Look → Bytes → Bytes → Type 0
-Stands r x key = BytesStand r (keyIn x) key
+Stands r x key = BytesStand r (key_in x) key
 
 -- Slot i is one of the store's, and in form.
 abbrev pub Formed : Bytes → ℕ → Type 0
-Formed s i = Has counted s i × InForm (storeOf s .slots) i
+Formed s i = Has counted s i × InForm (store_of s).slots i

@@ -1,18 +1,17 @@
 // The first entry of an ordered table that isn't before a node, where it was guessed: a look at it and at the one before it says whether it is.
-use order_halves::by_halves;
-use order_halves::is_before;
+#![tactic(auto)]
+
+ghost use Rattle.std.specs.Prelude.{◌≡◌, true, ◌≤◌, length};
+ghost use Rattle.place.specs.Place.{place_of, Proper};
+ghost use Rattle.layout.specs.Headers.{size_right};
+ghost use Rattle.layout.specs.Stores.{store_of};
+ghost use Rattle.check_pass.specs.Passes.{Passed};
+ghost use Rattle.ordered.specs.Ordered.{node_key, Ordered};
+ghost use Rattle.order_halves.specs.First.{First};
+
+use order_halves::{by_halves, is_before};
 use place::Place;
 use terms::Form;
-ghost use mathlib.Core.Path.{_≡_};
-ghost use mathlib.Core.Bool.{true};
-ghost use Prim.Native.Nat.{_≤_};
-ghost use lib.ListN.{length};
-ghost use Rattle·place.specs.Place.{placeOf, Proper};
-ghost use Rattle·layout.specs.Headers.{sizeRight};
-ghost use Rattle·layout.specs.Stores.{storeOf};
-ghost use Rattle·check_pass.specs.Passes.{Passed};
-ghost use Rattle·ordered.specs.Ordered.{nodeKey, Ordered};
-ghost use Rattle·order_halves.specs.First.{First};
 
 // Whether entry k is the first that isn't before a version and place.
 fn is_first(
@@ -23,8 +22,8 @@ fn is_first(
     version: u32,
     place: Place,
 ) -> bool
-    requires { ⌜ (sizeRight Form.Counted (length (now store)) ≡ true) × (many ≤ 16384) × Ordered (storeOf (now store) .slots) (now table) many × Proper place ⌝ }
-    ensures { λ r. ⌜ Passed r (First (storeOf (now (store .entry)) .slots) (now (table .entry)) many (nodeKey version (placeOf place)) k) ⌝ }
+    requires { (size_right Form.Counted (length store.now) ≡ true) × (many ≤ 16384) × Ordered (store_of store.now).slots table.now many × Proper place }
+    ensures { Passed result (First (store_of store.now).slots table.now many (node_key version (place_of place)) k) }
 {
     if k >= many {
         return false;
@@ -47,8 +46,8 @@ pub fn first_near(
     version: u32,
     place: Place,
 ) -> usize
-    requires { ⌜ (sizeRight Form.Counted (length (now store)) ≡ true) × (many ≤ 16384) × Ordered (storeOf (now store) .slots) (now table) many × Proper place ⌝ }
-    ensures { λ r. ⌜ First (storeOf (now (store .entry)) .slots) (now (table .entry)) many (nodeKey version (placeOf place)) r ⌝ }
+    requires { (size_right Form.Counted (length store.now) ≡ true) × (many ≤ 16384) × Ordered (store_of store.now).slots table.now many × Proper place }
+    ensures { First (store_of store.now).slots table.now many (node_key version (place_of place)) result }
 {
     if is_first(store, table, many, near, version, place) {
         return near;

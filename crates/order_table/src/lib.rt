@@ -1,31 +1,26 @@
 // Whether a table names the slots in form of a store in the order of their nodes: one look at each entry and each slot. Nothing is known of the table before.
+#![tactic(auto)]
+
+ghost use Rattle.std.specs.Prelude.{◌≡◌, true, ◌+◌, ◌≤◌, ◌<◌, length};
+ghost use Rattle.layout.specs.Sizes.{room_of};
+ghost use Rattle.layout.specs.Headers.{size_right};
+ghost use Rattle.layout.specs.Stores.{store_of, Has};
+ghost use Rattle.check_pass.specs.Passes.{Room, Passed, Each};
+ghost use Rattle.ordered.specs.Ordered.{Ahead, Ordered};
+ghost use Rattle.order_look.specs.Looks.{Formed};
+ghost use Rattle.order_table.specs.Tables.{InOrder, NamedNo};
+
 use check_sort::rank;
 use lookup::holds_record;
-use order_look::Look;
-use order_look::compared;
+use order_look::{Look, compared};
 use slots::bits_of;
-use store::count_at;
-use store::slot_count;
-use store::slot_of;
-use store::version_at;
-use store::wide;
+use store::{count_at, slot_count, slot_of, version_at, wide};
 use terms::Form;
-ghost use mathlib.Core.Path.{_≡_};
-ghost use mathlib.Core.Bool.{true};
-ghost use Prim.Native.Nat.{_+_, _≤_, _<_};
-ghost use lib.ListN.{length};
-ghost use Rattle·layout.specs.Sizes.{roomOf};
-ghost use Rattle·layout.specs.Headers.{sizeRight};
-ghost use Rattle·layout.specs.Stores.{storeOf, Has};
-ghost use Rattle·check_pass.specs.Passes.{Room, Passed, Each};
-ghost use Rattle·ordered.specs.Ordered.{Ahead, Ordered};
-ghost use Rattle·order_look.specs.Looks.{Formed};
-ghost use Rattle·order_table·specs.specs.Tables.{InOrder, NamedNo};
 
 // Whether slot i, in form, stands before slot j, in form.
 fn ahead(store: &[u8], i: usize, j: usize) -> bool
-    requires { ⌜ Formed (now store) i × Formed (now store) j ⌝ }
-    ensures { λ r. ⌜ Passed r (Ahead (storeOf (now (store .entry)) .slots) i j) ⌝ }
+    requires { Formed store.now i × Formed store.now j }
+    ensures { Passed result (Ahead (store_of store.now).slots i j) }
 {
     let count = wide(count_at(Form::Counted, store, j));
     let version = version_at(Form::Counted, store, j);
@@ -40,8 +35,8 @@ fn ahead(store: &[u8], i: usize, j: usize) -> bool
 
 // Whether an entry names a slot in form.
 pub fn names_form(store: &[u8], n: usize, i: usize) -> bool
-    requires { ⌜ Room Form.Counted (now store) n ⌝ }
-    ensures { λ r. ⌜ Passed r (Formed (now (store .entry)) i) ⌝ }
+    requires { Room Form.Counted store.now n }
+    ensures { Passed result (Formed store.now i) }
 {
     if n <= i {
         return false;
@@ -51,8 +46,8 @@ pub fn names_form(store: &[u8], n: usize, i: usize) -> bool
 
 // Whether entry k names a slot in form that stands after those of the entries before.
 fn follows(store: &[u8], n: usize, table: &[u16; 16384], k: usize) -> bool
-    requires { ⌜ Room Form.Counted (now store) n × (k < 16384) × InOrder (now store) (now table) k ⌝ }
-    ensures { λ r. ⌜ Passed r (InOrder (now (store .entry)) (now (table .entry)) (k + 1)) ⌝ }
+    requires { Room Form.Counted store.now n × (k < 16384) × InOrder store.now table.now k }
+    ensures { Passed result (InOrder store.now table.now (k + 1)) }
 {
     let i = wide(table[k]);
     if !names_form(store, n, i) {
@@ -66,8 +61,8 @@ fn follows(store: &[u8], n: usize, table: &[u16; 16384], k: usize) -> bool
 
 // Whether the first `many` entries name slots in form in ascending order.
 fn ascending(store: &[u8], table: &[u16; 16384], many: usize) -> bool
-    requires { ⌜ (sizeRight Form.Counted (length (now store)) ≡ true) × (many ≤ 16384) ⌝ }
-    ensures { λ r. ⌜ Passed r (InOrder (now (store .entry)) (now (table .entry)) many) ⌝ }
+    requires { (size_right Form.Counted (length store.now) ≡ true) × (many ≤ 16384) }
+    ensures { Passed result (InOrder store.now table.now many) }
 {
     let n = slot_count(Form::Counted, store);
     let mut k = 0;
@@ -82,8 +77,8 @@ fn ascending(store: &[u8], table: &[u16; 16384], many: usize) -> bool
 
 // Whether slot i is named where its rank says, if it is in form.
 fn slot_named(store: &[u8], table: &[u16; 16384], many: usize, rank: u16, i: usize) -> bool
-    requires { ⌜ Has Form.Counted (now store) i × (many ≤ 16384) ⌝ }
-    ensures { λ r. ⌜ Passed r (NamedNo (now (store .entry)) (now (table .entry)) many i) ⌝ }
+    requires { Has Form.Counted store.now i × (many ≤ 16384) }
+    ensures { Passed result (NamedNo store.now table.now many i) }
 {
     if !holds_record(slot_of(Form::Counted, store, i)) {
         return true;
@@ -97,8 +92,8 @@ fn slot_named(store: &[u8], table: &[u16; 16384], many: usize, rank: u16, i: usi
 
 // Whether each slot in form is named where its rank says.
 fn all_named(store: &[u8], table: &[u16; 16384], many: usize, ranks: &[u16; 16384]) -> bool
-    requires { ⌜ (sizeRight Form.Counted (length (now store)) ≡ true) × (many ≤ 16384) ⌝ }
-    ensures { λ r. ⌜ Passed r (Each (NamedNo (now (store .entry)) (now (table .entry)) many) (roomOf Form.Counted (length (now (store .entry))))) ⌝ }
+    requires { (size_right Form.Counted (length store.now) ≡ true) × (many ≤ 16384) }
+    ensures { Passed result (Each (NamedNo store.now table.now many) (room_of Form.Counted (length store.now))) }
 {
     let n = slot_count(Form::Counted, store);
     let mut i = 0;
@@ -113,8 +108,8 @@ fn all_named(store: &[u8], table: &[u16; 16384], many: usize, ranks: &[u16; 1638
 
 // Whether the first `many` entries of a table name the slots in form and no other, in their order; the spare room is for the slots' ranks.
 pub fn ordered(store: &[u8], table: &[u16; 16384], many: usize, spare: &mut [u16; 16384]) -> bool
-    requires { ⌜ (sizeRight Form.Counted (length (now store)) ≡ true) × (many ≤ 16384) ⌝ }
-    ensures { λ r. ⌜ Passed r (Ordered (storeOf (now (store .entry)) .slots) (now (table .entry)) many) ⌝ }
+    requires { (size_right Form.Counted (length store.now) ≡ true) × (many ≤ 16384) }
+    ensures { Passed result (Ordered (store_of store.now).slots table.now many) }
 {
     if !ascending(store, table, many) {
         return false;

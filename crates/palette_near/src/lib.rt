@@ -1,37 +1,31 @@
 // Where the records on the ways of a list's keys stand by a lent table, found once for the call. What stays names only slots that a read by the table finds too.
+#![tactic(auto)]
+
+ghost use Rattle.std.specs.Prelude.{◌≡◌, true, ◌≤◌, ◌<◌, length};
+ghost use Rattle.place.specs.Place.{Proper};
+ghost use Rattle.layout.specs.Sizes.{room_of};
+ghost use Rattle.layout.specs.Headers.{size_right};
+ghost use Rattle.layout.specs.Stores.{store_of};
+ghost use Rattle.read_step.specs.Walk.{Slotted};
+ghost use Rattle.read_near.specs.Near.{Led};
+ghost use Rattle.palette_near.specs.Near.{LedBy};
+
 use index_sights::look_by;
 use lookup::Found;
-use place::Place;
-use place::child_place;
-use place::key_bit;
-use read_step::Seen;
-use read_step::child_version;
-use read_step::root;
+use place::{Place, child_place, key_bit};
+use read_step::{Seen, child_version, root};
 use sights::Sight;
 use slots_form::is_leaf;
-use store::slot_count;
-use store::slot_of;
-use store::wide;
+use store::{slot_count, slot_of, wide};
 use terms::Form;
-ghost use mathlib.Core.Path.{_≡_};
-ghost use mathlib.Core.Bool.{true};
-ghost use Prim.Native.Nat.{_≤_, _<_};
-ghost use lib.ListN.{length};
-ghost use Rattle·place.specs.Place.{Proper};
-ghost use Rattle·layout.specs.Sizes.{roomOf};
-ghost use Rattle·layout.specs.Headers.{sizeRight};
-ghost use Rattle·layout.specs.Stores.{storeOf};
-ghost use Rattle·read_step.specs.Walk.{Slotted};
-ghost use Rattle·read_near.specs.Near.{Led};
-ghost use Rattle·palette_near·specs.specs.Near.{LedBy};
 
 // A key is 32 bytes.
 const KEY_SIZE: usize = 32;
 
 // Where the guess for a side of slot i stands.
 fn guess_at(i: usize, right: bool) -> usize
-    requires { ⌜ i < 16384 ⌝ }
-    ensures { λ r. ⌜ r < 32768 ⌝ }
+    requires { i < 16384 }
+    ensures { result < 32768 }
 {
     if right {
         return 2 * i + 1;
@@ -41,8 +35,8 @@ fn guess_at(i: usize, right: bool) -> usize
 
 // The slot in which a read by the table finds a version and place, one higher; 0 where it finds none.
 fn found_by(store: &[u8], index: &[u32], version: u32, place: Place) -> usize
-    requires { ⌜ (sizeRight Form.Counted (length (now store)) ≡ true) × Proper place ⌝ }
-    ensures { λ r. ⌜ LedBy (now (store .entry)) (now (index .entry)) r ⌝ }
+    requires { (size_right Form.Counted (length store.now) ≡ true) × Proper place }
+    ensures { LedBy store.now index.now result }
 {
     let sight = look_by(store, index, version, place);
     let Sight::Matches(j) = sight else {
@@ -60,8 +54,8 @@ fn child_slot(
     right: bool,
     place: Place,
 ) -> usize
-    requires { ⌜ Slotted (now store) i place × Led (storeOf (now store)) (now index) (now kids) ⌝ }
-    ensures { λ _. ⌜ Led (storeOf (now (store .entry))) (now (index .entry)) (now (kids .exit)) ⌝ }
+    requires { Slotted store.now i place × Led (store_of store.now) index.now kids.old }
+    ensures { Led (store_of store.now) index.now kids.new }
 {
     let k = guess_at(i, right);
     let guess = wide(kids[k]);
@@ -79,8 +73,8 @@ fn child_slot(
 
 // Follows a key from the inner node in slot i, the root's.
 fn follow(store: &[u8], index: &[u32], kids: &mut [u16; 32768], n: usize, root: usize, key: &[u8])
-    requires { ⌜ (sizeRight Form.Counted (length (now store)) ≡ true) × (n ≡ roomOf Form.Counted (length (now store))) × (length (now key) ≡ 32) × Led (storeOf (now store)) (now index) (now kids) ⌝ }
-    ensures { λ _. ⌜ Led (storeOf (now (store .entry))) (now (index .entry)) (now (kids .exit)) ⌝ }
+    requires { (size_right Form.Counted (length store.now) ≡ true) × (n ≡ room_of Form.Counted (length store.now)) × (length key.now ≡ 32) × Led (store_of store.now) index.now kids.old }
+    ensures { Led (store_of store.now) index.now kids.new }
 {
     let mut i = root;
     let mut place = Place::top();
@@ -103,8 +97,8 @@ fn follow(store: &[u8], index: &[u32], kids: &mut [u16; 32768], n: usize, root: 
 
 // Follows each key of a list.
 pub fn follow_all(store: &[u8], index: &[u32], kids: &mut [u16; 32768], version: u32, keys: &[u8])
-    requires { ⌜ (sizeRight Form.Counted (length (now store)) ≡ true) × (length (now keys) ≤ 8192) × Led (storeOf (now store)) (now index) (now kids) ⌝ }
-    ensures { λ _. ⌜ Led (storeOf (now (store .entry))) (now (index .entry)) (now (kids .exit)) ⌝ }
+    requires { (size_right Form.Counted (length store.now) ≡ true) × (length keys.now ≤ 8192) × Led (store_of store.now) index.now kids.old }
+    ensures { Led (store_of store.now) index.now kids.new }
 {
     let n = slot_count(Form::Counted, store);
     let seen = root(store, index, version);

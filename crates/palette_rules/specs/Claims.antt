@@ -1,11 +1,8 @@
 -- Document 02, request 2026-04, in words: which single calls the answer is made of. Assumes nothing.
-use Prim.Native.Nat.{ℕ}
-use mathlib.Core.Path.{_≡_}
-use mathlib.Core.Logic.{_⊎_}
-use mathlib.Core.List.{List, [], _∷_}
-use Rattle·terms.specs.Bits.{Bytes}
-use Rattle·terms.specs.Records.{Proof}
-use Rattle·meaning.specs.Calls.{Answer, refused, accepted}
+use Rattle.std.specs.Prelude.{ℕ, ◌≡◌, ◌⊎◌, List, [], ◌∷◌}
+use Rattle.terms.specs.Bits.{Bytes}
+use Rattle.terms.specs.Records.{Proof}
+use Rattle.meaning.specs.Calls.{Answer, refused, accepted}
 
 -- Each key has its proof, in the order asked; a key asked for twice has it twice.
 abbrev pub ProofOfEach : (Bytes → Answer Proof) → List Bytes → List Proof → Type 0

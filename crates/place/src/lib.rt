@@ -1,13 +1,12 @@
 // Keys and places: the bits of a key, the order of keys, and places as values that grow by one bit at a time.
-ghost use mathlib.Core.Path.{_≡_};
-ghost use mathlib.Core.Bool.{true, false};
-ghost use mathlib.Core.List.{[]};
-ghost use Prim.Native.Nat.{_*_, _≤_, _<_};
-ghost use lib.ListN.{length, take, drop};
-ghost use Rattle·terms.specs.Bits.{bits, bit, begins, before, sameBytes, noneSet};
-ghost use Rattle·place·specs.specs.Place.{placeOf, Proper, Stands, Grown};
+#![tactic(auto)]
+
+ghost use Rattle.std.specs.Prelude.{◌≡◌, true, false, [], ◌*◌, ◌≤◌, ◌<◌, length, take, drop};
+ghost use Rattle.terms.specs.Bits.{bits, bit, begins, before, same_bytes, none_set};
+ghost use Rattle.place.specs.Place.{place_of, Proper, Stands, Grown};
 
 // The first `count` bits of `bits`, in key order; the bits after them are zero.
+#[derive(Clone, Copy)]
 pub struct Place {
     pub bits: [u8; 32],
     pub count: usize,
@@ -16,7 +15,7 @@ pub struct Place {
 impl Place {
     // The empty place, where the root stands.
     pub fn top() -> Place
-        ensures { λ r. ⌜ Stands [] 0 r ⌝ }
+        ensures { Stands [] 0 result }
     {
         Place {
             bits: [0u8; 32],
@@ -25,8 +24,8 @@ impl Place {
     }
 
     pub fn left(self) -> Place
-        requires { ⌜ Proper self × (self .count < 256) ⌝ }
-        ensures { λ r. ⌜ Grown false self r ⌝ }
+        requires { Proper self × (self.count < 256) }
+        ensures { Grown false self result }
     {
         let mut next = self;
         next.count = next.count + 1;
@@ -34,8 +33,8 @@ impl Place {
     }
 
     pub fn right(self) -> Place
-        requires { ⌜ Proper self × (self .count < 256) ⌝ }
-        ensures { λ r. ⌜ Grown true self r ⌝ }
+        requires { Proper self × (self.count < 256) }
+        ensures { Grown true self result }
     {
         let mut next = self;
         let n = next.count;
@@ -48,8 +47,8 @@ impl Place {
 
 // The place one bit longer, on the left or the right.
 pub fn child_place(place: Place, right: bool) -> Place
-    requires { ⌜ Proper place × (place .count < 256) ⌝ }
-    ensures { λ r. ⌜ Grown right place r ⌝ }
+    requires { Proper place × (place.count < 256) }
+    ensures { Grown right place result }
 {
     if right {
         return place.right();
@@ -59,16 +58,16 @@ pub fn child_place(place: Place, right: bool) -> Place
 
 // Bit i of a key: bit 0 is the top bit of byte 0.
 pub fn key_bit(key: &[u8], i: usize) -> bool
-    requires { ⌜ i < 8 * length (now key) ⌝ }
-    ensures { λ r. ⌜ r ≡ bit i (now (key .entry)) ⌝ }
+    requires { i < 8 * length key.now }
+    ensures { result ≡ bit i key.now }
 {
     (key[i / 8] >> 7 - i % 8) % 2 == 1
 }
 
 // The place of the first bits of a key.
 pub fn front(key: &[u8], count: usize) -> Place
-    requires { ⌜ (length (now key) ≡ 32) × (count ≤ 256) ⌝ }
-    ensures { λ r. ⌜ Stands (take count (bits (now (key .entry)))) count r ⌝ }
+    requires { (length key.now ≡ 32) × (count ≤ 256) }
+    ensures { Stands (take count (bits key.now)) count result }
 {
     let mut place = Place::top();
     let mut i = 0;
@@ -81,8 +80,8 @@ pub fn front(key: &[u8], count: usize) -> Place
 
 // Whether a key begins with a place: its whole bytes first, then the bits in the last byte.
 pub fn begins(key: &[u8], p: Place) -> bool
-    requires { ⌜ (length (now key) ≡ 32) × Proper p ⌝ }
-    ensures { λ r. ⌜ r ≡ begins (placeOf p) (now (key .entry)) ⌝ }
+    requires { (length key.now ≡ 32) × Proper p }
+    ensures { result ≡ begins (place_of p) key.now }
 {
     let whole = p.count / 8;
     let over = p.count % 8;
@@ -102,7 +101,7 @@ pub fn begins(key: &[u8], p: Place) -> bool
 
 // Whether x comes before y in the order of byte strings.
 pub fn before(x: &[u8], y: &[u8]) -> bool
-    ensures { λ r. ⌜ r ≡ before (now (x .entry)) (now (y .entry)) ⌝ }
+    ensures { result ≡ before x.now y.now }
 {
     let mut i = 0;
     while i < y.len() {
@@ -121,7 +120,7 @@ pub fn before(x: &[u8], y: &[u8]) -> bool
 
 // Whether two byte strings are the same.
 pub fn same(x: &[u8], y: &[u8]) -> bool
-    ensures { λ r. ⌜ r ≡ sameBytes (now (x .entry)) (now (y .entry)) ⌝ }
+    ensures { result ≡ same_bytes x.now y.now }
 {
     if x.len() != y.len() {
         return false;
@@ -138,7 +137,7 @@ pub fn same(x: &[u8], y: &[u8]) -> bool
 
 // Whether the bits from `count` on are zero.
 pub fn unused_zero(b: &[u8], count: usize) -> bool
-    ensures { λ r. ⌜ r ≡ noneSet (drop count (bits (now (b .entry)))) ⌝ }
+    ensures { result ≡ none_set (drop count (bits b.now)) }
 {
     let whole = count / 8;
     if b.len() <= whole {
@@ -159,8 +158,8 @@ pub fn unused_zero(b: &[u8], count: usize) -> bool
 
 // The place of the first `count` bits of 32 bytes.
 pub fn place_at(b: &[u8], count: usize) -> Place
-    requires { ⌜ (length (now b) ≡ 32) × (count ≤ 256) × (noneSet (drop count (bits (now b))) ≡ true) ⌝ }
-    ensures { λ r. ⌜ Stands (take count (bits (now (b .entry)))) count r ⌝ }
+    requires { (length b.now ≡ 32) × (count ≤ 256) × (none_set (drop count (bits b.now)) ≡ true) }
+    ensures { Stands (take count (bits b.now)) count result }
 {
     let mut bits = [0u8; 32];
     let mut i = 0;

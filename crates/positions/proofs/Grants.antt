@@ -1,31 +1,31 @@
 -- The number of leaves of a tree is the number of its grants; a position among the grants of two trees is one of the first or, past those, one of
 -- the second. Assumes nothing.
-use Prim.Native.Nat.{ℕ, zero, suc, _+_, _-_, _<_, _≤_}
+use Prim.Native.Nat.{ℕ, zero, suc, ◌+◌, ◌-◌, ◌<◌, ◌≤◌}
 use native.Mathlib.Omega.{arith}
-use mathlib.Core.Path.{_≡_, refl, ap, ap₂, sym, _∙_}
-use mathlib.Core.List.{List, [], _∷_, _++_}
+use mathlib.Core.Path.{◌≡◌, refl, ap, ap₂, sym, ◌∙◌}
+use mathlib.Core.List.{List, [], ◌∷◌, ◌++◌}
 use lib.ListN.{length, length-append}
-use Rattle·terms.specs.Records.{Grant}
-use Rattle·meaning.specs.Tree.{VTree, vnone, vleaf, vinner, leaves, grantsIn}
-use Rattle·meaning.specs.Calls.{refused}
-use Rattle·meaning.specs.Counting.{grantAt}
+use Rattle.terms.specs.Records.{Grant}
+use Rattle.meaning.specs.Tree.{VTree, vnone, vleaf, vinner, leaves, grants_in}
+use Rattle.meaning.specs.Calls.{refused}
+use Rattle.meaning.specs.Counting.{grant_at}
 
-pub leaves-are : (t : VTree) → leaves t ≡ length (grantsIn t)
-leaves-are vnone = refl
-leaves-are (vleaf v g) = refl
-leaves-are (vinner v l r) = ap₂ _+_ (leaves-are l) (leaves-are r) ∙ sym (length-append (grantsIn l) (grantsIn r))
+pub leaves_are : (t : VTree) → leaves t ≡ length (grants_in t)
+leaves_are vnone = refl
+leaves_are (vleaf v g) = refl
+leaves_are (vinner v l r) = ap₂ ◌+◌ (leaves_are l) (leaves_are r) ∙ sym (length-append (grants_in l) (grants_in r))
 
-pub first-at : (xs ys : List Grant) (i : ℕ) → i < length xs → grantAt (xs ++ ys) i ≡ grantAt xs i
-first-at [] ys i l = absurd (omega arith)
-first-at (x ∷ xs) ys zero l = refl
-first-at (x ∷ xs) ys (suc i) l = first-at xs ys i (omega arith)
+pub first_at : (xs ys : List Grant) (i : ℕ) → i < length xs → grant_at (xs ++ ys) i ≡ grant_at xs i
+first_at [] ys i l = absurd (omega arith)
+first_at (x ∷ xs) ys zero l = refl
+first_at (x ∷ xs) ys (suc i) l = first_at xs ys i (omega arith)
 
-pub rest-at : (xs ys : List Grant) (i j : ℕ) → i ≡ length xs + j → grantAt (xs ++ ys) i ≡ grantAt ys j
-rest-at [] ys i j e = ap (grantAt ys) (omega arith)
-rest-at (x ∷ xs) ys zero j e = absurd (omega arith)
-rest-at (x ∷ xs) ys (suc i) j e = rest-at xs ys i j (omega arith)
+pub rest_at : (xs ys : List Grant) (i j : ℕ) → i ≡ length xs + j → grant_at (xs ++ ys) i ≡ grant_at ys j
+rest_at [] ys i j e = ap (grant_at ys) (omega arith)
+rest_at (x ∷ xs) ys zero j e = absurd (omega arith)
+rest_at (x ∷ xs) ys (suc i) j e = rest_at xs ys i j (omega arith)
 
-pub none-at : (xs : List Grant) (i : ℕ) → length xs ≤ i → grantAt xs i ≡ refused 20
-none-at [] i l = refl
-none-at (x ∷ xs) zero l = absurd (omega arith)
-none-at (x ∷ xs) (suc i) l = none-at xs i (omega arith)
+pub none_at : (xs : List Grant) (i : ℕ) → length xs ≤ i → grant_at xs i ≡ refused 20
+none_at [] i l = refl
+none_at (x ∷ xs) zero l = absurd (omega arith)
+none_at (x ∷ xs) (suc i) l = none_at xs i (omega arith)

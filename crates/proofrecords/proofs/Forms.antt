@@ -1,57 +1,57 @@
 -- The form of a proof as the code tests it: one test after the other, and the parts of an absence proof where they lie. Each test is one of the
 -- definition's. Assumes nothing.
-use Prim.Native.Nat.{ℕ, zero, suc, _+_, _*_, _-_, _<_, _≤_}
+use Prim.Native.Nat.{ℕ, zero, suc, ◌+◌, ◌*◌, ◌-◌, ◌<◌, ◌≤◌}
 use native.Mathlib.Omega.{arith}
-use native.Mathlib.Nat.{add-sub-cancel-left}
-use mathlib.Core.Path.{_≡_, refl, ap, sym, _∙_}
-use mathlib.Core.Bool.{Bool, true, false, _&&_, true≢false}
-use mathlib.Core.List.{List, [], _∷_}
-use lib.ListN.{length, getD, take, drop, length-drop}
-use lib.Seq.{take-all}
+use native.Mathlib.Nat.{add-sub_cancel_left}
+use mathlib.Core.Path.{◌≡◌, refl, ap, sym, ◌∙◌}
+use mathlib.Core.Bool.{Bool, true, false, ◌&&◌, true≢false}
+use mathlib.Core.List.{List, [], ◌∷◌}
+use lib.ListN.{length, get_or, take, drop, length-drop}
+use lib.Seq.{take_all}
 use borrow.Author.Tests.{eqb-true, eq-eqb, leb-true, le-leb, lt-leb}
-use Rattle·terms.specs.Bits.{Bytes}
-use Rattle·terms.specs.Fields.{slice, field, allOf}
-use Rattle·terms.proofs.Tests.{and-left, and-right, and-true}
-use Rattle·terms.proofs.Fields.{all-of-tests}
-use Rattle·proofrecords·specs.specs.ProofBytes.{sidesRight, stepCount, presenceTests, isPresence, leftLength, leftPart, rightPart, flags, neighboursFit, absenceTests, isAbsence}
+use Rattle.terms.specs.Bits.{Bytes}
+use Rattle.terms.specs.Fields.{slice, field, all_of}
+use Rattle.terms.proofs.Tests.{and_left, and_right, and_true}
+use Rattle.terms.proofs.Fields.{all_of_tests}
+use Rattle.proofrecords.specs.ProofBytes.{sides_right, step_count, presence_tests, is_presence, left_length, left_part, right_part, flags, neighbours_fit, absence_tests, is_absence}
 
-and-false : (b : Bool) → b && false ≡ false
-and-false true = refl
-and-false false = refl
+and_false : (b : Bool) → b && false ≡ false
+and_false true = refl
+and_false false = refl
 
 -- one test that fails decides
-failed-at : (ts : List Bool) (k : ℕ) → getD ts k true ≡ false → allOf ts ≡ false
-unfolding allOf
-failed-at [] k e = absurd (true≢false e)
-failed-at (t ∷ ts) zero e = rw e
-failed-at (t ∷ ts) (suc k) e = rw (failed-at ts k e) (and-false t)
+failed_at : (ts : List Bool) (k : ℕ) → get_or ts k true ≡ false → all_of ts ≡ false
+unfolding all_of
+failed_at [] k e = absurd (true≢false e)
+failed_at (t ∷ ts) zero e = rw e
+failed_at (t ∷ ts) (suc k) e = rw (failed_at ts k e) (and_false t)
 
-pub presence-off : (x : Bytes) (k : ℕ) → getD (presenceTests x) k true ≡ false → isPresence x ≡ false
-unfolding isPresence
-presence-off x k e = failed-at (presenceTests x) k e
+pub presence_off : (x : Bytes) (k : ℕ) → get_or (presence_tests x) k true ≡ false → is_presence x ≡ false
+unfolding is_presence
+presence_off x k e = failed_at (presence_tests x) k e
 
-pub absence-off : (x : Bytes) (k : ℕ) → getD (absenceTests x) k true ≡ false → isAbsence x ≡ false
-unfolding isAbsence
-absence-off x k e = failed-at (absenceTests x) k e
+pub absence_off : (x : Bytes) (k : ℕ) → get_or (absence_tests x) k true ≡ false → is_absence x ≡ false
+unfolding is_absence
+absence_off x k e = failed_at (absence_tests x) k e
 
 -- the last test decides after the others
-pub presence-on : (x : Bytes) → 72 ≤ length x → field 0 4 x ≡ length x → field 4 2 x ≡ 16 → stepCount x ≤ 256 → length x ≡ 72 + 33 * stepCount x →
-    isPresence x ≡ sidesRight (stepCount x) (drop 72 x)
-unfolding isPresence allOf
-presence-on x a b c d e =
+pub presence_on : (x : Bytes) → 72 ≤ length x → field 0 4 x ≡ length x → field 4 2 x ≡ 16 → step_count x ≤ 256 → length x ≡ 72 + 33 * step_count x →
+    is_presence x ≡ sides_right (step_count x) (drop 72 x)
+unfolding is_presence all_of
+presence_on x a b c d e =
     rw (
       le-leb 72 (length x) a,
       eq-eqb (field 0 4 x) (length x) b,
       eq-eqb (field 4 2 x) 16 c,
-      le-leb (stepCount x) 256 d,
-      eq-eqb (length x) (72 + 33 * stepCount x) e,
+      le-leb (step_count x) 256 d,
+      eq-eqb (length x) (72 + 33 * step_count x) e,
     )
-    (and-true (sidesRight (stepCount x) (drop 72 x)))
+    (and_true (sides_right (step_count x) (drop 72 x)))
 
-pub absence-on : (x : Bytes) → 40 ≤ length x → field 0 4 x ≡ length x → field 4 2 x ≡ 17 → 1 ≤ flags x → flags x ≤ 3 →
-    isAbsence x ≡ neighboursFit x
-unfolding isAbsence allOf
-absence-on x a b c one d =
+pub absence_on : (x : Bytes) → 40 ≤ length x → field 0 4 x ≡ length x → field 4 2 x ≡ 17 → 1 ≤ flags x → flags x ≤ 3 →
+    is_absence x ≡ neighbours_fit x
+unfolding is_absence all_of
+absence_on x a b c one d =
     rw (
       le-leb 40 (length x) a,
       eq-eqb (field 0 4 x) (length x) b,
@@ -59,75 +59,75 @@ absence-on x a b c one d =
       le-leb 1 (flags x) one,
       le-leb (flags x) 3 d,
     )
-    (and-true (neighboursFit x))
+    (and_true (neighbours_fit x))
 
 -- what the form says of the lengths
-pub presence-whole : (x : Bytes) → isPresence x ≡ true → length x ≡ 72 + 33 * stepCount x
-unfolding isPresence
-presence-whole x e = eqb-true _ _ (all-of-tests (presenceTests x) e .1 .1 .1 .1 .0)
+pub presence_whole : (x : Bytes) → is_presence x ≡ true → length x ≡ 72 + 33 * step_count x
+unfolding is_presence
+presence_whole x e = eqb-true _ _ (all_of_tests (presence_tests x) e).1.1.1.1.0
 
-pub absence-head : (x : Bytes) → isAbsence x ≡ true → 40 ≤ length x
-unfolding isAbsence
-absence-head x e = leb-true 40 (length x) (all-of-tests (absenceTests x) e .0)
+pub absence_head_lem : (x : Bytes) → is_absence x ≡ true → 40 ≤ length x
+unfolding is_absence
+absence_head_lem x e = leb-true 40 (length x) (all_of_tests (absence_tests x) e).0
 
 -- the neighbours, by the flags
-pub fit-one : (x : Bytes) → flags x ≤ 2 → neighboursFit x ≡ isPresence (drop 40 x)
-unfolding neighboursFit
-fit-one x g = rw (le-leb (flags x) 2 g)
+pub fit_one : (x : Bytes) → flags x ≤ 2 → neighbours_fit x ≡ is_presence (drop 40 x)
+unfolding neighbours_fit
+fit_one x g = rw (le-leb (flags x) 2 g)
 
-pub fit-two : (x : Bytes) → 2 < flags x → neighboursFit x ≡ isPresence (leftPart x) && isPresence (rightPart x)
-unfolding neighboursFit
-fit-two x f = rw (lt-leb (flags x) 2 f)
+pub fit_two : (x : Bytes) → 2 < flags x → neighbours_fit x ≡ is_presence (left_part x) && is_presence (right_part x)
+unfolding neighbours_fit
+fit_two x f = rw (lt-leb (flags x) 2 f)
 
 -- the neighbours of an absence proof in form
-absence-fits : (x : Bytes) → isAbsence x ≡ true → (1 ≤ flags x) × (flags x ≤ 3) × (neighboursFit x ≡ true)
-unfolding isAbsence
-absence-fits x e =
-    let ts = all-of-tests (absenceTests x) e in
-    (leb-true 1 (flags x) (ts .1 .1 .1 .0), leb-true (flags x) 3 (ts .1 .1 .1 .1 .0), ts .1 .1 .1 .1 .1 .0)
+absence_fits : (x : Bytes) → is_absence x ≡ true → (1 ≤ flags x) × (flags x ≤ 3) × (neighbours_fit x ≡ true)
+unfolding is_absence
+absence_fits x e =
+    let ts = all_of_tests (absence_tests x) e in
+    (leb-true 1 (flags x) ts.1.1.1.0, leb-true (flags x) 3 ts.1.1.1.1.0, ts.1.1.1.1.1.0)
 
-pub one-there : (x : Bytes) → isAbsence x ≡ true → flags x ≤ 2 → isPresence (drop 40 x) ≡ true
-one-there x e g = sym (fit-one x g) ∙ absence-fits x e .2
+pub one_there : (x : Bytes) → is_absence x ≡ true → flags x ≤ 2 → is_presence (drop 40 x) ≡ true
+one_there x e g = sym (fit_one x g) ∙ (absence_fits x e).2
 
 -- two neighbours, where the flags are neither 1 nor 2
-pub above-two : (x : Bytes) → isAbsence x ≡ true → (flags x ≡ 1 → ⊥) → (flags x ≡ 2 → ⊥) → 2 < flags x
-above-two x e p q = let one = absence-fits x e .0 in omega arith
+pub above_two : (x : Bytes) → is_absence x ≡ true → (flags x ≡ 1 → ⊥) → (flags x ≡ 2 → ⊥) → 2 < flags x
+above_two x e p q = let one = (absence_fits x e).0 in omega arith
 
-module _ (x : Bytes) (e : isAbsence x ≡ true) (f : 2 < flags x) where
-  pub flags-both : flags x ≡ 3
-  flags-both = let t = absence-fits x e .1 in omega arith
+module _ (x : Bytes) (e : is_absence x ≡ true) (f : 2 < flags x) where
+  pub flags_both : flags x ≡ 3
+  flags_both = let t = (absence_fits x e).1 in omega arith
 
-  both-fit : isPresence (leftPart x) && isPresence (rightPart x) ≡ true
-  both-fit = sym (fit-two x f) ∙ absence-fits x e .2
+  both_fit : is_presence (left_part x) && is_presence (right_part x) ≡ true
+  both_fit = sym (fit_two x f) ∙ (absence_fits x e).2
 
-  pub left-there : isPresence (leftPart x) ≡ true
-  left-there = and-left (isPresence (leftPart x)) (isPresence (rightPart x)) both-fit
+  pub left_there : is_presence (left_part x) ≡ true
+  left_there = and_left (is_presence (left_part x)) (is_presence (right_part x)) both_fit
 
-  pub right-there : isPresence (rightPart x) ≡ true
-  right-there = and-right (isPresence (leftPart x)) (isPresence (rightPart x)) both-fit
+  pub right_there : is_presence (right_part x) ≡ true
+  right_there = and_right (is_presence (left_part x)) (is_presence (right_part x)) both_fit
 
-  pub both-room : 112 + leftLength x ≤ length x
-  unfolding rightPart
-  both-room = omega (arith, presence-whole (rightPart x) right-there, length-drop (40 + leftLength x) x)
+  pub both_room : 112 + left_length x ≤ length x
+  unfolding right_part
+  both_room = omega (arith, presence_whole (right_part x) right_there, length-drop (40 + left_length x) x)
 
 -- too short for a second neighbour
-right-short : (x : Bytes) → length x < 112 + leftLength x → length (rightPart x) < 72
-unfolding rightPart
-right-short x h = simp length-drop (omega arith)
+right_short : (x : Bytes) → length x < 112 + left_length x → length (right_part x) < 72
+unfolding right_part
+right_short x h = simp length-drop (omega arith)
 
-pub fit-short : (x : Bytes) → 2 < flags x → length x < 112 + leftLength x → neighboursFit x ≡ false
-fit-short x f h =
-    fit-two x f
-    ∙ rw (presence-off (rightPart x) 0 (lt-leb 72 (length (rightPart x)) (right-short x h))) (and-false (isPresence (leftPart x)))
+pub fit_short : (x : Bytes) → 2 < flags x → length x < 112 + left_length x → neighbours_fit x ≡ false
+fit_short x f h =
+    fit_two x f
+    ∙ rw (presence_off (right_part x) 0 (lt-leb 72 (length (right_part x)) (right_short x h))) (and_false (is_presence (left_part x)))
 
 -- the parts of the lent bytes
-pub rest-part : (k : ℕ) (x : Bytes) → take (length x - k) (drop k x) ≡ drop k x
-rest-part k x = take-all (length x - k) (drop k x) (simp length-drop (omega arith))
+pub rest_part : (k : ℕ) (x : Bytes) → take (length x - k) (drop k x) ≡ drop k x
+rest_part k x = take_all (length x - k) (drop k x) (simp length-drop (omega arith))
 
-pub left-part : (l : ℕ) (x : Bytes) → l ≡ leftLength x → take (40 + l - 40) (drop 40 x) ≡ leftPart x
-unfolding leftPart slice
-left-part l x e = rw (add-sub-cancel-left 40 l, e)
+pub left_part_lem : (l : ℕ) (x : Bytes) → l ≡ left_length x → take (40 + l - 40) (drop 40 x) ≡ left_part x
+unfolding left_part slice
+left_part_lem l x e = rw (add-sub_cancel_left 40 l, e)
 
-pub right-part : (l : ℕ) (x : Bytes) → l ≡ leftLength x → take (length x - (40 + l)) (drop (40 + l) x) ≡ rightPart x
-unfolding rightPart
-right-part l x e = rest-part (40 + l) x ∙ ap (λ (k : ℕ). drop (40 + k) x) e
+pub right_part_lem : (l : ℕ) (x : Bytes) → l ≡ left_length x → take (length x - (40 + l)) (drop (40 + l) x) ≡ right_part x
+unfolding right_part
+right_part_lem l x e = rest_part (40 + l) x ∙ ap (λ (k : ℕ). drop (40 + k) x) e

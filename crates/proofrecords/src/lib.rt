@@ -1,5 +1,6 @@
 // The bytes of presence and absence proofs: specs/ says how a proof is encoded and decoded, proofs/ that each undoes the other. Here are their
 // kinds and sizes, and where their fields stand; each begins with its length.
+#![tactic(auto)]
 
 // The kind of a presence proof.
 pub const PRESENCE_KIND: u16 = 16;

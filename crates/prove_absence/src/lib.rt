@@ -1,22 +1,17 @@
 // The absence proof of a key, written from the paths to its neighbours, document 01, 'Bytes', absence proof.
-use fields::copy;
-use fields::put_u16;
-use fields::put_u32;
-use proofrecords::ABSENCE_HEAD;
-use proofrecords::ABSENCE_KIND;
-use prove_paths::Sought;
-use prove_paths::Way;
-use prove_paths::neighbour_length;
-use prove_paths::put_presence;
-ghost use mathlib.Core.Path.{_≡_};
-ghost use Prim.Native.Nat.{_+_};
-ghost use lib.ListN.{length};
-ghost use Rattle·proofrecords.specs.ProofBytes.{absenceHead, neighbourBytes, absenceBytes};
-ghost use Rattle·prove_paths.specs.Neighbours.{roomFor, flagFor, neighbourAt, NeighbourIn, absentOf};
+#![tactic(auto)]
+
+ghost use Rattle.std.specs.Prelude.{◌≡◌, ◌+◌, length};
+ghost use Rattle.proofrecords.specs.ProofBytes.{absence_head, neighbour_bytes, absence_bytes};
+ghost use Rattle.prove_paths.specs.Neighbours.{room_for, flag_for, neighbour_at, NeighbourIn, absent_of};
+
+use fields::{copy, put_u16, put_u32};
+use proofrecords::{ABSENCE_HEAD, ABSENCE_KIND};
+use prove_paths::{Sought, Way, neighbour_length, put_presence};
 
 // The flag where there is somebody, else 0.
 fn flag(n: Sought, bit: u16) -> u16
-    ensures { λ r. ⌜ r ≡ flagFor n bit ⌝ }
+    ensures { result ≡ flag_for n bit }
 {
     let way = n.way;
     match way {
@@ -28,8 +23,8 @@ fn flag(n: Sought, bit: u16) -> u16
 
 // Writes a neighbour's record where there is somebody.
 fn put_neighbour(part: &mut [u8], store: &[u8], n: Sought)
-    requires { ⌜ NeighbourIn (now store) n × (length (now part) ≡ roomFor n) ⌝ }
-    ensures { λ _. ⌜ now (part .exit) ≡ neighbourBytes (neighbourAt (now (store .entry)) n) ⌝ }
+    requires { NeighbourIn store.now n × (length part.old ≡ room_for n) }
+    ensures { part.new ≡ neighbour_bytes (neighbour_at store.now n) }
 {
     let way = n.way;
     let path = n.path;
@@ -42,8 +37,8 @@ fn put_neighbour(part: &mut [u8], store: &[u8], n: Sought)
 
 // Writes the absence proof of a key with these neighbours.
 pub fn put_absence(part: &mut [u8], store: &[u8], key: &[u8], left: Sought, right: Sought)
-    requires { ⌜ (NeighbourIn (now store) left × NeighbourIn (now store) right) × (length (now key) ≡ 32) × (length (now part) ≡ absenceHead + roomFor left + roomFor right) ⌝ }
-    ensures { λ _. ⌜ now (part .exit) ≡ absenceBytes (absentOf (now (key .entry)) (neighbourAt (now (store .entry)) left) (neighbourAt (now (store .entry)) right)) ⌝ }
+    requires { (NeighbourIn store.now left × NeighbourIn store.now right) × (length key.now ≡ 32) × (length part.old ≡ absence_head + room_for left + room_for right) }
+    ensures { part.new ≡ absence_bytes (absent_of key.now (neighbour_at store.now left) (neighbour_at store.now right)) }
 {
     let flags = flag(left, 1) + flag(right, 2);
     let middle = ABSENCE_HEAD + neighbour_length(left);

@@ -1,20 +1,21 @@
 // The plan of an absence proof over lent bytes, document 01, 'Reading and proving': by the neighbours that both searches find where a walk has ended.
+#![tactic(auto)]
+
+ghost use Rattle.layout.specs.Stores.{store_of};
+ghost use Rattle.read_near.specs.Near.{Led};
+ghost use Rattle.prove_trails.specs.Searches.{WalkedIn};
+ghost use Rattle.prove_shape.specs.Plans.{Plans};
+ghost use Rattle.prove_neighbours.specs.Absence.{absent_from};
+
 use proofrecords::ABSENCE_HEAD;
 use prove_paths::neighbour_length;
-use prove_shape::Plan;
-use prove_shape::absence_shape;
-use prove_trails::Walked;
-use prove_trails::neighbour;
-ghost use Rattle·layout.specs.Stores.{storeOf};
-ghost use Rattle·read_near.specs.Near.{Led};
-ghost use Rattle·prove_trails.specs.Searches.{WalkedIn};
-ghost use Rattle·prove_shape.specs.Plans.{Plans};
-ghost use Rattle·prove_neighbours·specs.specs.Absence.{absentFrom};
+use prove_shape::{Plan, absence_shape};
+use prove_trails::{Walked, neighbour};
 
 // Plans the absence proof of a key where its walk has ended, by both searches.
 pub fn absent(store: &[u8], index: &[u32], kids: &[u16], key: &[u8], walked: Walked) -> Plan
-    requires { ⌜ WalkedIn (now store) walked × Led (storeOf (now store)) (now index) (now kids) ⌝ }
-    ensures { λ r. ⌜ Plans (now (store .entry)) (now (key .entry)) (absentFrom (now (store .entry)) (now (index .entry)) (now (key .entry)) walked) r ⌝ }
+    requires { WalkedIn store.now walked × Led (store_of store.now) index.now kids.now }
+    ensures { Plans store.now key.now (absent_from store.now index.now key.now walked) result }
 {
     let first = neighbour(store, index, kids, key, walked, false);
     let second = neighbour(store, index, kids, key, walked, true);

@@ -1,27 +1,23 @@
 // Paths in lent memory and the proofs that they are written as, document 01, 'Bytes', presence proof.
-use fields::copy;
-use fields::put_u16;
-use fields::put_u32;
-use place::Place;
-use place::key_bit;
-use proofrecords::PRESENCE_HEAD;
-use proofrecords::PRESENCE_KIND;
-use proofrecords::STEP_SIZE;
+#![tactic(auto)]
+
+ghost use Rattle.std.specs.Prelude.{◌≡◌, ◌+◌, ◌*◌, ◌≤◌, length};
+ghost use Rattle.terms.specs.Bits.{digit};
+ghost use Rattle.layout.specs.Stores.{SlotWithin};
+ghost use Rattle.proofrecords.specs.ProofBytes.{step_size, presence_head, steps_bytes, presence_bytes};
+ghost use Rattle.prove_paths.specs.Paths.{step_bytes, step_at, path_steps, presence_at, PathIn};
+ghost use Rattle.prove_paths.specs.Neighbours.{room_for};
+
+use fields::{copy, put_u16, put_u32};
+use place::{Place, key_bit};
+use proofrecords::{PRESENCE_HEAD, PRESENCE_KIND, STEP_SIZE};
 use read_step::Trouble;
-use slots::child_hash;
-use slots::grant_of;
+use slots::{child_hash, grant_of};
 use store::slot_of;
 use terms::Form;
-ghost use mathlib.Core.Path.{_≡_};
-ghost use Prim.Native.Nat.{_+_, _*_, _≤_};
-ghost use lib.ListN.{length};
-ghost use Rattle·terms.specs.Bits.{digit};
-ghost use Rattle·layout.specs.Stores.{SlotWithin};
-ghost use Rattle·proofrecords.specs.ProofBytes.{stepSize, presenceHead, stepsBytes, presenceBytes};
-ghost use Rattle·prove_paths·specs.specs.Paths.{stepBytes, stepAt, pathSteps, presenceAt, PathIn};
-ghost use Rattle·prove_paths·specs.specs.Neighbours.{roomFor};
 
 // The way to a node: the slots of the inner nodes above it, the root's first; its place, whose bits are the sides taken; and its own slot.
+#[derive(Clone, Copy)]
 pub struct Path {
     pub slots: [u16; 256],
     pub place: Place,
@@ -30,7 +26,7 @@ pub struct Path {
 
 // The byte of a side.
 fn digit(side: bool) -> u8
-    ensures { λ r. ⌜ r ≡ digit side ⌝ }
+    ensures { result ≡ digit side }
 {
     if side {
         return 1;
@@ -40,8 +36,8 @@ fn digit(side: bool) -> u8
 
 // Writes the step up from the child on a side of the inner node in slot i: the side, and the hash of the sibling as the node has it.
 fn put_step(part: &mut [u8], store: &[u8], i: usize, side: bool)
-    requires { ⌜ (length (now part) ≡ stepSize) × SlotWithin Form.Counted i (now store) ⌝ }
-    ensures { λ _. ⌜ now (part .exit) ≡ stepBytes (stepAt (now (store .entry)) i side) ⌝ }
+    requires { (length part.old ≡ step_size) × SlotWithin Form.Counted i store.now }
+    ensures { part.new ≡ step_bytes (step_at store.now i side) }
 {
     copy(
         &mut part[1..STEP_SIZE],
@@ -52,8 +48,8 @@ fn put_step(part: &mut [u8], store: &[u8], i: usize, side: bool)
 
 // Writes the steps of a path, from its end upwards.
 fn put_steps(part: &mut [u8], store: &[u8], path: Path)
-    requires { ⌜ PathIn (now store) path × (length (now part) ≡ stepSize * path .place .count) ⌝ }
-    ensures { λ _. ⌜ now (part .exit) ≡ stepsBytes (pathSteps (now (store .entry)) path) ⌝ }
+    requires { PathIn store.now path × (length part.old ≡ step_size * path.place.count) }
+    ensures { part.new ≡ steps_bytes (path_steps store.now path) }
 {
     let slots = path.slots;
     let place = path.place;
@@ -71,8 +67,8 @@ fn put_steps(part: &mut [u8], store: &[u8], path: Path)
 
 // Writes the presence proof of the leaf at the end of a path.
 pub fn put_presence(part: &mut [u8], store: &[u8], path: Path)
-    requires { ⌜ PathIn (now store) path × (length (now part) ≡ presenceHead + stepSize * path .place .count) ⌝ }
-    ensures { λ _. ⌜ now (part .exit) ≡ presenceBytes (presenceAt (now (store .entry)) path) ⌝ }
+    requires { PathIn store.now path × (length part.old ≡ presence_head + step_size * path.place.count) }
+    ensures { part.new ≡ presence_bytes (presence_at store.now path) }
 {
     let place = path.place;
     let count = place.count as u16;
@@ -89,6 +85,7 @@ pub fn put_presence(part: &mut [u8], store: &[u8], path: Path)
 }
 
 // How a search for a neighbour ended.
+#[derive(Clone, Copy)]
 pub enum Way {
     // What stopped it.
     Stopped(Trouble),
@@ -97,6 +94,7 @@ pub enum Way {
 }
 
 // What a search found; the path counts where there is somebody.
+#[derive(Clone, Copy)]
 pub struct Sought {
     pub way: Way,
     pub path: Path,
@@ -104,8 +102,8 @@ pub struct Sought {
 
 // How many bytes a neighbour's record has, 0 where there is nobody.
 pub fn neighbour_length(n: Sought) -> usize
-    requires { ⌜ n .path .place .count ≤ 256 ⌝ }
-    ensures { λ r. ⌜ r ≡ roomFor n ⌝ }
+    requires { n.path.place.count ≤ 256 }
+    ensures { result ≡ room_for n }
 {
     let way = n.way;
     let path = n.path;

@@ -1,38 +1,33 @@
 // The plan of a proof over lent bytes, document 01, 'Reading and proving', with 2026-03 and 2026-07: the walk and both searches, what the proof shows and how long it is.
 // Room is not looked at, and nothing is written.
+#![tactic(auto)]
+
+ghost use Rattle.std.specs.Prelude.{◌≡◌, true, length};
+ghost use Rattle.meaning.specs.Reading.{seen};
+ghost use Rattle.meaning.specs.Proving.{prove_seen};
+ghost use Rattle.indexed.specs.Index.{by_table};
+ghost use Rattle.layout.specs.Headers.{size_right};
+ghost use Rattle.layout.specs.Stores.{store_of};
+ghost use Rattle.read_near.specs.Near.{Led};
+ghost use Rattle.read_step.specs.declared.Seen.TheVariants.{Leaf};
+ghost use Rattle.prove_trails.specs.Searches.{WalkedIn};
+ghost use Rattle.prove_shape.specs.Plans.{Plans};
+ghost use Rattle.prove_plan.specs.Parts.{ended, proved_at};
+
 use place::same;
-use proofrecords::PRESENCE_HEAD;
-use proofrecords::STEP_SIZE;
+use proofrecords::{PRESENCE_HEAD, STEP_SIZE};
 use prove_neighbours::absent;
-use prove_paths::Path;
-use prove_paths::Sought;
-use prove_paths::Way;
-use prove_shape::Plan;
-use prove_shape::Shape;
-use prove_trails::Walked;
-use prove_trails::walk;
-use read_step::Seen;
-use read_step::refusal;
+use prove_paths::{Path, Sought, Way};
+use prove_shape::{Plan, Shape};
+use prove_trails::{Walked, walk};
+use read_step::{Seen, refusal};
 use slots::key_of;
 use store::slot_of;
 use terms::Form;
-ghost use mathlib.Core.Path.{_≡_};
-ghost use mathlib.Core.Bool.{true};
-ghost use lib.ListN.{length};
-ghost use Rattle·meaning.specs.Reading.{seen};
-ghost use Rattle·meaning.specs.Proving.{proveSeen};
-ghost use Rattle·indexed.specs.Index.{byTable};
-ghost use Rattle·layout.specs.Headers.{sizeRight};
-ghost use Rattle·layout.specs.Stores.{storeOf};
-ghost use Rattle·read_near.specs.Near.{Led};
-ghost use Rattle·read_step.specs.declared.Seen.the-variants.{Leaf};
-ghost use Rattle·prove_trails.specs.Searches.{WalkedIn};
-ghost use Rattle·prove_shape.specs.Plans.{Plans};
-ghost use Rattle·prove_plan·specs.specs.Parts.{ended, provedAt};
 
 // The plan that shows the end of a walk, in slot i, alone.
 fn at_end(walked: Walked, shape: Shape, i: usize, length: usize) -> Plan
-    ensures { λ r. ⌜ r ≡ ended walked shape i length ⌝ }
+    ensures { result ≡ ended walked shape i length }
 {
     let trail = walked.trail;
     let slots = trail.slots;
@@ -56,8 +51,8 @@ fn at_end(walked: Walked, shape: Shape, i: usize, length: usize) -> Plan
 
 // Plans the proof of a key whose walk has ended at the leaf in slot i.
 fn at_leaf(store: &[u8], index: &[u32], kids: &[u16], key: &[u8], walked: Walked, i: usize) -> Plan
-    requires { ⌜ WalkedIn (now store) walked × (walked .trail .seen ≡ Leaf i) × Led (storeOf (now store)) (now index) (now kids) ⌝ }
-    ensures { λ r. ⌜ Plans (now (store .entry)) (now (key .entry)) (provedAt (now (store .entry)) (now (index .entry)) (now (key .entry)) walked i) r ⌝ }
+    requires { WalkedIn store.now walked × (walked.trail.seen ≡ Leaf i) × Led (store_of store.now) index.now kids.now }
+    ensures { Plans store.now key.now (proved_at store.now index.now key.now walked i) result }
 {
     if !same(key, key_of(slot_of(Form::Counted, store, i))) {
         return absent(store, index, kids, key, walked);
@@ -70,8 +65,8 @@ fn at_leaf(store: &[u8], index: &[u32], kids: &[u16], key: &[u8], walked: Walked
 
 // Plans the proof of a key in a version that is kept, and finds by a table, or by the children that a call has guessed for itself.
 pub fn plan_of(store: &[u8], index: &[u32], kids: &[u16], version: u32, key: &[u8]) -> Plan
-    requires { ⌜ (sizeRight Form.Counted (length (now store)) ≡ true) × (length (now key) ≡ 32) × Led (storeOf (now store)) (now index) (now kids) ⌝ }
-    ensures { λ r. ⌜ Plans (now (store .entry)) (now (key .entry)) (proveSeen (now (key .entry)) (seen (byTable (now (index .entry)) (storeOf (now (store .entry)))) version)) r ⌝ }
+    requires { (size_right Form.Counted (length store.now) ≡ true) × (length key.now ≡ 32) × Led (store_of store.now) index.now kids.now }
+    ensures { Plans store.now key.now (prove_seen key.now (seen (by_table index.now (store_of store.now)) version)) result }
 {
     let walked = walk(store, index, kids, version, key);
     let trail = walked.trail;

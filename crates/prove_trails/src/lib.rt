@@ -1,31 +1,24 @@
 // The walk that remembers its way, and the search for a neighbour, document 01, 'Reading and proving'.
-use place::Place;
-use place::child_place;
-use place::key_bit;
-use prove_paths::Path;
-use prove_paths::Sought;
-use prove_paths::Way;
-use prove_turns::Fork;
-use prove_turns::beyond;
-use prove_turns::deepest;
-use prove_turns::towards;
+#![tactic(auto)]
+
+ghost use Rattle.std.specs.Prelude.{◌≡◌, true, length};
+ghost use Rattle.layout.specs.Headers.{size_right};
+ghost use Rattle.read_near.specs.Near.{Led};
+ghost use Rattle.layout.specs.Stores.{store_of};
+ghost use Rattle.prove_trails.specs.Trails.{TrailIn, AtInner, Further, Started, ForkIn, fork_says, fork_on, Walks};
+ghost use Rattle.prove_trails.specs.Searches.{sought_of, Finds, descent_says, WalkedIn, neighbour_says};
+
+use place::{Place, child_place, key_bit};
+use prove_paths::{Path, Sought, Way};
+use prove_turns::{Fork, beyond, deepest, towards};
 use read_near::child_near;
-use read_step::Seen;
-use read_step::Trouble;
-use read_step::root;
+use read_step::{Seen, Trouble, root};
 use slots::key_of;
 use store::slot_of;
 use terms::Form;
-ghost use mathlib.Core.Path.{_≡_};
-ghost use mathlib.Core.Bool.{true};
-ghost use lib.ListN.{length};
-ghost use Rattle·layout.specs.Headers.{sizeRight};
-ghost use Rattle·read_near.specs.Near.{Led};
-ghost use Rattle·layout.specs.Stores.{storeOf};
-ghost use Rattle·prove_trails·specs.specs.Trails.{TrailIn, AtInner, Further, Started, ForkIn, forkSays, forkOn, Walks};
-ghost use Rattle·prove_trails·specs.specs.Searches.{soughtOf, Finds, descentSays, WalkedIn, neighbourSays};
 
 // The way so far: what is seen at its end, the slots of the inner nodes passed, the root's first, and the place of its end.
+#[derive(Clone, Copy)]
 pub struct Trail {
     pub seen: Seen,
     pub slots: [u16; 256],
@@ -33,6 +26,7 @@ pub struct Trail {
 }
 
 // Where a walk ended, with the deepest fork towards each side.
+#[derive(Clone, Copy)]
 pub struct Walked {
     pub trail: Trail,
     pub left: Fork,
@@ -41,8 +35,8 @@ pub struct Walked {
 
 // At the root of a version.
 fn start(store: &[u8], index: &[u32], version: u32) -> Trail
-    requires { ⌜ sizeRight Form.Counted (length (now store)) ≡ true ⌝ }
-    ensures { λ r. ⌜ Started (now (store .entry)) (now (index .entry)) version r ⌝ }
+    requires { size_right Form.Counted (length store.now) ≡ true }
+    ensures { Started store.now index.now version result }
 {
     let seen = root(store, index, version);
     let place = Place::top();
@@ -55,8 +49,8 @@ fn start(store: &[u8], index: &[u32], version: u32) -> Trail
 
 // One inner node further, that in slot i, to a side.
 fn further(store: &[u8], index: &[u32], kids: &[u16], trail: Trail, i: usize, side: bool) -> Trail
-    requires { ⌜ AtInner (now store) trail i × Led (storeOf (now store)) (now index) (now kids) ⌝ }
-    ensures { λ r. ⌜ Further (now (store .entry)) (now (index .entry)) trail i side r ⌝ }
+    requires { AtInner store.now trail i × Led (store_of store.now) index.now kids.now }
+    ensures { Further store.now index.now trail i side result }
 {
     let mut slots = trail.slots;
     let here = trail.place;
@@ -69,8 +63,8 @@ fn further(store: &[u8], index: &[u32], kids: &[u16], trail: Trail, i: usize, si
 
 // Walks by the key's bits from the root of a version to a leaf or a missing child, or until it is stopped.
 pub fn walk(store: &[u8], index: &[u32], kids: &[u16], version: u32, key: &[u8]) -> Walked
-    requires { ⌜ (sizeRight Form.Counted (length (now store)) ≡ true) × (length (now key) ≡ 32) × Led (storeOf (now store)) (now index) (now kids) ⌝ }
-    ensures { λ r. ⌜ Walks (now (store .entry)) (now (index .entry)) version (now (key .entry)) r ⌝ }
+    requires { (size_right Form.Counted (length store.now) ≡ true) × (length key.now ≡ 32) × Led (store_of store.now) index.now kids.now }
+    ensures { Walks store.now index.now version key.now result }
 {
     let top = Place::top();
     let mut trail = start(store, index, version);
@@ -98,7 +92,7 @@ pub fn walk(store: &[u8], index: &[u32], kids: &[u16], version: u32, key: &[u8])
 
 // A search's answer of a trail that ends in slot i.
 fn answer(trail: Trail, way: Way, i: usize) -> Sought
-    ensures { λ r. ⌜ r ≡ soughtOf trail way i ⌝ }
+    ensures { result ≡ sought_of trail way i }
 {
     let slots = trail.slots;
     let place = trail.place;
@@ -112,8 +106,8 @@ fn answer(trail: Trail, way: Way, i: usize) -> Sought
 
 // Descends from the end of a trail, to a side where it can, until a leaf.
 fn descend(store: &[u8], index: &[u32], kids: &[u16], trail: Trail, side: bool) -> Sought
-    requires { ⌜ TrailIn (now store) trail × Led (storeOf (now store)) (now index) (now kids) ⌝ }
-    ensures { λ r. ⌜ Finds (now (store .entry)) (descentSays (now (store .entry)) (now (index .entry)) trail side) r ⌝ }
+    requires { TrailIn store.now trail × Led (store_of store.now) index.now kids.now }
+    ensures { Finds store.now (descent_says store.now index.now trail side) result }
 {
     let mut here = trail;
     loop {
@@ -139,8 +133,8 @@ fn from_fork(
     fork: Fork,
     side: bool,
 ) -> Sought
-    requires { ⌜ TrailIn (now store) trail × ForkIn (trail .place .count) fork × Led (storeOf (now store)) (now index) (now kids) ⌝ }
-    ensures { λ r. ⌜ Finds (now (store .entry)) (forkSays (now (store .entry)) (now (index .entry)) (trail .slots) side fork) r ⌝ }
+    requires { TrailIn store.now trail × ForkIn trail.place.count fork × Led (store_of store.now) index.now kids.now }
+    ensures { Finds store.now (fork_says store.now index.now trail.slots side fork) result }
 {
     let there = fork.there;
     if !there {
@@ -160,7 +154,7 @@ fn from_fork(
 }
 
 fn fork_towards(walked: Walked, side: bool) -> Fork
-    ensures { λ r. ⌜ r ≡ forkOn side (walked .left) (walked .right) ⌝ }
+    ensures { result ≡ fork_on side walked.left walked.right }
 {
     if side {
         return walked.right;
@@ -177,8 +171,8 @@ pub fn neighbour(
     walked: Walked,
     side: bool,
 ) -> Sought
-    requires { ⌜ WalkedIn (now store) walked × Led (storeOf (now store)) (now index) (now kids) ⌝ }
-    ensures { λ r. ⌜ Finds (now (store .entry)) (neighbourSays (now (store .entry)) (now (index .entry)) (now (key .entry)) walked side) r ⌝ }
+    requires { WalkedIn store.now walked × Led (store_of store.now) index.now kids.now }
+    ensures { Finds store.now (neighbour_says store.now index.now key.now walked side) result }
 {
     let trail = walked.trail;
     let fork = fork_towards(walked, side);

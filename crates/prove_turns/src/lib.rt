@@ -1,20 +1,19 @@
 // Where a walk and a search turn, document 01, 'Reading and proving': the deepest fork towards a side, where a descent goes on, whether a key is on a side.
-use place::Place;
-use place::before;
+#![tactic(auto)]
+
+ghost use Rattle.std.specs.Prelude.{◌≡◌, true, cond, not, ◌<◌, length, eqb};
+ghost use Rattle.layout.specs.Sizes.{room_of};
+ghost use Rattle.layout.specs.Headers.{size_right};
+ghost use Rattle.read_step.specs.Walk.{kid_in};
+ghost use Rattle.meaning.specs.Proving.{beyond};
+ghost use Rattle.prove_turns.specs.Forks.{fork_after};
+
+use place::{Place, before};
 use read_step::child_version;
 use terms::Form;
-ghost use mathlib.Core.Path.{_≡_};
-ghost use mathlib.Core.Bool.{true, cond, not};
-ghost use Prim.Native.Nat.{_<_};
-ghost use lib.ListN.{length};
-ghost use lib.Dec.{eqb};
-ghost use Rattle·layout.specs.Sizes.{roomOf};
-ghost use Rattle·layout.specs.Headers.{sizeRight};
-ghost use Rattle·read_step.specs.Walk.{kidIn};
-ghost use Rattle·meaning.specs.Proving.{beyond};
-ghost use Rattle·prove_turns·specs.specs.Forks.{forkAfter};
 
 // An inner node on the trail where the walk turned away from a side that has a child; its place, if there is one.
+#[derive(Clone, Copy)]
 pub struct Fork {
     pub there: bool,
     pub place: Place,
@@ -22,8 +21,8 @@ pub struct Fork {
 
 // The deepest fork towards a side, where the walk takes a turn at the inner node in slot i: this node, if it turns away and a child is there.
 pub fn deepest(store: &[u8], fork: Fork, place: Place, i: usize, turn: bool, side: bool) -> Fork
-    requires { ⌜ (sizeRight Form.Counted (length (now store)) ≡ true) × (i < roomOf Form.Counted (length (now store))) ⌝ }
-    ensures { λ r. ⌜ r ≡ forkAfter (now (store .entry)) i place turn side fork ⌝ }
+    requires { (size_right Form.Counted (length store.now) ≡ true) × (i < room_of Form.Counted (length store.now)) }
+    ensures { result ≡ fork_after store.now i place turn side fork }
 {
     if turn == side {
         return fork;
@@ -36,8 +35,8 @@ pub fn deepest(store: &[u8], fork: Fork, place: Place, i: usize, turn: bool, sid
 
 // Where a descent goes on from the inner node in slot i: to a side where there is a child on that side, else to the other.
 pub fn towards(store: &[u8], i: usize, to: bool) -> bool
-    requires { ⌜ (sizeRight Form.Counted (length (now store)) ≡ true) × (i < roomOf Form.Counted (length (now store))) ⌝ }
-    ensures { λ r. ⌜ r ≡ cond (eqb (kidIn i (now (store .entry)) to .version) 0) (not to) to ⌝ }
+    requires { (size_right Form.Counted (length store.now) ≡ true) × (i < room_of Form.Counted (length store.now)) }
+    ensures { result ≡ cond (eqb (kid_in i store.now to).version 0) (not to) to }
 {
     if child_version(store, i, to) == 0 {
         return !to;
@@ -47,7 +46,7 @@ pub fn towards(store: &[u8], i: usize, to: bool) -> bool
 
 // Whether a key is on a side of another: smaller on the left, greater on the right.
 pub fn beyond(other: &[u8], key: &[u8], side: bool) -> bool
-    ensures { λ r. ⌜ r ≡ beyond side (now (other .entry)) (now (key .entry)) ⌝ }
+    ensures { result ≡ beyond side other.now key.now }
 {
     if side {
         return before(key, other);

@@ -1,17 +1,18 @@
 // Proofs written as they were planned, document 01, 'Reading and proving': into a part of a lent room that is as long as the proof.
+#![tactic(auto)]
+
+ghost use Rattle.std.specs.Prelude.{◌≡◌, length};
+ghost use Rattle.prove_shape.specs.Plans.{plan_says, PlanIn};
+ghost use Rattle.prove_write.specs.Written.{planned_length, planned_bytes};
+
 use prove_absence::put_absence;
 use prove_paths::put_presence;
-use prove_shape::Plan;
-use prove_shape::Shape;
-ghost use mathlib.Core.Path.{_≡_};
-ghost use lib.ListN.{length};
-ghost use Rattle·prove_shape.specs.Plans.{planSays, PlanIn};
-ghost use Rattle·prove_write·specs.specs.Written.{plannedLength, plannedBytes};
+use prove_shape::{Plan, Shape};
 
 // Writes the proof of a key as it was planned; a refused one has no bytes.
 pub fn write(part: &mut [u8], store: &[u8], key: &[u8], plan: Plan)
-    requires { ⌜ PlanIn (now store) plan × (length (now key) ≡ 32) × (length (now part) ≡ plannedLength (planSays (now store) (now key) plan)) ⌝ }
-    ensures { λ _. ⌜ now (part .exit) ≡ plannedBytes (planSays (now (store .entry)) (now (key .entry)) plan) ⌝ }
+    requires { PlanIn store.now plan × (length key.now ≡ 32) × (length part.old ≡ planned_length (plan_says store.now key.now plan)) }
+    ensures { part.new ≡ planned_bytes (plan_says store.now key.now plan) }
 {
     let shape = plan.shape;
     let first = plan.first;

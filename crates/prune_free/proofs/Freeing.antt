@@ -1,76 +1,76 @@
 -- Freeing from slot to slot: a slot's retired-since says whether its record goes, and before slot i all are pruned, from it on none is.
 -- Assumes nothing.
-use Prim.Native.Nat.{ℕ, _+_, _<_, _≤_}
+use Prim.Native.Nat.{ℕ, ◌+◌, ◌<◌, ◌≤◌}
 use native.Mathlib.Omega.{arith}
-use mathlib.Core.Path.{_≡_, refl, ap, sym, _∙_, subst, ap₂}
-use mathlib.Core.Bool.{Bool, true, false, cond, _&&_}
-use mathlib.Core.List.{List, [], _∷_, _++_, append-nil, map-append}
+use mathlib.Core.Path.{◌≡◌, refl, ap, sym, ◌∙◌, subst, ap₂}
+use mathlib.Core.Bool.{Bool, true, false, cond, ◌&&◌}
+use mathlib.Core.List.{List, [], ◌∷◌, ◌++◌, append-nil, map-append}
 use lib.ListN.{length, take, drop, set, length-map, length-append, length-take, length-drop}
-use lib.Seq.{append-snoc, set-at, getD-at, length-take-le}
+use lib.Seq.{append_snoc, set_at, get_or_at, length-take-le}
 use lib.Dec.{leb}
 use borrow.Author.Tests.{le-leb, lt-leb}
-use Rattle·terms.specs.declared.Form.the-variants.{Counted as counted}
-use Rattle·terms.specs.Bits.{Bytes}
-use Rattle·terms.specs.Fields.{field, slice, zeroBytes}
-use Rattle·terms.specs.Records.{Record, Slot, free, used, spoiled, Store}
-use Rattle·terms.specs.Form.{RecordForm}
-use Rattle·terms.proofs.Lists.{all-at}
-use Rattle·terms.proofs.Tests.{and-comm}
-use Rattle·meaning.specs.Store.{freeSlots, onRecord, retiredBy, pruneRecord, pruned}
-use Rattle·layout.specs.Sizes.{roomOf}
-use Rattle·layout.specs.Headers.{sizeRight}
-use Rattle·layout.specs.Slots.{sinceIn, slotBytes, SlotForm}
-use Rattle·layout.specs.Stores.{slotIn, storeOf, storeBytes, slotNo, SlotWithin, withSlot, StoreForm, putSlot}
-use Rattle·layout.proofs.Slots.{retired-says}
-use Rattle·layout.proofs.Headers.{size-ends}
-use Rattle·layout.proofs.Stores.{store-size, store-room, slot-in, slot-put-form, slot-put-bytes}
-use Rattle·store.proofs.Slots.{slot-within}
-use Rattle·store.proofs.Scans.{Scan, scan-start, scan-many, scan-slot, scan-inside, scan-here, scan-next, scan-end}
-use Rattle·prune_free·specs.specs.Free.{retiredIn, freedSlot, freedCount, Readable, emptied, Frees}
+use Rattle.terms.specs.declared.Form.TheVariants.{Counted as counted}
+use Rattle.terms.specs.Bits.{Bytes}
+use Rattle.terms.specs.Fields.{field, slice, zero_bytes}
+use Rattle.terms.specs.Records.{Record, Slot, free, used, spoiled, Store}
+use Rattle.terms.specs.Form.{RecordForm}
+use Rattle.terms.proofs.Lists.{all_at}
+use Rattle.terms.proofs.Tests.{and_comm}
+use Rattle.meaning.specs.Store.{free_slots, on_record, retired_by, prune_record, pruned}
+use Rattle.layout.specs.Sizes.{room_of}
+use Rattle.layout.specs.Headers.{size_right}
+use Rattle.layout.specs.Slots.{since_in, slot_bytes, SlotForm}
+use Rattle.layout.specs.Stores.{slot_in, store_of, store_bytes, slot_no, SlotWithin, with_slot, StoreForm, put_slot}
+use Rattle.layout.proofs.Slots.{retired_says}
+use Rattle.layout.proofs.Headers.{size_ends}
+use Rattle.layout.proofs.Stores.{store_size, store_room, slot_in_lem, slot_put_form, slot_put_bytes}
+use Rattle.store.proofs.Slots.{slot_within}
+use Rattle.store.proofs.Scans.{Scan, scan_start, scan_many, scan_slot, scan_inside, scan_here, scan_next, scan_end}
+use Rattle.prune_free.specs.Free.{retired_in, freed_slot, freed_count, Readable, emptied, Frees}
 
 -- what pruning leaves in a slot
-abbrev prunedSlot : ℕ → Slot → Slot
-prunedSlot n x = onRecord (pruneRecord n) x
+abbrev pruned_slot : ℕ → Slot → Slot
+pruned_slot n x = on_record (prune_record n) x
 
-free-not-retired : (n : ℕ) → retiredIn n (slotBytes counted free) ≡ false
-unfolding retiredIn slotBytes field slice zeroBytes
-free-not-retired n = refl
+free_not_retired : (n : ℕ) → retired_in n (slot_bytes counted free) ≡ false
+unfolding retired_in slot_bytes field slice zero_bytes
+free_not_retired n = refl
 
 -- a slot is freed, and it held a record; or it stays
 data Fate (n : ℕ) (x : Slot) : Type 0 where
-  goes : retiredIn n (slotBytes counted x) ≡ true → (r : Record) → x ≡ used r → prunedSlot n x ≡ free → Fate n x
-  stays : retiredIn n (slotBytes counted x) ≡ false → prunedSlot n x ≡ x → Fate n x
+  goes : retired_in n (slot_bytes counted x) ≡ true → (r : Record) → x ≡ used r → pruned_slot n x ≡ free → Fate n x
+  stays : retired_in n (slot_bytes counted x) ≡ false → pruned_slot n x ≡ x → Fate n x
 
-retired-is : (n : ℕ) (r : Record) → RecordForm r → retiredIn n (slotBytes counted (used r)) ≡ retiredBy n r
-unfolding retiredIn slotBytes retiredBy
-retired-is n r f = ap (λ m. leb 1 m && leb m n) (retired-says counted r f)
+retired_is : (n : ℕ) (r : Record) → RecordForm r → retired_in n (slot_bytes counted (used r)) ≡ retired_by n r
+unfolding retired_in slot_bytes retired_by
+retired_is n r f = ap (λ m. leb 1 m && leb m n) (retired_says counted r f)
 
 fate : (n : ℕ) (x : Slot) → SlotForm counted x → ((y : Bytes) → x ≡ spoiled y → ⊥) → Fate n x
-unfolding pruneRecord
-fate n free f w = stays (free-not-retired n) refl
-fate n (used r) f w = go (retiredBy n r) refl
+unfolding prune_record
+fate n free f w = stays (free_not_retired n) refl
+fate n (used r) f w = go (retired_by n r) refl
   where
-    go : (b : Bool) → retiredBy n r ≡ b → Fate n (used r)
-    go true e = goes (retired-is n r (f .0) ∙ e) r refl (rw e)
-    go false e = stays (retired-is n r (f .0) ∙ e) (rw e)
+    go : (b : Bool) → retired_by n r ≡ b → Fate n (used r)
+    go true e = goes (retired_is n r f.0 ∙ e) r refl (rw e)
+    go false e = stays (retired_is n r f.0 ∙ e) (rw e)
 fate n (spoiled y) f w = absurd (w y refl)
 
 -- one record freed, one free slot more
-free-more : (xs : List Slot) (r : Record) (ys : List Slot) → freeSlots (xs ++ free ∷ ys) ≡ freeSlots (xs ++ used r ∷ ys) + 1
-free-more [] r ys = omega arith
-free-more (free ∷ xs) r ys = omega (arith, free-more xs r ys)
-free-more (used q ∷ xs) r ys = free-more xs r ys
-free-more (spoiled y ∷ xs) r ys = free-more xs r ys
+free_more : (xs : List Slot) (r : Record) (ys : List Slot) → free_slots (xs ++ free ∷ ys) ≡ free_slots (xs ++ used r ∷ ys) + 1
+free_more [] r ys = omega arith
+free_more (free ∷ xs) r ys = omega (arith, free_more xs r ys)
+free_more (used q ∷ xs) r ys = free_more xs r ys
+free_more (spoiled y ∷ xs) r ys = free_more xs r ys
 
 -- a store with these slots
-abbrev withSlots : Store → List Slot → Store
-withSlots st xs = record { form = st .form; oldest = st .oldest; latest = st .latest; slots = xs }
+abbrev with_slots : Store → List Slot → Store
+with_slots st xs = record { form = st.form; oldest = st.oldest; latest = st.latest; slots = xs }
 
 -- s is the store of s₀ with the slots passed pruned and those to come as they were, and as many were freed as there are free slots more
 pub record Freed (n : ℕ) (s₀ s : Bytes) (freed : ℕ) (xs ys : List Slot) : Type 0 where
-  pub form : StoreForm (withSlots (storeOf s₀) (pruned n xs ++ ys))
-  pub bytes : s ≡ storeBytes (withSlots (storeOf s₀) (pruned n xs ++ ys))
-  pub count : freeSlots (pruned n xs ++ ys) ≡ freeSlots (storeOf s₀ .slots) + freed
+  pub form : StoreForm (with_slots (store_of s₀) (pruned n xs ++ ys))
+  pub bytes : s ≡ store_bytes (with_slots (store_of s₀) (pruned n xs ++ ys))
+  pub count : free_slots (pruned n xs ++ ys) ≡ free_slots (store_of s₀).slots + freed
 
 -- at slot i of m
 pub record Freeing (n : ℕ) (s₀ s : Bytes) (m freed i : ℕ) : Type 0 where
@@ -80,72 +80,72 @@ pub record Freeing (n : ℕ) (s₀ s : Bytes) (m freed i : ℕ) : Type 0 where
 
 -- one slot more is passed: it is freed, or it stays
 module _ (n : ℕ) (s₀ : Bytes) (xs : List Slot) (x : Slot) (ys : List Slot) (i : ℕ) (long : length xs ≡ i) where
-  pruned-long : length (pruned n xs) ≡ i
-  pruned-long = length-map xs (onRecord (pruneRecord n)) ∙ long
+  pruned_long : length (pruned n xs) ≡ i
+  pruned_long = length-map xs (on_record (prune_record n)) ∙ long
 
-  passed : pruned n (xs ++ x ∷ []) ++ ys ≡ pruned n xs ++ prunedSlot n x ∷ ys
-  passed = rw (map-append (onRecord (pruneRecord n)) xs (x ∷ [])) (append-snoc (pruned n xs) (prunedSlot n x) ys)
+  passed : pruned n (xs ++ x ∷ []) ++ ys ≡ pruned n xs ++ pruned_slot n x ∷ ys
+  passed = rw (map-append (on_record (prune_record n)) xs (x ∷ [])) (append_snoc (pruned n xs) (pruned_slot n x) ys)
 
   inside : i < length (pruned n xs ++ x ∷ ys)
-  inside = simp length-append (omega (arith, pruned-long))
+  inside = simp length-append (omega (arith, pruned_long))
 
   module _ {s : Bytes} {freed : ℕ} (w : Freed n s₀ s freed xs (x ∷ ys)) where
-    slot-held : slotIn counted i s ≡ slotBytes counted x
-    slot-held =
-        ap (slotIn counted i) (w .bytes)
-        ∙ slot-in (withSlots (storeOf s₀) (pruned n xs ++ x ∷ ys)) (w .form) i inside
-        ∙ ap (slotBytes counted) (getD-at (pruned n xs) x ys free i pruned-long)
+    slot_held : slot_in counted i s ≡ slot_bytes counted x
+    slot_held =
+        ap (slot_in counted i) w.bytes
+        ∙ slot_in_lem (with_slots (store_of s₀) (pruned n xs ++ x ∷ ys)) w.form i inside
+        ∙ ap (slot_bytes counted) (get_or_at (pruned n xs) x ys free i pruned_long)
 
-    slot-goes : {t : Bytes} (r : Record) → x ≡ used r → prunedSlot n x ≡ free → t ≡ withSlot counted i free s → Freed n s₀ t (freed + 1) (xs ++ x ∷ []) ys
-    unfolding putSlot
-    slot-goes {t} r e f p =
-        let st = withSlots (storeOf s₀) (pruned n xs ++ x ∷ ys) in
+    slot_goes : {t : Bytes} (r : Record) → x ≡ used r → pruned_slot n x ≡ free → t ≡ with_slot counted i free s → Freed n s₀ t (freed + 1) (xs ++ x ∷ []) ys
+    unfolding put_slot
+    slot_goes {t} r e f p =
+        let st = with_slots (store_of s₀) (pruned n xs ++ x ∷ ys) in
         let freed-here : set (pruned n xs ++ x ∷ ys) i free ≡ pruned n (xs ++ x ∷ []) ++ ys =
-        set-at (pruned n xs) x ys free i pruned-long ∙ sym (passed ∙ ap (λ y. pruned n xs ++ y ∷ ys) f)
+        set_at (pruned n xs) x ys free i pruned_long ∙ sym (passed ∙ ap (λ y. pruned n xs ++ y ∷ ys) f)
         in
-        let same : putSlot i free st ≡ withSlots (storeOf s₀) (pruned n (xs ++ x ∷ []) ++ ys) = ap (withSlots (storeOf s₀)) freed-here in
+        let same : put_slot i free st ≡ with_slots (store_of s₀) (pruned n (xs ++ x ∷ []) ++ ys) = ap (with_slots (store_of s₀)) freed-here in
         record {
-          form = subst StoreForm same (slot-put-form st (w .form) i free tt inside);
-          bytes = p ∙ ap (withSlot counted i free) (w .bytes) ∙ sym (slot-put-bytes st (w .form) i free tt inside) ∙ ap storeBytes same;
+          form = subst StoreForm same (slot_put_form st w.form i free tt inside);
+          bytes = p ∙ ap (with_slot counted i free) w.bytes ∙ sym (slot_put_bytes st w.form i free tt inside) ∙ ap store_bytes same;
           count =
-              let more = ap freeSlots (passed ∙ ap (λ y. pruned n xs ++ y ∷ ys) f) ∙ free-more (pruned n xs) r ys in
-              let was = ap (λ y. freeSlots (pruned n xs ++ y ∷ ys)) e in
-              omega (arith, more, was, w .count);
+              let more = ap free_slots (passed ∙ ap (λ y. pruned n xs ++ y ∷ ys) f) ∙ free_more (pruned n xs) r ys in
+              let was = ap (λ y. free_slots (pruned n xs ++ y ∷ ys)) e in
+              omega (arith, more, was, w.count);
         }
 
-    slot-stays : {t : Bytes} → prunedSlot n x ≡ x → t ≡ s → Freed n s₀ t (freed + 0) (xs ++ x ∷ []) ys
-    slot-stays f p =
+    slot_stays : {t : Bytes} → pruned_slot n x ≡ x → t ≡ s → Freed n s₀ t (freed + 0) (xs ++ x ∷ []) ys
+    slot_stays f p =
         let same : pruned n xs ++ x ∷ ys ≡ pruned n (xs ++ x ∷ []) ++ ys = sym (passed ∙ ap (λ y. pruned n xs ++ y ∷ ys) f) in
         record {
-          form = subst (λ l. StoreForm (withSlots (storeOf s₀) l)) same (w .form);
-          bytes = p ∙ w .bytes ∙ ap (λ l. storeBytes (withSlots (storeOf s₀) l)) same;
-          count = omega (arith, ap freeSlots same, w .count);
+          form = subst (λ l. StoreForm (with_slots (store_of s₀) l)) same w.form;
+          bytes = p ∙ w.bytes ∙ ap (λ l. store_bytes (with_slots (store_of s₀) l)) same;
+          count = omega (arith, ap free_slots same, w.count);
         }
 
-    slot-passed : {t : Bytes} {k : ℕ} → Fate n x → t ≡ freedSlot n i s → k ≡ freedCount n i s → Freed n s₀ t (freed + k) (xs ++ x ∷ []) ys
-    unfolding freedSlot freedCount
-    slot-passed {t} (goes e r u f) p q =
-        let g = ap (retiredIn n) slot-held ∙ e in
-        subst (λ m. Freed n s₀ t (freed + m) (xs ++ x ∷ []) ys) (sym (q ∙ rw g)) (slot-goes r u f (p ∙ rw g))
-    slot-passed {t} (stays e f) p q =
-        let g = ap (retiredIn n) slot-held ∙ e in
-        subst (λ m. Freed n s₀ t (freed + m) (xs ++ x ∷ []) ys) (sym (q ∙ rw g)) (slot-stays f (p ∙ rw g))
+    slot_passed : {t : Bytes} {k : ℕ} → Fate n x → t ≡ freed_slot n i s → k ≡ freed_count n i s → Freed n s₀ t (freed + k) (xs ++ x ∷ []) ys
+    unfolding freed_slot freed_count
+    slot_passed {t} (goes e r u f) p q =
+        let g = ap (retired_in n) slot_held ∙ e in
+        subst (λ m. Freed n s₀ t (freed + m) (xs ++ x ∷ []) ys) (sym (q ∙ rw g)) (slot_goes r u f (p ∙ rw g))
+    slot_passed {t} (stays e f) p q =
+        let g = ap (retired_in n) slot_held ∙ e in
+        subst (λ m. Freed n s₀ t (freed + m) (xs ++ x ∷ []) ys) (sym (q ∙ rw g)) (slot_stays f (p ∙ rw g))
 
 -- readable bytes have the right size, and two stores with as many slots have as many bytes
-pub readable-size : {s : Bytes} → Readable s → sizeRight counted (length s) ≡ true
-readable-size {s} w = rw (w .back) at (store-size (storeOf s) (w .form))
+pub readable_size : {s : Bytes} → Readable s → size_right counted (length s) ≡ true
+readable_size {s} w = rw w.back at (store_size (store_of s) w.form)
 
-same-room : (st st′ : Store) → st .form ≡ st′ .form → StoreForm st → StoreForm st′ → length (st .slots) ≡ length (st′ .slots) → length (storeBytes st) ≡ length (storeBytes st′)
-same-room st st′ o f g e =
-    let a = size-ends (st .form) (length (storeBytes st)) (store-size st f) in
-    let b = size-ends (st′ .form) (length (storeBytes st′)) (store-size st′ g) in
-    let n = store-room st f ∙ e ∙ sym (store-room st′ g) in
+same_room : (st st' : Store) → st.form ≡ st'.form → StoreForm st → StoreForm st' → length st.slots ≡ length st'.slots → length (store_bytes st) ≡ length (store_bytes st')
+same_room st st' o f g e =
+    let a = size_ends st.form (length (store_bytes st)) (store_size st f) in
+    let b = size_ends st'.form (length (store_bytes st')) (store_size st' g) in
+    let n = store_room st f ∙ e ∙ sym (store_room st' g) in
     cc
 
 -- at most one record is freed with a slot
-count-few : (n i : ℕ) (s : Bytes) {k : ℕ} → k ≡ freedCount n i s → k ≤ 1
-unfolding freedCount
-count-few n i s e = go (retiredIn n (slotIn counted i s)) e
+count_few : (n i : ℕ) (s : Bytes) {k : ℕ} → k ≡ freed_count n i s → k ≤ 1
+unfolding freed_count
+count_few n i s e = go (retired_in n (slot_in counted i s)) e
   where
     go : (b : Bool) {k : ℕ} → k ≡ cond b 1 0 → k ≤ 1
     go true e = omega arith
@@ -153,71 +153,71 @@ count-few n i s e = go (retiredIn n (slotIn counted i s)) e
 
 module _ {n : ℕ} {s₀ s : Bytes} {m freed i : ℕ} (w : Freeing n s₀ s m freed i) where
   -- the store keeps its length
-  pub freeing-same : length s ≡ length s₀
-  freeing-same =
-      let h = w .scan .holds in
-      let st = withSlots (storeOf s₀) (pruned n (take i (storeOf s₀ .slots)) ++ drop i (storeOf s₀ .slots)) in
-      let many : length (st .slots) ≡ length (storeOf s₀ .slots) = simp (length-append, length-map, length-take, length-drop) (omega (arith, w .scan .within, scan-many (w .scan))) in
-      ap length (h .bytes) ∙ same-room st (storeOf s₀) refl (h .form) (w .start .form) many ∙ ap length (w .start .back)
+  pub freeing_same : length s ≡ length s₀
+  freeing_same =
+      let h = w.scan.holds in
+      let st = with_slots (store_of s₀) (pruned n (take i (store_of s₀).slots) ++ drop i (store_of s₀).slots) in
+      let many : length st.slots ≡ length (store_of s₀).slots = simp (length-append, length-map, length-take, length-drop) (omega (arith, w.scan.within, scan_many w.scan)) in
+      ap length h.bytes ∙ same_room st (store_of s₀) refl h.form w.start.form many ∙ ap length w.start.back
 
   module _ (h : i < m) where
-    pub freeing-within : SlotWithin counted i s
-    freeing-within = rw freeing-same (slot-within (scan-slot (w .scan) h))
+    pub freeing_within : SlotWithin counted i s
+    freeing_within = rw freeing_same (slot_within (scan_slot w.scan h))
 
-    pub freeing-next : {t : Bytes} {k : ℕ} → t ≡ freedSlot n i s → k ≡ freedCount n i s → Freeing n s₀ t m (freed + k) (i + 1)
-    freeing-next {t} {k} p q =
-        let inside = scan-inside (w .scan) h in
-        let xs = take i (storeOf s₀ .slots) in
+    pub freeing_next : {t : Bytes} {k : ℕ} → t ≡ freed_slot n i s → k ≡ freed_count n i s → Freeing n s₀ t m (freed + k) (i + 1)
+    freeing_next {t} {k} p q =
+        let inside = scan_inside w.scan h in
+        let xs = take i (store_of s₀).slots in
         record {
-          start = w .start;
+          start = w.start;
           scan =
-              scan-next (w .scan) h (Freed n s₀ t (freed + k))
-              (slot-passed n s₀ xs (slotNo counted i s₀) (drop (i + 1) (storeOf s₀ .slots)) i (length-take-le i (storeOf s₀ .slots) (omega arith)) (scan-here (w .scan) h)
-              (fate n (slotNo counted i s₀) (all-at (SlotForm counted) (storeOf s₀ .slots) free i (w .start .form .each) inside) (λ y. w .start .whole i y inside)) p q);
-          few = omega (arith, w .few, count-few n i s q);
+              scan_next w.scan h (Freed n s₀ t (freed + k))
+              (slot_passed n s₀ xs (slot_no counted i s₀) (drop (i + 1) (store_of s₀).slots) i (length-take-le i (store_of s₀).slots (omega arith)) (scan_here w.scan h)
+              (fate n (slot_no counted i s₀) (all_at (SlotForm counted) (store_of s₀).slots free i w.start.form.each inside) (λ y. w.start.whole i y inside)) p q);
+          few = omega (arith, w.few, count_few n i s q);
         }
 
-  pub freeing-done : m ≤ i → Frees n s₀ freed s
+  pub freeing_done : m ≤ i → Frees n s₀ freed s
   unfolding emptied
-  freeing-done h =
-      let e = scan-end (w .scan) h in
-      let all = append-nil (pruned n (storeOf s₀ .slots)) in
+  freeing_done h =
+      let e = scan_end w.scan h in
+      let all = append-nil (pruned n (store_of s₀).slots) in
       record {
-        bytes = e .bytes ∙ ap (λ l. storeBytes (withSlots (storeOf s₀) l)) all;
-        count = omega (arith, e .count, ap freeSlots all);
+        bytes = e.bytes ∙ ap (λ l. store_bytes (with_slots (store_of s₀) l)) all;
+        count = omega (arith, e.count, ap free_slots all);
       }
 
 -- before the first slot
-pub freeing-starts : (n : ℕ) {m : ℕ} (s : Bytes) → Readable s → m ≡ roomOf counted (length s) → Freeing n s s m 0 0
-freeing-starts n s w e =
+pub freeing_starts : (n : ℕ) {m : ℕ} (s : Bytes) → Readable s → m ≡ room_of counted (length s) → Freeing n s s m 0 0
+freeing_starts n s w e =
     record {
       start = w;
-      scan = scan-start s (Freed n s s 0) (readable-size w) e (record { form = w .form; bytes = sym (w .back); count = omega arith });
+      scan = scan_start s (Freed n s s 0) (readable_size w) e (record { form = w.form; bytes = sym w.back; count = omega arith });
       few = omega arith;
     }
 
 -- slot i by its retired-since, as the code tests it
 module _ (n i : ℕ) (s : Bytes) where
   abbrev since : ℕ
-  since = sinceIn (slotIn counted i s)
+  since = since_in (slot_in counted i s)
 
   abbrev Kept : Type 0
-  Kept = (0 ≡ freedCount n i s) × (s ≡ freedSlot n i s)
+  Kept = (0 ≡ freed_count n i s) × (s ≡ freed_slot n i s)
 
-  kept : retiredIn n (slotIn counted i s) ≡ false → Kept
-  unfolding freedCount freedSlot
+  kept : retired_in n (slot_in counted i s) ≡ false → Kept
+  unfolding freed_count freed_slot
   kept e = (rw e, rw e)
 
-  pub kept-not-retired : since ≡ 0 → Kept
-  unfolding retiredIn
-  kept-not-retired e = kept (rw (lt-leb 1 since (omega arith)))
+  pub kept_not_retired : since ≡ 0 → Kept
+  unfolding retired_in
+  kept_not_retired e = kept (rw (lt-leb 1 since (omega arith)))
 
-  pub kept-retired-later : n < since → Kept
-  unfolding retiredIn
-  kept-retired-later h = kept (rw (lt-leb since n h) (and-comm (leb 1 since) false))
+  pub kept_retired_later : n < since → Kept
+  unfolding retired_in
+  kept_retired_later h = kept (rw (lt-leb since n h) (and_comm (leb 1 since) false))
 
-  pub freed-retired : {t : Bytes} → (since ≡ 0 → ⊥) → since ≤ n → t ≡ withSlot counted i free s → (1 ≡ freedCount n i s) × (t ≡ freedSlot n i s)
-  unfolding freedCount freedSlot retiredIn
-  freed-retired f h p =
+  pub freed_retired : {t : Bytes} → (since ≡ 0 → ⊥) → since ≤ n → t ≡ with_slot counted i free s → (1 ≡ freed_count n i s) × (t ≡ freed_slot n i s)
+  unfolding freed_count freed_slot retired_in
+  freed_retired f h p =
       let e : leb 1 since && leb since n ≡ true = rw (le-leb 1 since (omega (arith, f)), le-leb since n h) in
       (rw e, rw e p)

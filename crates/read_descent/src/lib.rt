@@ -1,30 +1,27 @@
 // The descent to a position by the counts, 2026-09: from a record in a slot down; no leaf but the one asked for is looked at.
-use hash::Hash;
-use hash::hash_at;
+#![tactic(auto)]
+
+ghost use Rattle.std.specs.Prelude.{◌≡◌, []};
+ghost use Rattle.place.specs.Place.{place_of};
+ghost use Rattle.layout.specs.Slots.{is_leaf};
+ghost use Rattle.layout.specs.Stores.{slot_in, Has};
+ghost use Rattle.read_step.specs.Walk.{kid_in, Slotted};
+ghost use Rattle.read_descent.specs.Parts.{position_says, leaf_answer, body_at, Steps};
+
+use hash::{Hash, hash_at};
 use index_sights::look_by;
-use place::Place;
-use place::begins;
-use place::child_place;
-use read_step::Trouble;
-use read_step::child_version;
-use read_step::refusal;
+use place::{Place, begins, child_place};
+use read_step::{Trouble, child_version, refusal};
 use read_turn::turn_at;
 use refusal_numbers::wide::NOT_SOUND;
 use sights::Sight;
-use slots::key_of;
-use slots::value_of;
+use slots::{key_of, value_of};
 use slots_form::is_leaf;
 use store::slot_of;
 use terms::Form;
-ghost use mathlib.Core.Path.{_≡_};
-ghost use mathlib.Core.List.{[]};
-ghost use Rattle·place.specs.Place.{placeOf};
-ghost use Rattle·layout.specs.Slots.{isLeaf};
-ghost use Rattle·layout.specs.Stores.{slotIn, Has};
-ghost use Rattle·read_step.specs.Walk.{kidIn, Slotted};
-ghost use Rattle·read_descent·specs.specs.Parts.{positionSays, leafAnswer, bodyAt, Steps};
 
 // What the read of a position answers.
+#[derive(Clone, Copy)]
 pub enum PositionRead {
     // The number, and in the high half a spoilt slot + 1.
     Refused(u64),
@@ -33,6 +30,7 @@ pub enum PositionRead {
 }
 
 // The slot of a child, or why there is none.
+#[derive(Clone, Copy)]
 enum Step {
     Refused(u64),
     At(usize),
@@ -40,16 +38,16 @@ enum Step {
 
 // Whether slot i holds a leaf.
 fn leaf_here(store: &[u8], i: usize) -> bool
-    requires { ⌜ Has Form.Counted (now store) i ⌝ }
-    ensures { λ r. ⌜ r ≡ isLeaf (slotIn Form.Counted i (now (store .entry))) ⌝ }
+    requires { Has Form.Counted store.now i }
+    ensures { result ≡ is_leaf (slot_in Form.Counted i store.now) }
 {
     is_leaf(slot_of(Form::Counted, store, i))
 }
 
 // What the leaf in slot i at a place says of a position.
 fn leaf_at(store: &[u8], i: usize, place: Place, n: u64) -> PositionRead
-    requires { ⌜ Slotted (now store) i place ⌝ }
-    ensures { λ r. ⌜ positionSays r ≡ leafAnswer (placeOf place) (slotIn Form.Counted i (now (store .entry))) n ⌝ }
+    requires { Slotted store.now i place }
+    ensures { position_says result ≡ leaf_answer (place_of place) (slot_in Form.Counted i store.now) n }
 {
     let slot = slot_of(Form::Counted, store, i);
     if !begins(key_of(slot), place) {
@@ -65,8 +63,8 @@ fn leaf_at(store: &[u8], i: usize, place: Place, n: u64) -> PositionRead
 
 // The child on a side of the inner record in slot i, at its place.
 fn kid(store: &[u8], index: &[u32], i: usize, right: bool, place: Place) -> Step
-    requires { ⌜ Slotted (now store) i place ⌝ }
-    ensures { λ r. ⌜ Steps (now (store .entry)) (now (index .entry)) place (kidIn i (now (store .entry)) right) r ⌝ }
+    requires { Slotted store.now i place }
+    ensures { Steps store.now index.now place (kid_in i store.now right) result }
 {
     let version = child_version(store, i, right);
     if version == 0 {
@@ -89,8 +87,8 @@ fn kid(store: &[u8], index: &[u32], i: usize, right: bool, place: Place) -> Step
 
 // Goes down from the root record in a slot.
 pub fn descend(store: &[u8], index: &[u32], first: usize, position: u64) -> PositionRead
-    requires { ⌜ Has Form.Counted (now store) first ⌝ }
-    ensures { λ r. ⌜ positionSays r ≡ bodyAt (now (store .entry)) (now (index .entry)) [] first position ⌝ }
+    requires { Has Form.Counted store.now first }
+    ensures { position_says result ≡ body_at store.now index.now [] first position }
 {
     let mut place = Place::top();
     let mut at = first;

@@ -1,24 +1,23 @@
 // The hash of a record, from the bytes of its slot.
-use hash::Hash;
-use hash::hash_at;
-use nodehash::inner_hash;
-use nodehash::leaf_hash;
-use slots::child_hash;
-use slots::grant_of;
+#![tactic(auto)]
+
+ghost use Rattle.std.specs.Prelude.{◌≡◌, length};
+ghost use Rattle.meaning.specs.Reading.{body_hash};
+ghost use Rattle.hash.specs.Hash.{hash_bytes};
+ghost use Rattle.nodehash.specs.Node.{leaf_hash, inner_hash};
+ghost use Rattle.layout.specs.Sizes.{slot_size};
+ghost use Rattle.read_step.specs.Walk.{body_in};
+
+use hash::{Hash, hash_at};
+use nodehash::{inner_hash, leaf_hash};
+use slots::{child_hash, grant_of};
 use slots_form::is_leaf;
 use terms::Form;
-ghost use mathlib.Core.Path.{_≡_};
-ghost use lib.ListN.{length};
-ghost use Rattle·meaning.specs.Reading.{bodyHash};
-ghost use Rattle·hash.specs.Hash.{hashBytes};
-ghost use Rattle·nodehash.specs.Node.{leafHash, innerHash};
-ghost use Rattle·layout.specs.Sizes.{slotSize};
-ghost use Rattle·read_step.specs.Walk.{bodyIn};
 
 // The hash of a record, from what it holds.
 pub fn record_hash(slot: &[u8]) -> Hash
-    requires { ⌜ length (now slot) ≡ slotSize Form.Counted ⌝ }
-    ensures { λ r. ⌜ hashBytes r ≡ bodyHash leafHash innerHash (bodyIn (now (slot .entry))) ⌝ }
+    requires { length slot.now ≡ slot_size Form.Counted }
+    ensures { hash_bytes result ≡ body_hash leaf_hash inner_hash (body_in slot.now) }
 {
     if is_leaf(slot) {
         return leaf_hash(grant_of(slot));

@@ -1,23 +1,21 @@
 // What a read sees at a child, where a call has guessed for itself in which slot each child stands. A guess is looked at before it is believed, and where
 // it is wrong the child is found as without it.
+#![tactic(auto)]
+
+ghost use Rattle.std.specs.Prelude.{◌≡◌, ◌<◌, get_or};
+ghost use Rattle.place.specs.Place.{place_of};
+ghost use Rattle.layout.specs.Stores.{store_of};
+ghost use Rattle.read_step.specs.Walk.{kid_in, seen_below, Sees, Slotted};
+ghost use Rattle.read_near.specs.Near.{Led};
+
 use guess::holds;
 use place::Place;
-use read_step::Seen;
-use read_step::child;
-use read_step::child_version;
-use read_step::seen_in;
-ghost use mathlib.Core.Path.{_≡_};
-ghost use Prim.Native.Nat.{_<_};
-ghost use lib.ListN.{getD};
-ghost use Rattle·place.specs.Place.{placeOf};
-ghost use Rattle·layout.specs.Stores.{storeOf};
-ghost use Rattle·read_step.specs.Walk.{kidIn, seenBelow, Sees, Slotted};
-ghost use Rattle·read_near·specs.specs.Near.{Led};
+use read_step::{Seen, child, child_version, seen_in};
 
 // Where the guess for a side of slot i stands.
 fn guess_at(i: usize, right: bool) -> usize
-    requires { ⌜ i < 16384 ⌝ }
-    ensures { λ r. ⌜ r < 32768 ⌝ }
+    requires { i < 16384 }
+    ensures { result < 32768 }
 {
     if right {
         return 2 * i + 1;
@@ -27,7 +25,7 @@ fn guess_at(i: usize, right: bool) -> usize
 
 // The guess there, one higher than its slot; 0 where there is none.
 fn guess_in(kids: &[u16], k: usize) -> usize
-    ensures { λ r. ⌜ r ≡ getD (now (kids .entry)) k 0 ⌝ }
+    ensures { result ≡ get_or kids.now k 0 }
 {
     if kids.len() <= k {
         return 0;
@@ -44,8 +42,8 @@ pub fn child_near(
     right: bool,
     place: Place,
 ) -> Seen
-    requires { ⌜ Slotted (now store) i place × Led (storeOf (now store)) (now index) (now kids) ⌝ }
-    ensures { λ r. ⌜ Sees (now (store .entry)) (now (index .entry)) (placeOf place) (seenBelow (now (store .entry)) (now (index .entry)) (placeOf place) (kidIn i (now (store .entry)) right)) r ⌝ }
+    requires { Slotted store.now i place × Led (store_of store.now) index.now kids.now }
+    ensures { Sees store.now index.now (place_of place) (seen_below store.now index.now (place_of place) (kid_in i store.now right)) result }
 {
     let version = child_version(store, i, right);
     if version == 0 {

@@ -1,82 +1,82 @@
 -- The number of grants by the case of what was tested first, and of what is sighted at the root. Assumes nothing.
 use Prim.Native.Nat.{ℕ}
-use mathlib.Core.Path.{_≡_, ap, sym, _∙_, subst}
+use mathlib.Core.Path.{◌≡◌, ap, sym, ◌∙◌, subst}
 use mathlib.Core.Bool.{true, false}
 use mathlib.Core.List.{List, []}
 use mathlib.Core.Option.{none, some}
 use lib.ListN.{length}
-use Rattle·terms.specs.declared.Form.the-variants.{Counted as counted}
-use Rattle·terms.specs.Bits.{Bytes}
-use Rattle·terms.specs.Records.{Record, used}
-use Rattle·meaning.specs.Sight.{Sight, matches, nothing, spoilt}
-use Rattle·meaning.specs.Calls.{refused, accepted}
-use Rattle·meaning.specs.Reading.{spoiltRecord, refusalOf}
-use Rattle·meaning.specs.Counting.{weight, numberAt, readNumberBy}
-use Rattle·indexed.specs.Index.{rootBy, byTable}
-use Rattle·indexed.proofs.Scanned.{without-table}
-use Rattle·layout.specs.Headers.{sizeRight, headerOf}
-use Rattle·layout.specs.Stores.{storeOf, slotNo}
-use Rattle·sights.specs.Sights.{Sighted}
-use Rattle·sights.specs.declared.Sight as declared-sight
-use Rattle·sights.specs.declared.Sight.the-variants as sight
-use Rattle·promises.specs.Headed.{byHeader, asMany}
-use Rattle·read_open.specs.Opening.{opened, openedSays}
-use Rattle·read_open.specs.declared.Opened as declared-opened
-use Rattle·read_open.specs.declared.Opened.the-variants.{Refused, Kept}
-use Rattle·read_open.proofs.Opening as opening
-use Rattle·read_number·specs.specs.Numbers.{numberSays, numberAnswerBy}
-use Rattle·contracts.specs.Numbers.{numberAnswer}
-use Rattle·contracts.proofs.Heading.{as-many, not-as-many}
-use Rattle·read_number·specs.specs.declared.NumberRead as declared
-use Rattle·read_number·specs.specs.declared.NumberRead.the-variants as number
+use Rattle.terms.specs.declared.Form.TheVariants.{Counted as counted}
+use Rattle.terms.specs.Bits.{Bytes}
+use Rattle.terms.specs.Records.{Record, used}
+use Rattle.meaning.specs.Sight.{Sight, matches, nothing, spoilt}
+use Rattle.meaning.specs.Calls.{refused, accepted}
+use Rattle.meaning.specs.Reading.{spoilt_record, refusal_of}
+use Rattle.meaning.specs.Counting.{weight, number_at, read_number_by}
+use Rattle.indexed.specs.Index.{root_by, by_table}
+use Rattle.indexed.proofs.Scanned.{without_table}
+use Rattle.layout.specs.Headers.{size_right, header_of}
+use Rattle.layout.specs.Stores.{store_of, slot_no}
+use Rattle.sights.specs.Sights.{Sighted}
+use Rattle.sights.specs.declared.Sight as declared-sight
+use Rattle.sights.specs.declared.Sight.TheVariants as sight
+use Rattle.promises.specs.Headed.{by_header, as_many}
+use Rattle.read_open.specs.Opening.{opened, opened_says}
+use Rattle.read_open.specs.declared.Opened as declared-opened
+use Rattle.read_open.specs.declared.Opened.TheVariants.{Refused, Kept}
+use Rattle.read_open.proofs.Opening as opening
+use Rattle.read_number.specs.Numbers.{number_says, number_answer_by}
+use Rattle.contracts.specs.Numbers.{number_answer}
+use Rattle.contracts.proofs.Heading.{as_many_lem, not_as_many}
+use Rattle.read_number.specs.declared.NumberRead as declared
+use Rattle.read_number.specs.declared.NumberRead.TheVariants as number
 
 -- what was sighted
 module _ (s : Bytes) (x : Sight) where
-  pub number-weighs : {r : declared-sight.Sight} {i n : ℕ} → Sighted (storeOf s .slots) x r → r ≡ sight.Matches i →
-      ((q : Record) → slotNo counted i s ≡ used q → n ≡ weight q) → numberSays (number.Number n) ≡ numberAt x
-  unfolding numberSays
-  number-weighs {r} {i} {n} h e f =
-      let g = subst (Sighted (storeOf s .slots) x) e h in
-      ap accepted (f (g .1 .0) (g .1 .1)) ∙ ap numberAt (sym (g .1 .2))
+  pub number_weighs : {r : declared-sight.Sight} {i n : ℕ} → Sighted (store_of s).slots x r → r ≡ sight.Matches i →
+      ((q : Record) → slot_no counted i s ≡ used q → n ≡ weight q) → number_says (number.Number n) ≡ number_at x
+  unfolding number_says
+  number_weighs {r} {i} {n} h e f =
+      let g = subst (Sighted (store_of s).slots x) e h in
+      ap accepted (f g.1.0 g.1.1) ∙ ap number_at (sym g.1.2)
 
-  pub number-none : x ≡ nothing → numberSays (number.Number 0) ≡ numberAt x
-  unfolding numberSays
-  number-none e = ap numberAt (sym e)
+  pub number_none : x ≡ nothing → number_says (number.Number 0) ≡ number_at x
+  unfolding number_says
+  number_none e = ap number_at (sym e)
 
-  pub number-spoilt : {n : ℕ} (i : ℕ) → x ≡ spoilt i → n ≡ refusalOf (spoiltRecord i) → numberSays (number.Refused n) ≡ numberAt x
-  unfolding numberSays
-  number-spoilt i e f = ap refused f ∙ ap numberAt (sym e)
+  pub number_spoilt : {n : ℕ} (i : ℕ) → x ≡ spoilt i → n ≡ refusal_of (spoilt_record i) → number_says (number.Refused n) ≡ number_at x
+  unfolding number_says
+  number_spoilt i e f = ap refused f ∙ ap number_at (sym e)
 
 -- what was tested first
-module _ (s : Bytes) (v : ℕ) {o : declared-opened.Opened} (says : openedSays o ≡ opened s v) where
-  first-refused : {n : ℕ} → o ≡ Refused n → refused n ≡ opened s v
-  first-refused e = sym (ap openedSays e) ∙ says
+module _ (s : Bytes) (v : ℕ) {o : declared-opened.Opened} (says : opened_says o ≡ opened s v) where
+  first_refused : {n : ℕ} → o ≡ Refused n → refused n ≡ opened s v
+  first_refused e = sym (ap opened_says e) ∙ says
 
-  first-kept : o ≡ Kept → accepted tt ≡ opened s v
-  first-kept e = sym (ap openedSays e) ∙ says
+  first_kept_lem : o ≡ Kept → accepted tt ≡ opened s v
+  first_kept_lem e = sym (ap opened_says e) ∙ says
 
-  pub size-kept : o ≡ Kept → sizeRight counted (length s) ≡ true
-  size-kept e = opening.kept-size s v (first-kept e)
+  pub size_kept : o ≡ Kept → size_right counted (length s) ≡ true
+  size_kept e = opening.kept_size s v (first_kept_lem e)
 
-  pub number-refused : (table : List ℕ) {n : ℕ} → o ≡ Refused n → numberSays (number.Refused n) ≡ numberAnswerBy s table v
-  unfolding numberSays numberAnswerBy
-  number-refused table e = opening.refused-first (numberAt (rootBy table (storeOf s) v)) s v (first-refused e)
+  pub number_refused : (table : List ℕ) {n : ℕ} → o ≡ Refused n → number_says (number.Refused n) ≡ number_answer_by s table v
+  unfolding number_says number_answer_by
+  number_refused table e = opening.refused_first (number_at (root_by table (store_of s) v)) s v (first_refused e)
 
-  pub number-is-read : (table : List ℕ) (r : declared.NumberRead) → o ≡ Kept → numberSays r ≡ numberAt (rootBy table (storeOf s) v) → numberSays r ≡ numberAnswerBy s table v
-  unfolding numberAnswerBy
-  number-is-read table r e f = f ∙ sym (opening.rest-decides (numberAt (rootBy table (storeOf s) v)) s v (first-kept e))
+  pub number_is_read : (table : List ℕ) (r : declared.NumberRead) → o ≡ Kept → number_says r ≡ number_at (root_by table (store_of s) v) → number_says r ≡ number_answer_by s table v
+  unfolding number_answer_by
+  number_is_read table r e f = f ∙ sym (opening.rest_decides (number_at (root_by table (store_of s) v)) s v (first_kept_lem e))
 
 -- by a table without entries it is that of the scan
-pub number-plain : (s : Bytes) (v : ℕ) → numberAnswerBy s [] v ≡ numberAnswer s none v
-unfolding numberAnswerBy numberAnswer
-number-plain s v = ap (λ look. byHeader (headerOf counted s) (readNumberBy look (storeOf s) v)) (without-table (storeOf s))
+pub number_plain : (s : Bytes) (v : ℕ) → number_answer_by s [] v ≡ number_answer s none v
+unfolding number_answer_by number_answer
+number_plain s v = ap (λ look. by_header (header_of counted s) (read_number_by look (store_of s) v)) (without_table (store_of s))
 
 -- a table of another length is refused with 1; else its read is one by a table of any length
 module _ (s : Bytes) (table : List ℕ) (v : ℕ) where
-  pub number-as-many : asMany s table ≡ true → numberAnswerBy s table v ≡ numberAnswer s (some table) v
-  unfolding numberAnswerBy numberAnswer
-  number-as-many e = as-many (readNumberBy (byTable table (storeOf s)) (storeOf s) v) s table e
+  pub number_as_many : as_many s table ≡ true → number_answer_by s table v ≡ number_answer s (some table) v
+  unfolding number_answer_by number_answer
+  number_as_many e = as_many_lem (read_number_by (by_table table (store_of s)) (store_of s) v) s table e
 
-  pub number-not-as-many : asMany s table ≡ false → refused 1 ≡ numberAnswer s (some table) v
-  unfolding numberAnswer
-  number-not-as-many e = not-as-many (readNumberBy (byTable table (storeOf s)) (storeOf s) v) s table e
+  pub number_not_as_many : as_many s table ≡ false → refused 1 ≡ number_answer s (some table) v
+  unfolding number_answer
+  number_not_as_many e = not_as_many (read_number_by (by_table table (store_of s)) (store_of s) v) s table e

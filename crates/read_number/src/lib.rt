@@ -1,22 +1,22 @@
 // The number of grants of a version, 2026-09, by the counts of its root record alone. A read tests the header, not soundness, and writes nothing.
+#![tactic(auto)]
+
+ghost use Rattle.std.specs.Prelude.{◌≡◌, true, length};
+ghost use Rattle.indexed.specs.Index.{root_by};
+ghost use Rattle.meaning.specs.Counting.{number_at};
+ghost use Rattle.layout.specs.Headers.{size_right};
+ghost use Rattle.layout.specs.Stores.{store_of};
+ghost use Rattle.read_number.specs.Numbers.{number_says, number_answer_by};
+
 use check_counts::weight_at;
 use index_sights::look_root_by;
-use read_open::Opened;
-use read_open::open;
-use read_step::Trouble;
-use read_step::refusal;
+use read_open::{Opened, open};
+use read_step::{Trouble, refusal};
 use sights::Sight;
 use terms::Form;
-ghost use mathlib.Core.Path.{_≡_};
-ghost use mathlib.Core.Bool.{true};
-ghost use lib.ListN.{length};
-ghost use Rattle·indexed.specs.Index.{rootBy};
-ghost use Rattle·meaning.specs.Counting.{numberAt};
-ghost use Rattle·layout.specs.Headers.{sizeRight};
-ghost use Rattle·layout.specs.Stores.{storeOf};
-ghost use Rattle·read_number·specs.specs.Numbers.{numberSays, numberAnswerBy};
 
 // What the read of a number answers.
+#[derive(Clone, Copy)]
 pub enum NumberRead {
     // The number, and in the high half a spoilt slot + 1.
     Refused(u64),
@@ -25,8 +25,8 @@ pub enum NumberRead {
 
 // The leaves at a version's root record, 0 where there is none; refused where it is spoilt.
 fn root_number(store: &[u8], index: &[u32], version: u32) -> NumberRead
-    requires { ⌜ sizeRight Form.Counted (length (now store)) ≡ true ⌝ }
-    ensures { λ r. ⌜ numberSays r ≡ numberAt (rootBy (now (index .entry)) (storeOf (now (store .entry))) version) ⌝ }
+    requires { size_right Form.Counted (length store.now) ≡ true }
+    ensures { number_says result ≡ number_at (root_by index.now (store_of store.now) version) }
 {
     let sight = look_root_by(store, index, version);
     match sight {
@@ -45,7 +45,7 @@ fn root_number(store: &[u8], index: &[u32], version: u32) -> NumberRead
 
 // Reads the number of grants of a version by a table of any length; one without entries is the scan.
 pub fn grants_count(store: &[u8], index: &[u32], version: u32) -> NumberRead
-    ensures { λ r. ⌜ numberSays r ≡ numberAnswerBy (now (store .entry)) (now (index .entry)) version ⌝ }
+    ensures { number_says result ≡ number_answer_by store.now index.now version }
 {
     let opened = open(store, version);
     if let Opened::Refused(n) = opened {

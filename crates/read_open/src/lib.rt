@@ -1,15 +1,17 @@
 // What a read tests before it looks at a slot, document 01, 'Reading and proving': the header, and whether the version is kept.
-use header::Header;
-use header::read_header;
-use layout::sizes::COUNTED_SIZE;
-use layout::sizes::HEADER_SIZE;
+#![tactic(auto)]
+
+ghost use Rattle.std.specs.Prelude.{◌≡◌};
+ghost use Rattle.promises.specs.Headed.{as_many};
+ghost use Rattle.read_open.specs.Opening.{opened, opened_says};
+
+use header::{Header, read_header};
+use layout::sizes::{COUNTED_SIZE, HEADER_SIZE};
 use refusal_numbers::NOT_KEPT;
 use terms::Form;
-ghost use mathlib.Core.Path.{_≡_};
-ghost use Rattle·promises.specs.Headed.{asMany};
-ghost use Rattle·read_open·specs.specs.Opening.{opened, openedSays};
 
 // What a read tests first.
+#[derive(Clone, Copy)]
 pub enum Opened {
     Refused(u32),
     Kept,
@@ -17,7 +19,7 @@ pub enum Opened {
 
 // The header, then the version.
 pub fn open(store: &[u8], version: u32) -> Opened
-    ensures { λ r. ⌜ openedSays r ≡ opened (now (store .entry)) version ⌝ }
+    ensures { opened_says result ≡ opened store.now version }
 {
     let header = read_header(Form::Counted, store);
     match header {
@@ -40,7 +42,7 @@ pub fn open(store: &[u8], version: u32) -> Opened
 
 // Whether a table has as many entries as a store has slots.
 pub fn as_many(store: &[u8], index: &[u32]) -> bool
-    ensures { λ r. ⌜ r ≡ asMany (now (store .entry)) (now (index .entry)) ⌝ }
+    ensures { result ≡ as_many store.now index.now }
 {
     if store.len() < HEADER_SIZE {
         return index.len() == 0;

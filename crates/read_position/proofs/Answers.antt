@@ -1,118 +1,118 @@
 -- The grant at a position by the case of what was tested first, and of what is sighted at the root. Assumes nothing.
-use Prim.Native.Nat.{ℕ, _<_, _≤_}
-use mathlib.Core.Path.{_≡_, refl, ap, ap₂, sym, _∙_, subst}
+use Prim.Native.Nat.{ℕ, ◌<◌, ◌≤◌}
+use mathlib.Core.Path.{◌≡◌, refl, ap, ap₂, sym, ◌∙◌, subst}
 use mathlib.Core.Bool.{Bool, true, false, cond}
-use mathlib.Core.List.{List, [], _∷_}
+use mathlib.Core.List.{List, [], ◌∷◌}
 use mathlib.Core.Option.{none, some}
 use lib.ListN.{length}
 use lib.Dec.{ltb}
 use borrow.Author.Tests.{lt-ltb, le-ltb}
-use Rattle·terms.specs.declared.Form.the-variants.{Counted as counted}
-use Rattle·terms.specs.Bits.{Bytes, longer}
-use Rattle·terms.specs.Records.{Grant, Record, used}
-use Rattle·meaning.specs.Sight.{Sight, matches, nothing, spoilt}
-use Rattle·meaning.specs.Calls.{Answer, refused, accepted}
-use Rattle·meaning.specs.Reading.{spoiltRecord, refusalOf}
-use Rattle·meaning.specs.Counting.{weight, atBody, descend, positionAt, readPositionBy}
-use Rattle·indexed.specs.Index.{rootBy, byTable}
-use Rattle·indexed.proofs.Scanned.{without-table}
-use Rattle·layout.specs.Headers.{sizeRight, headerOf}
-use Rattle·layout.specs.Slots.{slotOf, countsIn}
-use Rattle·layout.specs.Stores.{storeOf, slotNo, slotIn}
-use Rattle·layout.proofs.Stores.{slot-at}
-use Rattle·sights.specs.Sights.{Sighted}
-use Rattle·sights.specs.declared.Sight as declared-sight
-use Rattle·sights.specs.declared.Sight.the-variants as sight
-use Rattle·promises.specs.Headed.{byHeader, asMany}
-use Rattle·read_open.specs.Opening.{opened, openedSays}
-use Rattle·read_open.specs.declared.Opened as declared-opened
-use Rattle·read_open.specs.declared.Opened.the-variants.{Refused, Kept}
-use Rattle·read_open.proofs.Opening as opening
-use Rattle·read_step.specs.Walk.{bodyIn}
-use Rattle·read_step.proofs.Seeing.{body-is, inside}
-use Rattle·read_position·specs.specs.Positions.{positionAnswerBy}
-use Rattle·contracts.specs.Numbers.{positionAnswer}
-use Rattle·contracts.proofs.Heading.{as-many, not-as-many}
-use Rattle·read_descent.specs.Parts.{positionSays, kidsFrom, bodyAt}
-use Rattle·read_descent.specs.declared.PositionRead as declared
-use Rattle·read_descent.specs.declared.PositionRead.the-variants as position
-use Rattle·read_descent.proofs.Descending.{counts-are}
+use Rattle.terms.specs.declared.Form.TheVariants.{Counted as counted}
+use Rattle.terms.specs.Bits.{Bytes, longer}
+use Rattle.terms.specs.Records.{Grant, Record, used}
+use Rattle.meaning.specs.Sight.{Sight, matches, nothing, spoilt}
+use Rattle.meaning.specs.Calls.{Answer, refused, accepted}
+use Rattle.meaning.specs.Reading.{spoilt_record, refusal_of}
+use Rattle.meaning.specs.Counting.{weight, at_body, descend, position_at, read_position_by}
+use Rattle.indexed.specs.Index.{root_by, by_table}
+use Rattle.indexed.proofs.Scanned.{without_table}
+use Rattle.layout.specs.Headers.{size_right, header_of}
+use Rattle.layout.specs.Slots.{slot_of, counts_in}
+use Rattle.layout.specs.Stores.{store_of, slot_no, slot_in}
+use Rattle.layout.proofs.Stores.{slot_at_lem}
+use Rattle.sights.specs.Sights.{Sighted}
+use Rattle.sights.specs.declared.Sight as declared-sight
+use Rattle.sights.specs.declared.Sight.TheVariants as sight
+use Rattle.promises.specs.Headed.{by_header, as_many}
+use Rattle.read_open.specs.Opening.{opened, opened_says}
+use Rattle.read_open.specs.declared.Opened as declared-opened
+use Rattle.read_open.specs.declared.Opened.TheVariants.{Refused, Kept}
+use Rattle.read_open.proofs.Opening as opening
+use Rattle.read_step.specs.Walk.{body_in}
+use Rattle.read_step.proofs.Seeing.{body_is, inside}
+use Rattle.read_position.specs.Positions.{position_answer_by}
+use Rattle.contracts.specs.Numbers.{position_answer}
+use Rattle.contracts.proofs.Heading.{as_many_lem, not_as_many}
+use Rattle.read_descent.specs.Parts.{position_says, kids_from, body_at}
+use Rattle.read_descent.specs.declared.PositionRead as declared
+use Rattle.read_descent.specs.declared.PositionRead.TheVariants as position
+use Rattle.read_descent.proofs.Descending.{counts_are_lem}
 
-choose-yes : {b : Bool} (x y : Answer Grant) → b ≡ true → cond b x y ≡ x
-choose-yes x y e = ap (λ c. cond c x y) e
+choose_yes : {b : Bool} (x y : Answer Grant) → b ≡ true → cond b x y ≡ x
+choose_yes x y e = ap (λ c. cond c x y) e
 
-choose-no : {b : Bool} (x y : Answer Grant) → b ≡ false → cond b x y ≡ y
-choose-no x y e = ap (λ c. cond c x y) e
+choose_no : {b : Bool} (x y : Answer Grant) → b ≡ false → cond b x y ≡ y
+choose_no x y e = ap (λ c. cond c x y) e
 
 -- what was sighted
 module _ (s : Bytes) (table : List ℕ) (x : Sight) (n : ℕ) where
   abbrev Says : Answer Grant → Type 0
-  Says a = a ≡ positionAt (byTable table (storeOf s)) x n
+  Says a = a ≡ position_at (by_table table (store_of s)) x n
 
-  module _ {r : declared-sight.Sight} {i w : ℕ} (h : Sighted (storeOf s .slots) x r) (e : r ≡ sight.Matches i)
-      (weighs : (q : Record) → slotNo counted i s ≡ used q → w ≡ weight q) where
-    it : Sighted (storeOf s .slots) x (sight.Matches i)
-    it = subst (Sighted (storeOf s .slots) x) e h
+  module _ {r : declared-sight.Sight} {i w : ℕ} (h : Sighted (store_of s).slots x r) (e : r ≡ sight.Matches i)
+      (weighs : (q : Record) → slot_no counted i s ≡ used q → w ≡ weight q) where
+    it : Sighted (store_of s).slots x (sight.Matches i)
+    it = subst (Sighted (store_of s).slots x) e h
 
     abbrev q : Record
-    q = it .1 .0
+    q = it.1.0
 
-    is : slotOf (slotIn counted i s) ≡ used q
-    is = sym (slot-at counted s i (inside s x h e)) ∙ it .1 .1
+    is : slot_of (slot_in counted i s) ≡ used q
+    is = sym (slot_at_lem counted s i (inside s x h e)) ∙ it.1.1
 
     its : w ≡ weight q
-    its = weighs q (it .1 .1)
+    its = weighs q it.1.1
 
-    pub past-number : w ≤ n → Says (positionSays (position.Refused 20))
-    unfolding positionSays
-    past-number l = sym (ap (λ y. positionAt (byTable table (storeOf s)) y n) (it .1 .2) ∙ choose-no _ (refused 20) (le-ltb n (weight q) (subst (λ m. m ≤ n) its l)))
+    pub past_number : w ≤ n → Says (position_says (position.Refused 20))
+    unfolding position_says
+    past_number l = sym (ap (λ y. position_at (by_table table (store_of s)) y n) it.1.2 ∙ choose_no _ (refused 20) (le-ltb n (weight q) (subst (λ m. m ≤ n) its l)))
 
-    pub from-root : n < w → (a : declared.PositionRead) → positionSays a ≡ bodyAt s table [] i n → Says (positionSays a)
-    unfolding bodyAt longer
-    from-root l a f =
+    pub from_root : n < w → (a : declared.PositionRead) → position_says a ≡ body_at s table [] i n → Says (position_says a)
+    unfolding body_at longer
+    from_root l a f =
         f
-        ∙ ap₂ (λ b t. atBody [] b t n (kidsFrom s table [])) (sym (body-is (slotIn counted i s) q is)) (sym (counts-are (slotIn counted i s) q is))
-        ∙ sym (ap (λ y. positionAt (byTable table (storeOf s)) y n) (it .1 .2) ∙ choose-yes _ (refused 20) (lt-ltb n (weight q) (subst (λ m. n < m) its l)))
+        ∙ ap₂ (λ b t. at_body [] b t n (kids_from s table [])) (sym (body_is (slot_in counted i s) q is)) (sym (counts_are_lem (slot_in counted i s) q is))
+        ∙ sym (ap (λ y. position_at (by_table table (store_of s)) y n) it.1.2 ∙ choose_yes _ (refused 20) (lt-ltb n (weight q) (subst (λ m. n < m) its l)))
 
-  pub at-nothing : x ≡ nothing → Says (positionSays (position.Refused 20))
-  unfolding positionSays
-  at-nothing e = sym (ap (λ y. positionAt (byTable table (storeOf s)) y n) e)
+  pub at_nothing : x ≡ nothing → Says (position_says (position.Refused 20))
+  unfolding position_says
+  at_nothing e = sym (ap (λ y. position_at (by_table table (store_of s)) y n) e)
 
-  pub at-spoilt : {m : ℕ} (i : ℕ) → x ≡ spoilt i → m ≡ refusalOf (spoiltRecord i) → Says (positionSays (position.Refused m))
-  unfolding positionSays
-  at-spoilt i e f = ap refused f ∙ sym (ap (λ y. positionAt (byTable table (storeOf s)) y n) e)
+  pub at_spoilt : {m : ℕ} (i : ℕ) → x ≡ spoilt i → m ≡ refusal_of (spoilt_record i) → Says (position_says (position.Refused m))
+  unfolding position_says
+  at_spoilt i e f = ap refused f ∙ sym (ap (λ y. position_at (by_table table (store_of s)) y n) e)
 
 -- what was tested first
-module _ (s : Bytes) (v n : ℕ) {o : declared-opened.Opened} (says : openedSays o ≡ opened s v) where
-  first-refused : {m : ℕ} → o ≡ Refused m → refused m ≡ opened s v
-  first-refused e = sym (ap openedSays e) ∙ says
+module _ (s : Bytes) (v n : ℕ) {o : declared-opened.Opened} (says : opened_says o ≡ opened s v) where
+  first_refused : {m : ℕ} → o ≡ Refused m → refused m ≡ opened s v
+  first_refused e = sym (ap opened_says e) ∙ says
 
-  first-kept : o ≡ Kept → accepted tt ≡ opened s v
-  first-kept e = sym (ap openedSays e) ∙ says
+  first_kept_lem : o ≡ Kept → accepted tt ≡ opened s v
+  first_kept_lem e = sym (ap opened_says e) ∙ says
 
-  pub size-kept : o ≡ Kept → sizeRight counted (length s) ≡ true
-  size-kept e = opening.kept-size s v (first-kept e)
+  pub size_kept : o ≡ Kept → size_right counted (length s) ≡ true
+  size_kept e = opening.kept_size s v (first_kept_lem e)
 
-  pub position-refused : (table : List ℕ) {m : ℕ} → o ≡ Refused m → positionSays (position.Refused m) ≡ positionAnswerBy s table v n
-  unfolding positionSays positionAnswerBy
-  position-refused table e = opening.refused-first (positionAt (byTable table (storeOf s)) (rootBy table (storeOf s) v) n) s v (first-refused e)
+  pub position_refused : (table : List ℕ) {m : ℕ} → o ≡ Refused m → position_says (position.Refused m) ≡ position_answer_by s table v n
+  unfolding position_says position_answer_by
+  position_refused table e = opening.refused_first (position_at (by_table table (store_of s)) (root_by table (store_of s) v) n) s v (first_refused e)
 
-  pub position-is-read : (table : List ℕ) (r : declared.PositionRead) → o ≡ Kept → positionSays r ≡ positionAt (byTable table (storeOf s)) (rootBy table (storeOf s) v) n →
-      positionSays r ≡ positionAnswerBy s table v n
-  unfolding positionAnswerBy
-  position-is-read table r e f = f ∙ sym (opening.rest-decides (positionAt (byTable table (storeOf s)) (rootBy table (storeOf s) v) n) s v (first-kept e))
+  pub position_is_read : (table : List ℕ) (r : declared.PositionRead) → o ≡ Kept → position_says r ≡ position_at (by_table table (store_of s)) (root_by table (store_of s) v) n →
+      position_says r ≡ position_answer_by s table v n
+  unfolding position_answer_by
+  position_is_read table r e f = f ∙ sym (opening.rest_decides (position_at (by_table table (store_of s)) (root_by table (store_of s) v) n) s v (first_kept_lem e))
 
 -- by a table without entries it is that of the scan
-pub position-plain : (s : Bytes) (v n : ℕ) → positionAnswerBy s [] v n ≡ positionAnswer s none v n
-unfolding positionAnswerBy positionAnswer
-position-plain s v n = ap (λ look. byHeader (headerOf counted s) (readPositionBy look (storeOf s) v n)) (without-table (storeOf s))
+pub position_plain : (s : Bytes) (v n : ℕ) → position_answer_by s [] v n ≡ position_answer s none v n
+unfolding position_answer_by position_answer
+position_plain s v n = ap (λ look. by_header (header_of counted s) (read_position_by look (store_of s) v n)) (without_table (store_of s))
 
 -- a table of another length is refused with 1; else its read is one by a table of any length
 module _ (s : Bytes) (table : List ℕ) (v n : ℕ) where
-  pub position-as-many : asMany s table ≡ true → positionAnswerBy s table v n ≡ positionAnswer s (some table) v n
-  unfolding positionAnswerBy positionAnswer
-  position-as-many e = as-many (readPositionBy (byTable table (storeOf s)) (storeOf s) v n) s table e
+  pub position_as_many : as_many s table ≡ true → position_answer_by s table v n ≡ position_answer s (some table) v n
+  unfolding position_answer_by position_answer
+  position_as_many e = as_many_lem (read_position_by (by_table table (store_of s)) (store_of s) v n) s table e
 
-  pub position-not-as-many : asMany s table ≡ false → refused 1 ≡ positionAnswer s (some table) v n
-  unfolding positionAnswer
-  position-not-as-many e = not-as-many (readPositionBy (byTable table (storeOf s)) (storeOf s) v n) s table e
+  pub position_not_as_many : as_many s table ≡ false → refused 1 ≡ position_answer s (some table) v n
+  unfolding position_answer
+  position_not_as_many e = not_as_many (read_position_by (by_table table (store_of s)) (store_of s) v n) s table e

@@ -1,29 +1,27 @@
 // The grant at a position of a version, 2026-09: the root record, then down by the counts. A read tests the header, not soundness, and writes nothing.
+#![tactic(auto)]
+
+ghost use Rattle.std.specs.Prelude.{◌≡◌, true, length};
+ghost use Rattle.meaning.specs.Counting.{position_at};
+ghost use Rattle.indexed.specs.Index.{by_table, root_by};
+ghost use Rattle.layout.specs.Headers.{size_right};
+ghost use Rattle.layout.specs.Stores.{store_of};
+ghost use Rattle.read_descent.specs.Parts.{position_says};
+ghost use Rattle.read_position.specs.Positions.{position_answer_by};
+
 use check_counts::weight_at;
 use index_sights::look_root_by;
-use read_descent::PositionRead;
-use read_descent::descend;
-use read_open::Opened;
-use read_open::open;
-use read_step::Trouble;
-use read_step::refusal;
+use read_descent::{PositionRead, descend};
+use read_open::{Opened, open};
+use read_step::{Trouble, refusal};
 use refusal_numbers::wide::PAST_NUMBER;
 use sights::Sight;
 use terms::Form;
-ghost use mathlib.Core.Path.{_≡_};
-ghost use mathlib.Core.Bool.{true};
-ghost use lib.ListN.{length};
-ghost use Rattle·meaning.specs.Counting.{positionAt};
-ghost use Rattle·indexed.specs.Index.{byTable, rootBy};
-ghost use Rattle·layout.specs.Headers.{sizeRight};
-ghost use Rattle·layout.specs.Stores.{storeOf};
-ghost use Rattle·read_descent.specs.Parts.{positionSays};
-ghost use Rattle·read_position·specs.specs.Positions.{positionAnswerBy};
 
 // The root record first: 3 where it is spoilt, 20 for a position that isn't below its number.
 fn root_position(store: &[u8], index: &[u32], version: u32, position: u64) -> PositionRead
-    requires { ⌜ sizeRight Form.Counted (length (now store)) ≡ true ⌝ }
-    ensures { λ r. ⌜ positionSays r ≡ positionAt (byTable (now (index .entry)) (storeOf (now (store .entry)))) (rootBy (now (index .entry)) (storeOf (now (store .entry))) version) position ⌝ }
+    requires { size_right Form.Counted (length store.now) ≡ true }
+    ensures { position_says result ≡ position_at (by_table index.now (store_of store.now)) (root_by index.now (store_of store.now) version) position }
 {
     let sight = look_root_by(store, index, version);
     match sight {
@@ -45,7 +43,7 @@ fn root_position(store: &[u8], index: &[u32], version: u32, position: u64) -> Po
 
 // Reads the grant at a position of a version, 0 the least key, by a table of any length; one without entries is the scan.
 pub fn grants_at(store: &[u8], index: &[u32], version: u32, position: u64) -> PositionRead
-    ensures { λ r. ⌜ positionSays r ≡ positionAnswerBy (now (store .entry)) (now (index .entry)) version position ⌝ }
+    ensures { position_says result ≡ position_answer_by store.now index.now version position }
 {
     let opened = open(store, version);
     if let Opened::Refused(n) = opened {

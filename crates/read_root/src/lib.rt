@@ -1,24 +1,24 @@
 // The root record of a version looked for, for the root read of document 01, 'Reading and proving'. Writes nothing.
-use hash::Hash;
-use hash::no_hash;
+#![tactic(auto)]
+
+ghost use Rattle.std.specs.Prelude.{◌≡◌, true, length};
+ghost use Rattle.meaning.specs.Reading.{root_read};
+ghost use Rattle.indexed.specs.Index.{root_by};
+ghost use Rattle.nodehash.specs.Node.{leaf_hash, inner_hash};
+ghost use Rattle.layout.specs.Headers.{size_right};
+ghost use Rattle.layout.specs.Stores.{store_of};
+ghost use Rattle.read_root.specs.Parts.{root_says};
+
+use hash::{Hash, no_hash};
 use index_sights::look_root_by;
 use read_hash::record_hash;
-use read_step::Trouble;
-use read_step::refusal;
+use read_step::{Trouble, refusal};
 use sights::Sight;
 use store::slot_of;
 use terms::Form;
-ghost use mathlib.Core.Path.{_≡_};
-ghost use mathlib.Core.Bool.{true};
-ghost use lib.ListN.{length};
-ghost use Rattle·meaning.specs.Reading.{rootRead};
-ghost use Rattle·indexed.specs.Index.{rootBy};
-ghost use Rattle·nodehash.specs.Node.{leafHash, innerHash};
-ghost use Rattle·layout.specs.Headers.{sizeRight};
-ghost use Rattle·layout.specs.Stores.{storeOf};
-ghost use Rattle·read_root·specs.specs.Parts.{rootSays};
 
 // What a root read answers.
+#[derive(Clone, Copy)]
 pub enum RootRead {
     // The number, and in the high half a spoilt slot + 1.
     Refused(u64),
@@ -27,8 +27,8 @@ pub enum RootRead {
 
 // The hash of a version's root record, found by a table, or zeros; refused where it is spoilt.
 pub fn root_hash(store: &[u8], index: &[u32], version: u32) -> RootRead
-    requires { ⌜ sizeRight Form.Counted (length (now store)) ≡ true ⌝ }
-    ensures { λ r. ⌜ rootSays r ≡ rootRead leafHash innerHash (rootBy (now (index .entry)) (storeOf (now (store .entry))) version) ⌝ }
+    requires { size_right Form.Counted (length store.now) ≡ true }
+    ensures { root_says result ≡ root_read leaf_hash inner_hash (root_by index.now (store_of store.now) version) }
 {
     let sight = look_root_by(store, index, version);
     match sight {

@@ -1,33 +1,29 @@
 // The steps of a walk down a store in lent memory, document 01, 'Reading and proving': what is seen at the root of a version, what at a child.
 // Only the records on the way are looked at.
-use index_sights::look_by;
-use index_sights::look_root_by;
-use place::Place;
-use place::begins;
-use refusal_numbers::wide::LOST;
-use refusal_numbers::wide::NOT_SOUND;
+#![tactic(auto)]
+
+ghost use Rattle.std.specs.Prelude.{◌≡◌, true, [], ◌<◌, length};
+ghost use Rattle.meaning.specs.Reading.{refusal_of, seen};
+ghost use Rattle.indexed.specs.Index.{by_table};
+ghost use Rattle.place.specs.Place.{place_of};
+ghost use Rattle.layout.specs.Sizes.{room_of};
+ghost use Rattle.layout.specs.Headers.{size_right};
+ghost use Rattle.layout.specs.Stores.{store_of};
+ghost use Rattle.read_step.specs.Walk.{trouble_says, kid_in, seen_below, Sees, SeesIn, Slotted, SlotHolds};
+
+use index_sights::{look_by, look_root_by};
+use place::{Place, begins};
+use refusal_numbers::wide::{LOST, NOT_SOUND};
 use sights::Sight;
 use slots::key_of;
 use slots_form::is_leaf;
-use store::child_version_at;
-use store::slot_of;
+use store::{child_version_at, slot_of};
 use terms::Form;
-ghost use mathlib.Core.Path.{_≡_};
-ghost use mathlib.Core.Bool.{true};
-ghost use mathlib.Core.List.{[]};
-ghost use Prim.Native.Nat.{_<_};
-ghost use lib.ListN.{length};
-ghost use Rattle·meaning.specs.Reading.{refusalOf, seen};
-ghost use Rattle·indexed.specs.Index.{byTable};
-ghost use Rattle·place.specs.Place.{placeOf};
-ghost use Rattle·layout.specs.Sizes.{roomOf};
-ghost use Rattle·layout.specs.Headers.{sizeRight};
-ghost use Rattle·layout.specs.Stores.{storeOf};
-ghost use Rattle·read_step·specs.specs.Walk.{troubleSays, kidIn, seenBelow, Sees, SeesIn, Slotted, SlotHolds};
 
 const HIGH: u64 = 4294967296;
 
 // What stops a read.
+#[derive(Clone, Copy)]
 pub enum Trouble {
     // A present child that no slot matches.
     Lost,
@@ -39,7 +35,7 @@ pub enum Trouble {
 
 // The number of refusal, with the slot beside it where a record is spoilt.
 pub fn refusal(trouble: Trouble) -> u64
-    ensures { λ r. ⌜ r ≡ refusalOf (troubleSays trouble) ⌝ }
+    ensures { result ≡ refusal_of (trouble_says trouble) }
 {
     match trouble {
         Trouble::Lost => LOST,
@@ -49,6 +45,7 @@ pub fn refusal(trouble: Trouble) -> u64
 }
 
 // What a read sees at a place; a leaf and an inner node by their slot.
+#[derive(Clone, Copy)]
 pub enum Seen {
     // There is no child.
     Gap,
@@ -59,8 +56,8 @@ pub enum Seen {
 
 // What is seen at a place whose record was found in slot i, whatever table finds what stands below it.
 pub fn seen_in(store: &[u8], i: usize, place: Place) -> Seen
-    requires { ⌜ SlotHolds (now store) i place ⌝ }
-    ensures { λ r. ⌜ SeesIn (now (store .entry)) i (placeOf place) r ⌝ }
+    requires { SlotHolds store.now i place }
+    ensures { SeesIn store.now i (place_of place) result }
 {
     let slot = slot_of(Form::Counted, store, i);
     if !is_leaf(slot) {
@@ -74,8 +71,8 @@ pub fn seen_in(store: &[u8], i: usize, place: Place) -> Seen
 
 // What is seen by a table at the root of a version. One without entries is the scan.
 pub fn root(store: &[u8], index: &[u32], version: u32) -> Seen
-    requires { ⌜ sizeRight Form.Counted (length (now store)) ≡ true ⌝ }
-    ensures { λ r. ⌜ Sees (now (store .entry)) (now (index .entry)) [] (seen (byTable (now (index .entry)) (storeOf (now (store .entry)))) version) r ⌝ }
+    requires { size_right Form.Counted (length store.now) ≡ true }
+    ensures { Sees store.now index.now [] (seen (by_table index.now (store_of store.now)) version) result }
 {
     let top = Place::top();
     let sight = look_root_by(store, index, version);
@@ -91,16 +88,16 @@ pub fn root(store: &[u8], index: &[u32], version: u32) -> Seen
 
 // The version of the child on a side of the inner node in slot i.
 pub fn child_version(store: &[u8], i: usize, right: bool) -> u32
-    requires { ⌜ (sizeRight Form.Counted (length (now store)) ≡ true) × (i < roomOf Form.Counted (length (now store))) ⌝ }
-    ensures { λ r. ⌜ r ≡ kidIn i (now (store .entry)) right .version ⌝ }
+    requires { (size_right Form.Counted (length store.now) ≡ true) × (i < room_of Form.Counted (length store.now)) }
+    ensures { result ≡ (kid_in i store.now right).version }
 {
     child_version_at(Form::Counted, store, i, right)
 }
 
 // What is seen on a side of the inner node in slot i; the place is the child's, one bit longer than the node's.
 pub fn child(store: &[u8], index: &[u32], i: usize, right: bool, place: Place) -> Seen
-    requires { ⌜ Slotted (now store) i place ⌝ }
-    ensures { λ r. ⌜ Sees (now (store .entry)) (now (index .entry)) (placeOf place) (seenBelow (now (store .entry)) (now (index .entry)) (placeOf place) (kidIn i (now (store .entry)) right)) r ⌝ }
+    requires { Slotted store.now i place }
+    ensures { Sees store.now index.now (place_of place) (seen_below store.now index.now (place_of place) (kid_in i store.now right)) result }
 {
     let version = child_version(store, i, right);
     if version == 0 {

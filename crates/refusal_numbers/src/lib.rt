@@ -1,4 +1,6 @@
 // The numbers by which a call refuses, each once and in the documents' words. 0 is acceptance.
+#![tactic(auto)]
+
 pub mod wide;
 
 // 1: the store's length isn't 24 + 128n, n in 1 to 16,384.

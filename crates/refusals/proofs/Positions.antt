@@ -2,129 +2,129 @@
 -- its descent meets. Assumes nothing.
 use Prim.Native.Nat.{ℕ}
 use native.Mathlib.Omega.{arith}
-use mathlib.Core.Path.{_≡_, refl, ap, sym, _∙_, subst}
-use mathlib.Core.Logic.{_⊎_, inl, inr}
+use mathlib.Core.Path.{◌≡◌, refl, ap, sym, ◌∙◌, subst}
+use mathlib.Core.Logic.{◌⊎◌, inl, inr}
 use mathlib.Core.Bool.{Bool, true, false, cond}
 use mathlib.Core.List.{[]}
 use lib.ListN.{drop}
-use Rattle·terms.specs.Bits.{Bytes, Place}
-use Rattle·terms.specs.Records.{Grant, Store}
-use Rattle·meaning.specs.Sight.{Sight, matches, nothing, spoilt, rootSight, scan}
-use Rattle·meaning.specs.Calls.{Answer, refused, accepted, isKept}
-use Rattle·meaning.specs.Answers.{numberOf}
-use Rattle·meaning.specs.Reading.{Trouble, lostRecord, spoiltRecord, strayLeaf, beside, refusalOf, rootRead, readRoot}
-use Rattle·meaning.specs.Counting.{numberAt, readNumber, positionAt, readPosition}
-use Rattle·ways.specs.Ways.{Met, RootStopped}
-use Rattle·ways.specs.Positions as words
-use Rattle·ways.specs.Positions.{Lands, not-there, at-leaf, no-child, stopped, onward, Position, not-below, PositionStopped}
-use Rattle·ways.proofs.Walking.{Formed}
-use Rattle·ways.proofs.Positions.{position-exactly}
-use Rattle·layout.specs.Stores.{storeOf}
-use Rattle·refusals·specs.specs.Exactly.{Table}
-use Rattle·refusals·specs.specs.Tables.{atRows}
-use Rattle·refusals·proofs.proofs.Parts.{Row, NotKept, versionRows, placingRows}
-use Rattle·refusals·proofs.proofs.Exactly.{First}
-use Rattle·refusals·proofs.proofs.Stopped.{Stopped, tested, met, passed}
-use Rattle·refusals·proofs.proofs.Walks.{clash, kept-said, not-kept, one-refusal, root-stopped}
+use Rattle.terms.specs.Bits.{Bytes, Place}
+use Rattle.terms.specs.Records.{Grant, Store}
+use Rattle.meaning.specs.Sight.{Sight, matches, nothing, spoilt, root_sight, scan}
+use Rattle.meaning.specs.Calls.{Answer, refused, accepted, is_kept}
+use Rattle.meaning.specs.Answers.{number_of}
+use Rattle.meaning.specs.Reading.{Trouble, lost_record, spoilt_record, stray_leaf, beside, refusal_of, root_read, read_root}
+use Rattle.meaning.specs.Counting.{number_at, read_number, position_at, read_position}
+use Rattle.ways.specs.Ways.{Met, RootStopped}
+use Rattle.ways.specs.Positions as words
+use Rattle.ways.specs.Positions.{Lands, not_there, at_leaf_lem, no_child, stopped, onward, Position, not_below, PositionStopped}
+use Rattle.ways.proofs.Walking.{Formed}
+use Rattle.ways.proofs.Positions.{position_exactly}
+use Rattle.layout.specs.Stores.{store_of}
+use Rattle.refusals.specs.Exactly.{Table}
+use Rattle.refusals.specs.Tables.{at_rows}
+use Rattle.refusals.proofs.Parts.{Row, NotKept, version_rows, placing_rows}
+use Rattle.refusals.proofs.Exactly.{First}
+use Rattle.refusals.proofs.Stopped.{Stopped, tested, met, passed}
+use Rattle.refusals.proofs.Walks.{clash, kept_said, not_kept, one_refusal, root_stopped}
 
 -- Where two neighbouring rows are deserved at once, the answer is the number of the one that is tested first.
 module _ (s : Bytes) (v i : ℕ) where
   abbrev rows : Table
-  rows = drop 2 (atRows s v i)
+  rows = drop 2 (at_rows s v i)
 
-  eight-before-twenty : Row 8 rows → Row 20 rows → First rows 8
-  eight-before-twenty a b = inl (a, refl)
+  eight_before_twenty : Row 8 rows → Row 20 rows → First rows 8
+  eight_before_twenty a b = inl (a, refl)
 
-  twenty-before-three : (Row 8 rows → ⊥) → Row 20 rows → Row 3 rows → First rows 20
-  twenty-before-three kept a b = inr (kept, inl (a, refl))
+  twenty_before_three : (Row 8 rows → ⊥) → Row 20 rows → Row 3 rows → First rows 20
+  twenty_before_three kept a b = inr (kept, inl (a, refl))
 
 -- the number is refused as the root is
-module _ (leafHash innerHash : Bytes → Bytes → Bytes) (s : Bytes) (v : ℕ) where
-  same-number : numberOf (readRoot leafHash innerHash (storeOf s) v) ≡ numberOf (readNumber (storeOf s) v)
-  unfolding readRoot readNumber
-  same-number = go (isKept (storeOf s) v) (rootSight (storeOf s) v)
+module _ (leaf_hash inner_hash : Bytes → Bytes → Bytes) (s : Bytes) (v : ℕ) where
+  same_number : number_of (read_root leaf_hash inner_hash (store_of s) v) ≡ number_of (read_number (store_of s) v)
+  unfolding read_root read_number
+  same_number = go (is_kept (store_of s) v) (root_sight (store_of s) v)
     where
-      go : (b : Bool) (x : Sight) → numberOf (cond b (rootRead leafHash innerHash x) (refused 8)) ≡ numberOf (cond b (numberAt x) (refused 8))
+      go : (b : Bool) (x : Sight) → number_of (cond b (root_read leaf_hash inner_hash x) (refused 8)) ≡ number_of (cond b (number_at x) (refused 8))
       go false x = refl
       go true (matches r) = refl
       go true nothing = refl
       go true (spoilt i) = refl
 
-  pub number-stopped : Stopped (versionRows s v) [] (RootStopped (storeOf s) v) (numberOf (readNumber (storeOf s) v))
-  number-stopped = subst (Stopped (versionRows s v) [] (RootStopped (storeOf s) v)) same-number (root-stopped leafHash innerHash s v)
+  pub number_stopped : Stopped (version_rows s v) [] (RootStopped (store_of s) v) (number_of (read_number (store_of s) v))
+  number_stopped = subst (Stopped (version_rows s v) [] (RootStopped (store_of s) v)) same_number (root_stopped leaf_hash inner_hash s v)
 
 -- what a refused descent met
-lands-refused : {st : Store} {p : Place} {m : Met} {i : ℕ} {a : Answer Grant} (n : ℕ) → Lands st p m i a → a ≡ refused n →
-    (t : Trouble) × (n ≡ refusalOf t)
-lands-refused n (not-there k x e f) g = (strayLeaf, cc)
-lands-refused n (at-leaf k x e f z) g = clash (cc)
-lands-refused n no-child g = (strayLeaf, cc)
-lands-refused n (stopped {t = t}) g = (t, cc)
-lands-refused n (onward l m b j e t c w) g = lands-refused n w g
+lands_refused : {st : Store} {p : Place} {m : Met} {i : ℕ} {a : Answer Grant} (n : ℕ) → Lands st p m i a → a ≡ refused n →
+    (t : Trouble) × (n ≡ refusal_of t)
+lands_refused n (not_there k x e f) g = (stray_leaf, cc)
+lands_refused n (at_leaf_lem k x e f z) g = clash (cc)
+lands_refused n no_child g = (stray_leaf, cc)
+lands_refused n (stopped {t = t}) g = (t, cc)
+lands_refused n (onward l m b j e t c w) g = lands_refused n w g
 
-position-refused : {st : Store} {v i : ℕ} {a : Answer Grant} (n : ℕ) → Position st v i a → a ≡ refused n →
-    (n ≡ 20) ⊎ ((t : Trouble) × (n ≡ refusalOf t))
-position-refused n (words.root-lost {t = t} w) g = inr (t, cc)
-position-refused n (not-below m w l) g = inl (cc)
-position-refused n (words.from-root w s l d) g = inr (lands-refused n d g)
+position_refused : {st : Store} {v i : ℕ} {a : Answer Grant} (n : ℕ) → Position st v i a → a ≡ refused n →
+    (n ≡ 20) ⊎ ((t : Trouble) × (n ≡ refusal_of t))
+position_refused n (words.root_lost {t = t} w) g = inr (t, cc)
+position_refused n (not_below m w l) g = inl (cc)
+position_refused n (words.from_root w s l d) g = inr (lands_refused n d g)
 
 -- the number isn't above the position
 abbrev Past : Bytes → ℕ → ℕ → Type 0
-Past s v i = Row 20 (atRows s v i)
+Past s v i = Row 20 (at_rows s v i)
 
-not-twenty : (t : Trouble) → refusalOf t ≡ 20 → ⊥
+not_twenty : (t : Trouble) → refusal_of t ≡ 20 → ⊥
 unfolding beside
-not-twenty lostRecord e = omega arith
-not-twenty (spoiltRecord i) e = omega arith
-not-twenty strayLeaf e = omega arith
+not_twenty lost_record e = omega arith
+not_twenty (spoilt_record i) e = omega arith
+not_twenty stray_leaf e = omega arith
 
-module _ (s : Bytes) (formed : Formed (storeOf s)) (v i : ℕ) where
+module _ (s : Bytes) (formed : Formed (store_of s)) (v i : ℕ) where
   read : Answer Grant
-  read = positionAt (scan (storeOf s)) (scan (storeOf s) .root v) i
+  read = position_at (scan (store_of s)) ((scan (store_of s)).root v) i
 
-  past-is : Past s v i → read ≡ refused 20
+  past_is : Past s v i → read ≡ refused 20
   unfolding read
-  past-is (n, w, l) = position-exactly (storeOf s) formed v i (refused 20) .1 (not-below n w l)
+  past_is (n, w, l) = (position_exactly (store_of s) formed v i (refused 20)).1 (not_below n w l)
 
-  stop-is : (t : Trouble) → PositionStopped (storeOf s) v i t → read ≡ refused (refusalOf t)
+  stop_is : (t : Trouble) → PositionStopped (store_of s) v i t → read ≡ refused (refusal_of t)
   unfolding read
-  stop-is t p = position-exactly (storeOf s) formed v i (refused (refusalOf t)) .1 p
+  stop_is t p = (position_exactly (store_of s) formed v i (refused (refusal_of t))).1 p
 
-  said : (a : Answer Grant) → read ≡ a → Position (storeOf s) v i a
+  said : (a : Answer Grant) → read ≡ a → Position (store_of s) v i a
   unfolding read
-  said a e = position-exactly (storeOf s) formed v i a .0 e
+  said a e = (position_exactly (store_of s) formed v i a).0 e
 
-  past-said : Position (storeOf s) v i (refused 20) → Past s v i
-  past-said w = go w refl
+  past_said : Position (store_of s) v i (refused 20) → Past s v i
+  past_said w = go w refl
     where
-      go : {a : Answer Grant} → Position (storeOf s) v i a → a ≡ refused 20 → Past s v i
-      go (not-below n w l) e = (n, w, l)
-      go (words.root-lost {t = t} w) e = absurd (not-twenty t (cc))
-      go (words.from-root w g l d) e = let (t, h) = lands-refused 20 d e in absurd (not-twenty t (sym h))
+      go : {a : Answer Grant} → Position (store_of s) v i a → a ≡ refused 20 → Past s v i
+      go (not_below n w l) e = (n, w, l)
+      go (words.root_lost {t = t} w) e = absurd (not_twenty t (cc))
+      go (words.from_root w g l d) e = let (t, h) = lands_refused 20 d e in absurd (not_twenty t (sym h))
 
-  stopped-by : (isKept (storeOf s) v ≡ true) → (a : Answer Grant) → read ≡ a → Stopped (placingRows s v i) [] (PositionStopped (storeOf s) v i) (numberOf a)
-  stopped-by kept (accepted g) e =
-      passed (not-8, (λ p. let z = sym e ∙ past-is p in clash (cc), tt)) (λ t p. let z = sym e ∙ stop-is t p in clash (cc)) refl
+  stopped_by_lem : (is_kept (store_of s) v ≡ true) → (a : Answer Grant) → read ≡ a → Stopped (placing_rows s v i) [] (PositionStopped (store_of s) v i) (number_of a)
+  stopped_by_lem kept (accepted g) e =
+      passed (not_8, (λ p. let z = sym e ∙ past_is p in clash (cc), tt)) (λ t p. let z = sym e ∙ stop_is t p in clash (cc)) refl
     where
-      not-8 : NotKept s v → ⊥
-      not-8 n = n (kept-said (storeOf s) v kept)
-  stopped-by kept (refused n) e = go (position-refused n (said (refused n) e) refl)
+      not_8 : NotKept s v → ⊥
+      not_8 n = n (kept_said (store_of s) v kept)
+  stopped_by_lem kept (refused n) e = go (position_refused n (said (refused n) e) refl)
     where
-      not-8 : NotKept s v → ⊥
-      not-8 m = m (kept-said (storeOf s) v kept)
+      not_8 : NotKept s v → ⊥
+      not_8 m = m (kept_said (store_of s) v kept)
 
-      go : (n ≡ 20) ⊎ ((t : Trouble) × (n ≡ refusalOf t)) → Stopped (placingRows s v i) [] (PositionStopped (storeOf s) v i) n
+      go : (n ≡ 20) ⊎ ((t : Trouble) × (n ≡ refusal_of t)) → Stopped (placing_rows s v i) [] (PositionStopped (store_of s) v i) n
       go (inl z) =
-          tested (inr (not-8, inl (past-said (said (refused 20) (e ∙ ap refused z)), z))) (λ q. absurd (omega arith))
+          tested (inr (not_8, inl (past_said (said (refused 20) (e ∙ ap refused z)), z))) (λ q. absurd (omega arith))
       go (inr (t, z)) =
-          let f : read ≡ refused (refusalOf t) = e ∙ ap refused z in
-          met (not-8, (λ p. not-twenty t (let g = sym f ∙ past-is p in cc), tt)) t (said (refused (refusalOf t)) f)
-          (λ u p. one-refusal t u f (stop-is u p)) z
+          let f : read ≡ refused (refusal_of t) = e ∙ ap refused z in
+          met (not_8, (λ p. not_twenty t (let g = sym f ∙ past_is p in cc), tt)) t (said (refused (refusal_of t)) f)
+          (λ u p. one_refusal t u f (stop_is u p)) z
 
-  pub position-stopped : Stopped (placingRows s v i) [] (PositionStopped (storeOf s) v i) (numberOf (readPosition (storeOf s) v i))
-  unfolding readPosition read
-  position-stopped = go (isKept (storeOf s) v) refl
+  pub position_stopped : Stopped (placing_rows s v i) [] (PositionStopped (store_of s) v i) (number_of (read_position (store_of s) v i))
+  unfolding read_position read
+  position_stopped = go (is_kept (store_of s) v) refl
     where
-      go : (b : Bool) → isKept (storeOf s) v ≡ b → Stopped (placingRows s v i) [] (PositionStopped (storeOf s) v i) (numberOf (cond b read (refused 8)))
-      go true e = stopped-by e read refl
-      go false e = tested (inl (not-kept s v e, refl)) (λ z. absurd (omega arith))
+      go : (b : Bool) → is_kept (store_of s) v ≡ b → Stopped (placing_rows s v i) [] (PositionStopped (store_of s) v i) (number_of (cond b read (refused 8)))
+      go true e = stopped_by_lem e read refl
+      go false e = tested (inl (not_kept s v e, refl)) (λ z. absurd (omega arith))

@@ -1,216 +1,216 @@
 -- Rows 8, 14, 17, 3 and 9 of prune and of the reads: what the definitions answer is what they deserve. Assumes nothing.
 use Prim.Native.Nat.{ℕ}
 use native.Mathlib.Omega.{arith}
-use mathlib.Core.Path.{_≡_, refl, ap, sym, _∙_, subst}
-use mathlib.Core.Logic.{_⊎_, inl, inr}
+use mathlib.Core.Path.{◌≡◌, refl, ap, sym, ◌∙◌, subst}
+use mathlib.Core.Logic.{◌⊎◌, inl, inr}
 use mathlib.Core.Bool.{Bool, true, false, cond, true≢false}
-use mathlib.Core.List.{[], _∷_, map}
+use mathlib.Core.List.{[], ◌∷◌, map}
 use lib.ListN.{length, drop}
 use lib.Dec.{leb, ltb}
 use borrow.Author.Tests.{leb-true, le-leb, ltb-true, ltb-false}
-use Rattle·terms.specs.Bits.{Bytes, left, right, sameBytes}
-use Rattle·terms.specs.Records.{Store, Proof, presence}
-use Rattle·terms.proofs.Tests.{and-left, and-right}
-use Rattle·meaning.specs.Sight.{Sight, matches, nothing, spoilt, rootSight, scan}
-use Rattle·meaning.specs.Sound.{Kept}
-use Rattle·meaning.specs.Calls.{Answer, refused, accepted, isKept, refuse, prune}
-use Rattle·meaning.specs.Answers.{numberOf}
-use Rattle·meaning.specs.Reading.{Trouble, spoiltRecord, refusalOf, seen, End, walkStopped, atLeaf, atGap, walk, readEnd, readKey, rootRead, readRoot}
-use Rattle·meaning.specs.Proving.{stepUp, presenceOf, Sought, searchStopped, nobody, somebody, neighbour, absenceFrom, absenceAt, proveEnd, proveSeen, proof, proofLength, fitted, prove}
-use Rattle·meaning.proofs.Empty.{proof-by-searches}
-use Rattle·shown.proofs.Fourteen.{fourteen-exactly-without-root}
-use Rattle·histories.proofs.Calls.{prune-cases}
-use Rattle·ways.proofs.Walking.{Formed}
-use Rattle·ways.proofs.Theorems.{one-trouble, empty-exactly, root-stopped-exactly, key-stopped-exactly, proof-stopped-exactly}
-use Rattle·layout.specs.Stores.{storeOf}
-use Rattle·refusals·specs.specs.Exactly.{Table}
-use Rattle·ways.specs.Ways.{RootStopped, KeyStopped, ProofStopped, EmptyVersion}
-use Rattle·refusals·specs.specs.Tables.{TooLong, getRows, proveRows}
-use Rattle·refusals·proofs.proofs.Parts.{Row, NotKept, versionRows, provingRows}
-use Rattle·refusals·proofs.proofs.Exactly.{First}
-use Rattle·refusals·proofs.proofs.Stopped.{Stopped, tested, met, passed, stopped-past}
+use Rattle.terms.specs.Bits.{Bytes, left, right, same_bytes}
+use Rattle.terms.specs.Records.{Store, Proof, presence}
+use Rattle.terms.proofs.Tests.{and_left, and_right}
+use Rattle.meaning.specs.Sight.{Sight, matches, nothing, spoilt, root_sight, scan}
+use Rattle.meaning.specs.Sound.{Kept}
+use Rattle.meaning.specs.Calls.{Answer, refused, accepted, is_kept, refuse, prune}
+use Rattle.meaning.specs.Answers.{number_of}
+use Rattle.meaning.specs.Reading.{Trouble, spoilt_record, refusal_of, seen, End, walk_stopped, at_leaf, at_gap, walk, read_end, read_key, root_read, read_root}
+use Rattle.meaning.specs.Proving.{step_up, presence_of, Sought, search_stopped, nobody, somebody, neighbour, absence_from, absence_at, prove_end, prove_seen, proof, proof_length, fitted, prove}
+use Rattle.meaning.proofs.Empty.{proof_by_searches}
+use Rattle.shown.proofs.Fourteen.{fourteen_exactly_without_root}
+use Rattle.histories.proofs.Calls.{prune_cases}
+use Rattle.ways.proofs.Walking.{Formed}
+use Rattle.ways.proofs.Theorems.{one_trouble, empty_exactly, root_stopped_exactly, key_stopped_exactly, proof_stopped_exactly}
+use Rattle.layout.specs.Stores.{store_of}
+use Rattle.refusals.specs.Exactly.{Table}
+use Rattle.ways.specs.Ways.{RootStopped, KeyStopped, ProofStopped, EmptyVersion}
+use Rattle.refusals.specs.Tables.{TooLong, get_rows, prove_rows}
+use Rattle.refusals.proofs.Parts.{Row, NotKept, version_rows, proving_rows}
+use Rattle.refusals.proofs.Exactly.{First}
+use Rattle.refusals.proofs.Stopped.{Stopped, tested, met, passed, stopped_past}
 
 -- Where two neighbouring rows are deserved at once, the answer is the number of the one that is tested first.
 module _ (s : Bytes) (v : ℕ) (k room : Bytes) where
   abbrev key : Table
-  key = drop 3 (getRows s v k)
+  key = drop 3 (get_rows s v k)
 
   abbrev proving : Table
-  proving = drop 3 (proveRows s v k room)
+  proving = drop 3 (prove_rows s v k room)
 
-  twelve-before-one : Row 12 (getRows s v k) → Row 1 (getRows s v k) → First (getRows s v k) 12
-  twelve-before-one a b = inl (a, refl)
+  twelve_before_one : Row 12 (get_rows s v k) → Row 1 (get_rows s v k) → First (get_rows s v k) 12
+  twelve_before_one a b = inl (a, refl)
 
-  eight-before-three : Row 8 key → Row 3 key → First key 8
-  eight-before-three a b = inl (a, refl)
+  eight_before_three : Row 8 key → Row 3 key → First key 8
+  eight_before_three a b = inl (a, refl)
 
-  eight-before-fourteen : Row 8 proving → Row 14 proving → First proving 8
-  eight-before-fourteen a b = inl (a, refl)
+  eight_before_fourteen : Row 8 proving → Row 14 proving → First proving 8
+  eight_before_fourteen a b = inl (a, refl)
 
   module _ (kept : Row 8 proving → ⊥) where
-    fourteen-before-three : Row 14 proving → Row 3 proving → First proving 14
-    fourteen-before-three a b = inr (kept, inl (a, refl))
+    fourteen_before_three : Row 14 proving → Row 3 proving → First proving 14
+    fourteen_before_three a b = inr (kept, inl (a, refl))
 
-    three-before-nine : (Row 14 proving → ⊥) → (Row 17 proving → ⊥) → Row 3 proving → First proving 3
-    three-before-nine some found a = inr (kept, inr (some, inr (found, inl (a, refl))))
+    three_before_nine : (Row 14 proving → ⊥) → (Row 17 proving → ⊥) → Row 3 proving → First proving 3
+    three_before_nine some found a = inr (kept, inr (some, inr (found, inl (a, refl))))
 
-pub clash : {A : Type 0} → _≡_ {A = ℕ} 0 1 → A
+pub clash : {A : Type 0} → ◌≡◌ {A = ℕ} 0 1 → A
 clash e = absurd (omega arith)
 
 -- row 8 by its test
-pub kept-said : (st : Store) (v : ℕ) → isKept st v ≡ true → Kept st v
-unfolding isKept
-kept-said st v e =
-    let a = leb (st .oldest) v in
-    let b = leb v (st .latest) in
-    (leb-true (st .oldest) v (and-left a b e), leb-true v (st .latest) (and-right a b e))
+pub kept_said : (st : Store) (v : ℕ) → is_kept st v ≡ true → Kept st v
+unfolding is_kept
+kept_said st v e =
+    let a = leb st.oldest v in
+    let b = leb v st.latest in
+    (leb-true st.oldest v (and_left a b e), leb-true v st.latest (and_right a b e))
 
-said-kept : (st : Store) (v : ℕ) → Kept st v → isKept st v ≡ true
-unfolding isKept
-said-kept st v h = rw (le-leb (st .oldest) v (h .0), le-leb v (st .latest) (h .1))
+said_kept : (st : Store) (v : ℕ) → Kept st v → is_kept st v ≡ true
+unfolding is_kept
+said_kept st v h = rw (le-leb st.oldest v h.0, le-leb v st.latest h.1)
 
-pub prune-first : (n : ℕ) (s : Bytes) → First (versionRows s n) (numberOf (prune n (storeOf s) .answer))
+pub prune_first : (n : ℕ) (s : Bytes) → First (version_rows s n) (number_of (prune n (store_of s)).answer)
 unfolding refuse
-prune-first n s =
-    prune-cases (λ o. First (versionRows s n) (numberOf (o .answer))) n (storeOf s) (λ h. inl (h, refl)) (λ h. inr (λ f. f h, refl))
+prune_first n s =
+    prune_cases (λ o. First (version_rows s n) (number_of o.answer)) n (store_of s) (λ h. inl (h, refl)) (λ h. inr (λ f. f h, refl))
 
 -- a test of the version, and what a read is stopped by after it
-pub not-kept : (s : Bytes) (v : ℕ) → isKept (storeOf s) v ≡ false → NotKept s v
-not-kept s v e h = true≢false (sym (said-kept (storeOf s) v h) ∙ e)
+pub not_kept : (s : Bytes) (v : ℕ) → is_kept (store_of s) v ≡ false → NotKept s v
+not_kept s v e h = true≢false (sym (said_kept (store_of s) v h) ∙ e)
 
-by-kept : {A : Type 0} {later : Table} {stops : Trouble → Type 0} (s : Bytes) (v : ℕ) (a : Answer A) → Stopped [] later stops (numberOf a) →
-    Stopped (versionRows s v) later stops (numberOf (cond (isKept (storeOf s) v) a (refused 8)))
-by-kept {later = later} {stops = stops} s v a w = go (isKept (storeOf s) v) refl
+by_kept : {A : Type 0} {later : Table} {stops : Trouble → Type 0} (s : Bytes) (v : ℕ) (a : Answer A) → Stopped [] later stops (number_of a) →
+    Stopped (version_rows s v) later stops (number_of (cond (is_kept (store_of s) v) a (refused 8)))
+by_kept {later = later} {stops = stops} s v a w = go (is_kept (store_of s) v) refl
   where
-    go : (b : Bool) → isKept (storeOf s) v ≡ b → Stopped (versionRows s v) later stops (numberOf (cond b a (refused 8)))
-    go true e = stopped-past (versionRows s v) [] (λ n. n (kept-said (storeOf s) v e), tt) w
-    go false e = tested (inl (not-kept s v e, refl)) (λ z. absurd (omega arith))
+    go : (b : Bool) → is_kept (store_of s) v ≡ b → Stopped (version_rows s v) later stops (number_of (cond b a (refused 8)))
+    go true e = stopped_past (version_rows s v) [] (λ n. n (kept_said (store_of s) v e), tt) w
+    go false e = tested (inl (not_kept s v e, refl)) (λ z. absurd (omega arith))
 
 -- refusals of one answer
-pub one-refusal : {A : Type 0} {a : Answer A} (t u : Trouble) → a ≡ refused (refusalOf t) → a ≡ refused (refusalOf u) → t ≡ u
-one-refusal t u e f = one-trouble t u (let g = sym e ∙ f in cc)
+pub one_refusal : {A : Type 0} {a : Answer A} (t u : Trouble) → a ≡ refused (refusal_of t) → a ≡ refused (refusal_of u) → t ≡ u
+one_refusal t u e f = one_trouble t u (let g = sym e ∙ f in cc)
 
 -- the root read
-module _ (leafHash innerHash : Bytes → Bytes → Bytes) (s : Bytes) (v : ℕ) where
-  pub root-stopped : Stopped (versionRows s v) [] (RootStopped (storeOf s) v) (numberOf (readRoot leafHash innerHash (storeOf s) v))
-  unfolding readRoot
-  root-stopped = by-kept s v (rootRead leafHash innerHash (rootSight (storeOf s) v)) (go (rootSight (storeOf s) v) refl)
+module _ (leaf_hash inner_hash : Bytes → Bytes → Bytes) (s : Bytes) (v : ℕ) where
+  pub root_stopped : Stopped (version_rows s v) [] (RootStopped (store_of s) v) (number_of (read_root leaf_hash inner_hash (store_of s) v))
+  unfolding read_root
+  root_stopped = by_kept s v (root_read leaf_hash inner_hash (root_sight (store_of s) v)) (go (root_sight (store_of s) v) refl)
     where
-      not-stopped : {x : Sight} {root : Bytes} → rootSight (storeOf s) v ≡ x → rootRead leafHash innerHash x ≡ accepted root → (t : Trouble) → RootStopped (storeOf s) v t → ⊥
-      not-stopped e f t p =
-          let g = sym (root-stopped-exactly (storeOf s) v leafHash innerHash t .1 p) ∙ ap (rootRead leafHash innerHash) e ∙ f in clash (cc)
+      not_stopped : {x : Sight} {root : Bytes} → root_sight (store_of s) v ≡ x → root_read leaf_hash inner_hash x ≡ accepted root → (t : Trouble) → RootStopped (store_of s) v t → ⊥
+      not_stopped e f t p =
+          let g = sym ((root_stopped_exactly (store_of s) v leaf_hash inner_hash t).1 p) ∙ ap (root_read leaf_hash inner_hash) e ∙ f in clash (cc)
 
-      go : (x : Sight) → rootSight (storeOf s) v ≡ x → Stopped [] [] (RootStopped (storeOf s) v) (numberOf (rootRead leafHash innerHash x))
-      go (matches r) e = passed tt (not-stopped e refl) refl
-      go nothing e = passed tt (not-stopped e refl) refl
+      go : (x : Sight) → root_sight (store_of s) v ≡ x → Stopped [] [] (RootStopped (store_of s) v) (number_of (root_read leaf_hash inner_hash x))
+      go (matches r) e = passed tt (not_stopped e refl) refl
+      go nothing e = passed tt (not_stopped e refl) refl
       go (spoilt i) e =
-          let f = ap (rootRead leafHash innerHash) e in
-          met tt (spoiltRecord i) (root-stopped-exactly (storeOf s) v leafHash innerHash (spoiltRecord i) .0 f)
-          (λ u p. one-refusal (spoiltRecord i) u f (root-stopped-exactly (storeOf s) v leafHash innerHash u .1 p)) refl
+          let f = ap (root_read leaf_hash inner_hash) e in
+          met tt (spoilt_record i) ((root_stopped_exactly (store_of s) v leaf_hash inner_hash (spoilt_record i)).0 f)
+          (λ u p. one_refusal (spoilt_record i) u f ((root_stopped_exactly (store_of s) v leaf_hash inner_hash u).1 p)) refl
 
-module _ (s : Bytes) (formed : Formed (storeOf s)) (v : ℕ) (k : Bytes) where
+module _ (s : Bytes) (formed : Formed (store_of s)) (v : ℕ) (k : Bytes) where
   -- the key read
-  pub get-stopped : Stopped (versionRows s v) [] (KeyStopped (storeOf s) v k) (numberOf (readKey (storeOf s) v k))
-  unfolding readKey
-  get-stopped = by-kept s v (readEnd k (walk k 0 [] (seen (scan (storeOf s)) v))) (go (walk k 0 [] (seen (scan (storeOf s)) v)) refl)
+  pub get_stopped : Stopped (version_rows s v) [] (KeyStopped (store_of s) v k) (number_of (read_key (store_of s) v k))
+  unfolding read_key
+  get_stopped = by_kept s v (read_end k (walk k 0 [] (seen (scan (store_of s)) v))) (go (walk k 0 [] (seen (scan (store_of s)) v)) refl)
     where
-      go : (e : End) → walk k 0 [] (seen (scan (storeOf s)) v) ≡ e → Stopped [] [] (KeyStopped (storeOf s) v k) (numberOf (readEnd k e))
-      go (walkStopped t) f =
-          met tt t (key-stopped-exactly (storeOf s) formed v k t .0 f) (λ u p. let g = sym f ∙ key-stopped-exactly (storeOf s) formed v k u .1 p in cc) refl
-      go (atLeaf l x trail) f = passed tt (λ t p. let g = sym f ∙ key-stopped-exactly (storeOf s) formed v k t .1 p in clash (cc)) refl
-      go (atGap trail) f = passed tt (λ t p. let g = sym f ∙ key-stopped-exactly (storeOf s) formed v k t .1 p in clash (cc)) refl
+      go : (e : End) → walk k 0 [] (seen (scan (store_of s)) v) ≡ e → Stopped [] [] (KeyStopped (store_of s) v k) (number_of (read_end k e))
+      go (walk_stopped t) f =
+          met tt t ((key_stopped_exactly (store_of s) formed v k t).0 f) (λ u p. let g = sym f ∙ (key_stopped_exactly (store_of s) formed v k u).1 p in cc) refl
+      go (at_leaf l x trail) f = passed tt (λ t p. let g = sym f ∙ (key_stopped_exactly (store_of s) formed v k t).1 p in clash (cc)) refl
+      go (at_gap trail) f = passed tt (λ t p. let g = sym f ∙ (key_stopped_exactly (store_of s) formed v k t).1 p in clash (cc)) refl
 
   -- what isn't proved at the end of a walk is refused by what stopped a search, or with 14
   abbrev By : ℕ → Type 0
-  By n = ((t : Trouble) × (n ≡ refusalOf t)) ⊎ (n ≡ 14)
+  By n = ((t : Trouble) × (n ≡ refusal_of t)) ⊎ (n ≡ 14)
 
-  absence-refused : (x y : Sought) {n : ℕ} → absenceFrom k x y ≡ refused n → By n
-  absence-refused (searchStopped t) y e = inl (t, cc)
-  absence-refused nobody (searchStopped t) e = inl (t, cc)
-  absence-refused nobody nobody e = inr (cc)
-  absence-refused nobody (somebody q) e = clash (cc)
-  absence-refused (somebody p) (searchStopped t) e = inl (t, cc)
-  absence-refused (somebody p) nobody e = clash (cc)
-  absence-refused (somebody p) (somebody q) e = clash (cc)
+  absence_refused : (x y : Sought) {n : ℕ} → absence_from k x y ≡ refused n → By n
+  absence_refused (search_stopped t) y e = inl (t, cc)
+  absence_refused nobody (search_stopped t) e = inl (t, cc)
+  absence_refused nobody nobody e = inr (cc)
+  absence_refused nobody (somebody q) e = clash (cc)
+  absence_refused (somebody p) (search_stopped t) e = inl (t, cc)
+  absence_refused (somebody p) nobody e = clash (cc)
+  absence_refused (somebody p) (somebody q) e = clash (cc)
 
-  end-refused : (e : End) {n : ℕ} → proveEnd k e ≡ refused n → By n
-  unfolding absenceAt
-  end-refused (walkStopped t) h = inl (t, cc)
-  end-refused (atGap trail) h = absence-refused (neighbour left k (atGap trail)) (neighbour right k (atGap trail)) h
-  end-refused (atLeaf l x trail) {n} h = go (sameBytes k l) h
+  end_refused : (e : End) {n : ℕ} → prove_end k e ≡ refused n → By n
+  unfolding absence_at
+  end_refused (walk_stopped t) h = inl (t, cc)
+  end_refused (at_gap trail) h = absence_refused (neighbour left k (at_gap trail)) (neighbour right k (at_gap trail)) h
+  end_refused (at_leaf l x trail) {n} h = go (same_bytes k l) h
     where
       go : (b : Bool) →
-          cond b (accepted (presence (presenceOf l x (map stepUp trail))))
-          (absenceFrom k (neighbour left k (atLeaf l x trail)) (neighbour right k (atLeaf l x trail)))
+          cond b (accepted (presence (presence_of l x (map step_up trail))))
+          (absence_from k (neighbour left k (at_leaf l x trail)) (neighbour right k (at_leaf l x trail)))
           ≡ refused n → By n
       go true f = clash (cc)
-      go false f = absence-refused (neighbour left k (atLeaf l x trail)) (neighbour right k (atLeaf l x trail)) f
+      go false f = absence_refused (neighbour left k (at_leaf l x trail)) (neighbour right k (at_leaf l x trail)) f
 
   -- proving
-  pub proof-is : isKept (storeOf s) v ≡ true → proof (storeOf s) v k ≡ proveEnd k (walk k 0 [] (seen (scan (storeOf s)) v))
-  unfolding proveSeen
-  proof-is e =
-      proof-by-searches (storeOf s) v k ∙ ap (λ b. cond b (proveEnd k (walk k 0 [] (seen (scan (storeOf s)) v))) (refused 8)) e
+  pub proof_is : is_kept (store_of s) v ≡ true → proof (store_of s) v k ≡ prove_end k (walk k 0 [] (seen (scan (store_of s)) v))
+  unfolding prove_seen
+  proof_is e =
+      proof_by_searches (store_of s) v k ∙ ap (λ b. cond b (prove_end k (walk k 0 [] (seen (scan (store_of s)) v))) (refused 8)) e
 
-  refused-8 : isKept (storeOf s) v ≡ false → proof (storeOf s) v k ≡ refused 8
-  refused-8 e = proof-by-searches (storeOf s) v k ∙ ap (λ b. cond b (proveSeen k (seen (scan (storeOf s)) v)) (refused 8)) e
+  refused_8 : is_kept (store_of s) v ≡ false → proof (store_of s) v k ≡ refused 8
+  refused_8 e = proof_by_searches (store_of s) v k ∙ ap (λ b. cond b (prove_seen k (seen (scan (store_of s)) v)) (refused 8)) e
 
-  pub same-proof : {p q : Proof} → _≡_ {A = Answer Proof} (accepted p) (accepted q) → p ≡ q
-  same-proof e = cc
+  pub same_proof : {p q : Proof} → ◌≡◌ {A = Answer Proof} (accepted p) (accepted q) → p ≡ q
+  same_proof e = cc
 
   -- Proving, and what is done with the proof afterwards: a refusal stays, and an accepted proof is refused by later rows or given.
   module _ (later : Table) (give : Answer Proof → Answer Proof) (stays : (n : ℕ) → give (refused n) ≡ refused n)
-      (given : (p : Proof) → proof (storeOf s) v k ≡ accepted p → First later (numberOf (give (accepted p)))) where
+      (given : (p : Proof) → proof (store_of s) v k ≡ accepted p → First later (number_of (give (accepted p)))) where
     abbrev Deserved : ℕ → Type 0
-    Deserved n = Stopped (provingRows s v) later (ProofStopped (storeOf s) v k) n
+    Deserved n = Stopped (proving_rows s v) later (ProofStopped (store_of s) v k) n
 
-    module _ (kept : isKept (storeOf s) v ≡ true) where
-      not-8 : NotKept s v → ⊥
-      not-8 n = n (kept-said (storeOf s) v kept)
+    module _ (kept : is_kept (store_of s) v ≡ true) where
+      not_8 : NotKept s v → ⊥
+      not_8 n = n (kept_said (store_of s) v kept)
 
       -- with a root, proving is stopped, or there is a proof
-      rooted : (EmptyVersion (storeOf s) v → ⊥) → (a : Answer Proof) → proof (storeOf s) v k ≡ a → Deserved (numberOf (give a))
-      rooted full (refused n) f = subst (λ a. Deserved (numberOf a)) (sym (stays n)) (go (end-refused (walk k 0 [] (seen (scan (storeOf s)) v)) (sym (proof-is kept) ∙ f)))
+      rooted : (EmptyVersion (store_of s) v → ⊥) → (a : Answer Proof) → proof (store_of s) v k ≡ a → Deserved (number_of (give a))
+      rooted full (refused n) f = subst (λ a. Deserved (number_of a)) (sym (stays n)) (go (end_refused (walk k 0 [] (seen (scan (store_of s)) v)) (sym (proof_is kept) ∙ f)))
         where
           go : By n → Deserved n
           go (inl (t, e)) =
-              let g = sym (proof-is kept) ∙ f ∙ ap refused e in
-              met (not-8, (full, tt)) t (proof-stopped-exactly (storeOf s) formed v k t .0 g)
-              (λ u p. one-refusal t u g (proof-stopped-exactly (storeOf s) formed v k u .1 p)) e
+              let g = sym (proof_is kept) ∙ f ∙ ap refused e in
+              met (not_8, (full, tt)) t ((proof_stopped_exactly (store_of s) formed v k t).0 g)
+              (λ u p. one_refusal t u g ((proof_stopped_exactly (store_of s) formed v k u).1 p)) e
           go (inr fourteen) =
-              absurd (full (empty-exactly (storeOf s) v .0 (fourteen-exactly-without-root (storeOf s) formed v k .0 (f ∙ ap refused fourteen) .1)))
-      rooted full (accepted p) f = passed (not-8, (full, tt)) not-stopped (given p f)
+              absurd (full ((empty_exactly (store_of s) v).0 ((fourteen_exactly_without_root (store_of s) formed v k).0 (f ∙ ap refused fourteen)).1))
+      rooted full (accepted p) f = passed (not_8, (full, tt)) not_stopped (given p f)
         where
-          not-stopped : (t : Trouble) → ProofStopped (storeOf s) v k t → ⊥
-          not-stopped t l = let z = sym f ∙ proof-is kept ∙ proof-stopped-exactly (storeOf s) formed v k t .1 l in clash (cc)
+          not_stopped : (t : Trouble) → ProofStopped (store_of s) v k t → ⊥
+          not_stopped t l = let z = sym f ∙ proof_is kept ∙ (proof_stopped_exactly (store_of s) formed v k t).1 l in clash (cc)
 
-      by-root : (x : Sight) → rootSight (storeOf s) v ≡ x → Deserved (numberOf (give (proof (storeOf s) v k)))
-      by-root nothing e =
-          subst (λ a. Deserved (numberOf a)) (sym (ap give (fourteen-exactly-without-root (storeOf s) formed v k .1 (kept, e)) ∙ stays 14))
-          (tested (inr (not-8, inl (empty-exactly (storeOf s) v .0 e, refl))) (λ z. absurd (omega arith)))
-      by-root (matches r) e = rooted (λ w. let f = sym e ∙ empty-exactly (storeOf s) v .1 w in clash (cc)) (proof (storeOf s) v k) refl
-      by-root (spoilt i) e = rooted (λ w. let f = sym e ∙ empty-exactly (storeOf s) v .1 w in clash (cc)) (proof (storeOf s) v k) refl
+      by_root : (x : Sight) → root_sight (store_of s) v ≡ x → Deserved (number_of (give (proof (store_of s) v k)))
+      by_root nothing e =
+          subst (λ a. Deserved (number_of a)) (sym (ap give ((fourteen_exactly_without_root (store_of s) formed v k).1 (kept, e)) ∙ stays 14))
+          (tested (inr (not_8, inl ((empty_exactly (store_of s) v).0 e, refl))) (λ z. absurd (omega arith)))
+      by_root (matches r) e = rooted (λ w. let f = sym e ∙ (empty_exactly (store_of s) v).1 w in clash (cc)) (proof (store_of s) v k) refl
+      by_root (spoilt i) e = rooted (λ w. let f = sym e ∙ (empty_exactly (store_of s) v).1 w in clash (cc)) (proof (store_of s) v k) refl
 
-    pub proof-stopped : Deserved (numberOf (give (proof (storeOf s) v k)))
-    proof-stopped = go (isKept (storeOf s) v) refl
+    pub proof_stopped : Deserved (number_of (give (proof (store_of s) v k)))
+    proof_stopped = go (is_kept (store_of s) v) refl
       where
-        go : (b : Bool) → isKept (storeOf s) v ≡ b → Deserved (numberOf (give (proof (storeOf s) v k)))
-        go true e = by-root e (rootSight (storeOf s) v) refl
+        go : (b : Bool) → is_kept (store_of s) v ≡ b → Deserved (number_of (give (proof (store_of s) v k)))
+        go true e = by_root e (root_sight (store_of s) v) refl
         go false e =
-            subst (λ a. Deserved (numberOf a)) (sym (ap give (refused-8 e) ∙ stays 8)) (tested (inl (not-kept s v e, refl)) (λ z. absurd (omega arith)))
+            subst (λ a. Deserved (number_of a)) (sym (ap give (refused_8 e) ∙ stays 8)) (tested (inl (not_kept s v e, refl)) (λ z. absurd (omega arith)))
 
-  pub refused-by : isKept (storeOf s) v ≡ true → {n : ℕ} → proof (storeOf s) v k ≡ refused n → ((t : Trouble) × (n ≡ refusalOf t)) ⊎ (n ≡ 14)
-  refused-by kept f = end-refused (walk k 0 [] (seen (scan (storeOf s)) v)) (sym (proof-is kept) ∙ f)
+  pub refused_by : is_kept (store_of s) v ≡ true → {n : ℕ} → proof (store_of s) v k ≡ refused n → ((t : Trouble) × (n ≡ refusal_of t)) ⊎ (n ≡ 14)
+  refused_by kept f = end_refused (walk k 0 [] (seen (scan (store_of s)) v)) (sym (proof_is kept) ∙ f)
 
   -- row 9: the proof there is fits, or is too long
-  pub fits-first : (room : Bytes) (p : Proof) → proof (storeOf s) v k ≡ accepted p → First ((9, TooLong s v k room) ∷ []) (numberOf (fitted (length room) (accepted p)))
-  fits-first room p f = go (ltb (length room) (proofLength p)) refl
+  pub fits_first : (room : Bytes) (p : Proof) → proof (store_of s) v k ≡ accepted p → First ((9, TooLong s v k room) ∷ []) (number_of (fitted (length room) (accepted p)))
+  fits_first room p f = go (ltb (length room) (proof_length p)) refl
     where
-      go : (b : Bool) → ltb (length room) (proofLength p) ≡ b → First ((9, TooLong s v k room) ∷ []) (numberOf {A = Proof} (cond b (refused 9) (accepted p)))
-      go true e = inl ((p, f, ltb-true (length room) (proofLength p) e), refl)
+      go : (b : Bool) → ltb (length room) (proof_length p) ≡ b → First ((9, TooLong s v k room) ∷ []) (number_of {A = Proof} (cond b (refused 9) (accepted p)))
+      go true e = inl ((p, f, ltb-true (length room) (proof_length p) e), refl)
       go false e =
-          inr (λ t. absurd (omega (arith, ltb-false (length room) (proofLength p) e, ap proofLength (same-proof (sym f ∙ t .1)), t .2)), refl)
+          inr (λ t. absurd (omega (arith, ltb-false (length room) (proof_length p) e, ap proof_length (same_proof (sym f ∙ t.1)), t.2)), refl)
 
-  pub prove-stopped : (room : Bytes) → Stopped (provingRows s v) ((9, TooLong s v k room) ∷ []) (ProofStopped (storeOf s) v k) (numberOf (prove (storeOf s) v k (length room)))
+  pub prove_stopped : (room : Bytes) → Stopped (proving_rows s v) ((9, TooLong s v k room) ∷ []) (ProofStopped (store_of s) v k) (number_of (prove (store_of s) v k (length room)))
   unfolding prove
-  prove-stopped room = proof-stopped ((9, TooLong s v k room) ∷ []) (fitted (length room)) (λ n. refl) (fits-first room)
+  prove_stopped room = proof_stopped ((9, TooLong s v k room) ∷ []) (fitted (length room)) (λ n. refl) (fits_first room)

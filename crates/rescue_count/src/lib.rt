@@ -1,16 +1,18 @@
 // Two buffers compared slot by slot, document 02, request 2026-08: records kept as they were, kept with another retired-since, used slots left
 // out.
+#![tactic(auto)]
+
+ghost use Rattle.std.specs.Prelude.{◌≡◌};
+ghost use Rattle.layout.specs.Stores.{store_of, slot_no};
+ghost use Rattle.rescue_rules.specs.Rescue.{compared, counts};
+ghost use Rattle.rescue_count.specs.Count.{counts_say, Countable, Pair};
+
 use fields::all_zero;
 use lookup::holds_record;
-use store::retired_at;
-use store::slot_count;
-use store::slot_of;
+use store::{retired_at, slot_count, slot_of};
 use terms::Form;
-ghost use mathlib.Core.Path.{_≡_};
-ghost use Rattle·layout.specs.Stores.{storeOf, slotNo};
-ghost use Rattle·rescue_rules.specs.Rescue.{compared, counts};
-ghost use Rattle·rescue_count·specs.specs.Count.{countsSay, Countable, Pair};
 
+#[derive(Clone, Copy)]
 pub struct Counts {
     pub same: u32,
     pub other: u32,
@@ -19,8 +21,8 @@ pub struct Counts {
 
 // Counts slot i.
 fn count_slot(source: &[u8], target: &[u8], i: usize, c: Counts) -> Counts
-    requires { ⌜ Countable (now source) (now target) i c ⌝ }
-    ensures { λ r. ⌜ countsSay r ≡ compared (slotNo Form.Counted i (now (source .entry))) (slotNo Form.Counted i (now (target .entry))) (countsSay c) ⌝ }
+    requires { Countable source.now target.now i c }
+    ensures { counts_say result ≡ compared (slot_no Form.Counted i source.now) (slot_no Form.Counted i target.now) (counts_say c) }
 {
     let before = slot_of(Form::Counted, source, i);
     let after = slot_of(Form::Counted, target, i);
@@ -46,8 +48,8 @@ fn count_slot(source: &[u8], target: &[u8], i: usize, c: Counts) -> Counts
 
 // Counts all slots.
 pub fn count(source: &[u8], target: &[u8]) -> Counts
-    requires { ⌜ Pair (now source) (now target) ⌝ }
-    ensures { λ r. ⌜ countsSay r ≡ counts (storeOf (now (source .entry)) .slots) (storeOf (now (target .entry)) .slots) ⌝ }
+    requires { Pair source.now target.now }
+    ensures { counts_say result ≡ counts (store_of source.now).slots (store_of target.now).slots }
 {
     let n = slot_count(Form::Counted, source);
     let mut c = Counts {

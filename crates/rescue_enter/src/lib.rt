@@ -1,21 +1,22 @@
 // The records that one tree of a source has and the next lacks, entered in the target, document 02, request 2026-08: each in its slot, with the
 // retired-since given.
+#![tactic(auto)]
+
+ghost use Rattle.layout.specs.Stores.{store_of};
+ghost use Rattle.ordered.specs.Ordered.{Guide};
+ghost use Rattle.rescue_enter.specs.Enter.{Target, Held, Puts, Entering, Enters};
+
 use lookup::Found;
 use place::Place;
-use rescue_look::kid;
-use rescue_look::lowest;
+use rescue_look::{kid, lowest};
 use store::slot_of;
-use store_put::copy_slot;
-use store_put::put_retired_at;
+use store_put::{copy_slot, put_retired_at};
 use terms::Form;
-ghost use Rattle·layout.specs.Stores.{storeOf};
-ghost use Rattle·ordered.specs.Ordered.{Guide};
-ghost use Rattle·rescue_enter·specs.specs.Enter.{Target, Held, Puts, Entering, Enters};
 
 // Writes the record that was found in the source to its slot of the target, with another retired-since.
 fn put(source: &[u8], found: Found, since: u32, target: &mut [u8])
-    requires { ⌜ Target (now source) (now target) × Held (now source) found ⌝ }
-    ensures { λ _. ⌜ Puts (now (source .entry)) found since (now (target .entry)) (now (target .exit)) ⌝ }
+    requires { Target source.now target.old × Held source.now found }
+    ensures { Puts source.now found since target.old target.new }
 {
     let Found::At(i) = found else {
         return;
@@ -35,8 +36,8 @@ pub fn enter(
     a: u32,
     b: u32,
 )
-    requires { ⌜ Entering (now source) (now target) place × Guide (storeOf (now source) .slots) (now table) many ⌝ }
-    ensures { λ _. ⌜ Enters (now (source .entry)) since place a b (now (target .entry)) (now (target .exit)) ⌝ }
+    requires { Entering source.now target.old place × Guide (store_of source.now).slots table.now many }
+    ensures { Enters source.now since place a b target.old target.new }
 {
     if a == b {
         return;

@@ -1,38 +1,35 @@
 -- Document 02, request 2026-08, over the bytes of a source: whether one tree joins the next from a place on. No public
 -- promise reaches this file. Assumes nothing.
-use Prim.Native.Nat.{ℕ, zero, suc, _-_}
-use mathlib.Core.Path.{_≡_}
-use mathlib.Core.Bool.{Bool, true, false}
-use mathlib.Core.List.{List}
-use Rattle·terms.specs.Bits.{Bytes, Side, Place, longer}
-use Rattle·terms.specs.Records.{Slot}
-use Rattle·meaning.specs.Store.{find}
-use Rattle·nodehash.specs.Node.{leafHash, innerHash}
-use Rattle·place.specs.declared.Place as place
-use Rattle·place.specs.Place.{placeOf}
-use Rattle·layout.specs.Stores.{storeOf}
-use Rattle·rescue_rules.specs.Joining.{kidOf, recordRight, joinAt, newestChild}
-use Rattle·rescue_join·specs.specs.declared.Joined as declared
-use Rattle·rescue_join·specs.specs.declared.Joined.the-variants.{Broken, Fits}
+use Rattle.std.specs.Prelude.{ℕ, zero, suc, ◌-◌, ◌≡◌, Bool, true, false, List}
+use Rattle.terms.specs.Bits.{Bytes, Side, Place, longer}
+use Rattle.terms.specs.Records.{Slot}
+use Rattle.meaning.specs.Store.{find}
+use Rattle.nodehash.specs.Node.{leaf_hash, inner_hash}
+use Rattle.place.specs.declared.Place as place
+use Rattle.place.specs.Place.{place_of}
+use Rattle.layout.specs.Stores.{store_of}
+use Rattle.rescue_rules.specs.Joining.{kid_of, record_right, join_at, newest_child}
+use Rattle.rescue_join.specs.declared.Joined as declared
+use Rattle.rescue_join.specs.declared.Joined.TheVariants.{Broken, Fits}
 
 -- From a place on: the node of version a joins that of version b, and the greatest version of a child newer than its
 -- parent.
-unfoldable pub joinsHere : Bytes → ℕ → place.Place → ℕ → ℕ → Bool
-joinsHere s next p a b = joinAt leafHash innerHash (256 - p .count) (storeOf s .slots) next a b (placeOf p)
+unfoldable pub joins_here : Bytes → ℕ → place.Place → ℕ → ℕ → Bool
+joins_here s next p a b = join_at leaf_hash inner_hash (256 - p.count) (store_of s).slots next a b (place_of p)
 
-unfoldable pub floorHere : Bytes → place.Place → ℕ → ℕ → ℕ
-floorHere s p a b = newestChild (256 - p .count) (storeOf s .slots) a b (placeOf p)
+unfoldable pub floor_here : Bytes → place.Place → ℕ → ℕ → ℕ
+floor_here s p a b = newest_child (256 - p.count) (store_of s).slots a b (place_of p)
 
 abbrev pub JoinSays : Bytes → ℕ → place.Place → ℕ → ℕ → declared.Joined → Type 0
-JoinSays s next p a b Broken = joinsHere s next p a b ≡ false
-JoinSays s next p a b (Fits l) = (joinsHere s next p a b ≡ true) × (floorHere s p a b ≡ l)
+JoinSays s next p a b Broken = joins_here s next p a b ≡ false
+JoinSays s next p a b (Fits l) = (joins_here s next p a b ≡ true) × (floor_here s p a b ≡ l)
 
 -- Each record of the tree of version v is right, from a place n bits short of a key on.
 abbrev pub RightFrom : ℕ → List Slot → ℕ → Place → Type 0
-RightFrom zero s v p = recordRight leafHash innerHash s v p (find v p s) ≡ true
+RightFrom zero s v p = record_right leaf_hash inner_hash s v p (find v p s) ≡ true
 RightFrom (suc n) s v p =
-    (recordRight leafHash innerHash s v p (find v p s) ≡ true)
-    × ((c : Side) → RightFrom n s (kidOf c (find v p s)) (longer c p))
+    (record_right leaf_hash inner_hash s v p (find v p s) ≡ true)
+    × ((c : Side) → RightFrom n s (kid_of c (find v p s)) (longer c p))
 
 unfoldable pub RightHere : Bytes → place.Place → ℕ → Type 0
-RightHere s p v = RightFrom (256 - p .count) (storeOf s .slots) v (placeOf p)
+RightHere s p v = RightFrom (256 - p.count) (store_of s).slots v (place_of p)

@@ -1,24 +1,23 @@
 // Two trees of a source compared, document 02, request 2026-08: whether a version's tree joins the next one's.
+#![tactic(auto)]
+
+ghost use Rattle.std.specs.Prelude.{◌≡◌, true, ◌||◌, length, eqb};
+ghost use Rattle.place.specs.Place.{Proper};
+ghost use Rattle.layout.specs.Headers.{size_right};
+ghost use Rattle.layout.specs.Stores.{store_of};
+ghost use Rattle.ordered.specs.Ordered.{Guide};
+ghost use Rattle.rescue_rules.specs.Joining.{newer};
+ghost use Rattle.rescue_join.specs.Join.{JoinSays, RightHere};
+
 use check_kin::later;
 use place::Place;
-use rescue_look::kid;
-use rescue_look::lowest;
+use rescue_look::{kid, lowest};
 use rescue_right::record_right;
 use terms::Form;
-ghost use mathlib.Core.Path.{_≡_};
-ghost use mathlib.Core.Bool.{true, _||_};
-ghost use lib.ListN.{length};
-ghost use lib.Dec.{eqb};
-ghost use Rattle·place.specs.Place.{Proper};
-ghost use Rattle·layout.specs.Headers.{sizeRight};
-ghost use Rattle·layout.specs.Stores.{storeOf};
-ghost use Rattle·ordered.specs.Ordered.{Guide};
-ghost use Rattle·rescue_rules.specs.Joining.{newer};
-ghost use Rattle·rescue_join·specs.specs.Join.{JoinSays, RightHere};
 
 // Whether a version is 0 or the next one.
 fn of_next(b: u32, next: u32) -> bool
-    ensures { λ r. ⌜ r ≡ (eqb b 0 || eqb b next) ⌝ }
+    ensures { result ≡ (eqb b 0 || eqb b next) }
 {
     if b == 0 {
         return true;
@@ -28,7 +27,7 @@ fn of_next(b: u32, next: u32) -> bool
 
 // The version of a child where it is newer than its parent, else 0.
 fn newer(a: u32, child: u32) -> u32
-    ensures { λ r. ⌜ r ≡ newer a child ⌝ }
+    ensures { result ≡ newer a child }
 {
     if a < child {
         return child;
@@ -36,6 +35,7 @@ fn newer(a: u32, child: u32) -> u32
     0
 }
 
+#[derive(Clone, Copy)]
 pub enum Joined {
     Broken,
     // The floor: the greatest version of a child newer than its parent, among the records of the first tree that the second lacks.
@@ -52,8 +52,8 @@ pub fn join(
     a: u32,
     b: u32,
 ) -> Joined
-    requires { ⌜ (sizeRight Form.Counted (length (now source)) ≡ true) × Proper place × Guide (storeOf (now source) .slots) (now table) many × RightHere (now source) place b ⌝ }
-    ensures { λ r. ⌜ JoinSays (now (source .entry)) next place a b r ⌝ }
+    requires { (size_right Form.Counted (length source.now) ≡ true) × Proper place × Guide (store_of source.now).slots table.now many × RightHere source.now place b }
+    ensures { JoinSays source.now next place a b result }
 {
     if a == b {
         return Joined::Fits { floor: 0 };

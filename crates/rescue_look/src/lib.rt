@@ -1,33 +1,30 @@
 // The records of a source of any contents, document 02, request 2026-08: the lowest slot of a node, the children that its record names, and
 // whether one of them is linked.
+#![tactic(auto)]
+
+ghost use Rattle.std.specs.Prelude.{◌≡◌, true, length};
+ghost use Rattle.place.specs.Place.{place_of, Proper};
+ghost use Rattle.layout.specs.Headers.{size_right};
+ghost use Rattle.layout.specs.Stores.{store_of, Has};
+ghost use Rattle.ordered.specs.Ordered.{Guide};
+ghost use Rattle.rescue_look.specs.Look.{LowestIn, Inside, KidSays, WeighsSay, tied_at};
+
 use agree::holds_node;
 use check_counts::weight_at;
-use hash::hash_at;
-use hash::same_hash;
+use hash::{hash_at, same_hash};
 use lookup::Found;
 use order_find::find_by;
 use place::Place;
 use read_hash::record_hash;
 use slots::child_hash;
 use slots_form::is_leaf;
-use store::child_count_at;
-use store::child_version_at;
-use store::slot_count;
-use store::slot_of;
+use store::{child_count_at, child_version_at, slot_count, slot_of};
 use terms::Form;
-ghost use mathlib.Core.Path.{_≡_};
-ghost use mathlib.Core.Bool.{true};
-ghost use lib.ListN.{length};
-ghost use Rattle·place.specs.Place.{placeOf, Proper};
-ghost use Rattle·layout.specs.Headers.{sizeRight};
-ghost use Rattle·layout.specs.Stores.{storeOf, Has};
-ghost use Rattle·ordered.specs.Ordered.{Guide};
-ghost use Rattle·rescue_look·specs.specs.Look.{LowestIn, Inside, KidSays, WeighsSay, tiedAt};
 
 // The lowest slot that holds the node (version, place), by a scan; version 0 is no node.
 fn scanned(source: &[u8], version: u32, place: Place) -> Found
-    requires { ⌜ (sizeRight Form.Counted (length (now source)) ≡ true) × Proper place ⌝ }
-    ensures { λ r. ⌜ LowestIn (storeOf (now (source .entry)) .slots) version (placeOf place) r ⌝ }
+    requires { (size_right Form.Counted (length source.now) ≡ true) × Proper place }
+    ensures { LowestIn (store_of source.now).slots version (place_of place) result }
 {
     if version == 0 {
         return Found::Nothing;
@@ -47,8 +44,8 @@ fn scanned(source: &[u8], version: u32, place: Place) -> Found
 
 // The same by a table to find by, or by a scan where it has no entries.
 pub fn lowest(source: &[u8], table: &[u16; 16384], many: usize, version: u32, place: Place) -> Found
-    requires { ⌜ (sizeRight Form.Counted (length (now source)) ≡ true) × Proper place × Guide (storeOf (now source) .slots) (now table) many ⌝ }
-    ensures { λ r. ⌜ LowestIn (storeOf (now (source .entry)) .slots) version (placeOf place) r ⌝ }
+    requires { (size_right Form.Counted (length source.now) ≡ true) × Proper place × Guide (store_of source.now).slots table.now many }
+    ensures { LowestIn (store_of source.now).slots version (place_of place) result }
 {
     if many == 0 {
         return scanned(source, version, place);
@@ -62,8 +59,8 @@ pub fn lowest(source: &[u8], table: &[u16; 16384], many: usize, version: u32, pl
 
 // The version of the child that a record names on a side; 0 where there is no record or no child.
 pub fn kid(source: &[u8], found: Found, right: bool) -> u32
-    requires { ⌜ Inside (now source) found ⌝ }
-    ensures { λ r. ⌜ KidSays (now (source .entry)) found right r ⌝ }
+    requires { Inside source.now found }
+    ensures { KidSays source.now found right result }
 {
     let Found::At(i) = found else {
         return 0;
@@ -76,8 +73,8 @@ pub fn kid(source: &[u8], found: Found, right: bool) -> u32
 
 // Whether the count on a side of the inner record in slot i is that of the leaves at the child found, 0 for none.
 fn weighs(source: &[u8], i: usize, right: bool, found: Found) -> bool
-    requires { ⌜ Has Form.Counted (now source) i × Inside (now source) found ⌝ }
-    ensures { λ r. ⌜ WeighsSay (now (source .entry)) i right found r ⌝ }
+    requires { Has Form.Counted source.now i × Inside source.now found }
+    ensures { WeighsSay source.now i right found result }
 {
     let count = child_count_at(Form::Counted, source, i, right);
     let Found::At(j) = found else {
@@ -96,8 +93,8 @@ pub fn linked(
     right: bool,
     place: Place,
 ) -> bool
-    requires { ⌜ Has Form.Counted (now source) i × Proper place × Guide (storeOf (now source) .slots) (now table) many ⌝ }
-    ensures { λ r. ⌜ r ≡ tiedAt (now (source .entry)) i right (placeOf place) ⌝ }
+    requires { Has Form.Counted source.now i × Proper place × Guide (store_of source.now).slots table.now many }
+    ensures { result ≡ tied_at source.now i right (place_of place) }
 {
     let version = child_version_at(Form::Counted, source, i, right);
     let other = child_version_at(Form::Counted, source, i, !right);

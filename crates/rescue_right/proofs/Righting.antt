@@ -1,185 +1,185 @@
 -- A record is right by its own tests on both sides; and where a right record says the same of a child, the test on that side passes. Assumes nothing.
-use Prim.Native.Nat.{ℕ, _<_}
+use Prim.Native.Nat.{ℕ, ◌<◌}
 use native.Mathlib.Omega.{arith}
-use mathlib.Core.Path.{_≡_, refl, ap, ap₂, sym, _∙_, subst}
-use mathlib.Core.Bool.{Bool, true, false, not, _&&_}
+use mathlib.Core.Path.{◌≡◌, refl, ap, ap₂, sym, ◌∙◌, subst}
+use mathlib.Core.Bool.{Bool, true, false, not, ◌&&◌}
 use mathlib.Core.Option.{Option, none, some}
 use lib.ListN.{length}
 use lib.Dec.{eqb}
-use borrow.Author.Tests.{ne-eqb}
-use Rattle·terms.specs.declared.Form.the-variants.{Counted as counted}
-use Rattle·terms.specs.Bits.{Bytes, Byte, All, Side, left, right, Place, longer, begins, sameBytes}
-use Rattle·terms.specs.Records.{Child, Body, leafBody, innerBody, noTally, countOn, Record}
-use Rattle·terms.specs.Form.{CountsForm, placeLimit}
-use Rattle·terms.proofs.Tests.{and-true, and-left, and-right, same-bytes}
-use Rattle·meaning.specs.Store.{find}
-use Rattle·meaning.specs.Reading.{bodyHash}
-use Rattle·meaning.specs.Local.{weighed, countsBy}
-use Rattle·meaning.proofs.Finding.{found-in}
-use Rattle·local.specs.Test.{loneLeaf, countsAre}
-use Rattle·nodehash.specs.Node.{leafHash, innerHash}
-use Rattle·place.specs.declared.Place as place
-use Rattle·place.specs.Place.{placeOf, Proper, Grown}
-use Rattle·place.proofs.Places.{proper-count}
-use Rattle·layout.specs.Headers.{sizeRight}
-use Rattle·layout.specs.Slots.{isLeaf, keyIn, countsIn, leftIn, rightIn, kidOn}
-use Rattle·layout.specs.Stores.{slotIn, storeOf, Has}
-use Rattle·store.proofs.Slots.{slots-many}
-use Rattle·lookup.specs.declared.Found as found
-use Rattle·lookup.specs.declared.Found.the-variants.{At, Nothing}
-use Rattle·check_pass.specs.Passes.{Passed}
-use Rattle·order_near.proofs.Near.{passed-if}
-use Rattle·rescue_rules.specs.Joining.{linked, bodyRight, recordRight}
-use Rattle·rescue_look.specs.Look.{LowestIn, Inside, linkedAt, weighsAt, tiedAt}
-use Rattle·rescue_look.proofs.Looking.{its-form, leaf-is, inner-is, inner-counts}
-use Rattle·rescue_right·specs.specs.Right.{Sought, Alike, Told, Tied, Beside}
+use borrow.Author.Tests.{ne_eqb}
+use Rattle.terms.specs.declared.Form.TheVariants.{Counted as counted}
+use Rattle.terms.specs.Bits.{Bytes, Byte, All, Side, left, right, Place, longer, begins, same_bytes}
+use Rattle.terms.specs.Records.{Child, Body, leaf_body, inner_body, no_tally, count_on, Record}
+use Rattle.terms.specs.Form.{CountsForm, place_limit}
+use Rattle.terms.proofs.Tests.{and_true, and_left, and_right, same_bytes_lem}
+use Rattle.meaning.specs.Store.{find}
+use Rattle.meaning.specs.Reading.{body_hash}
+use Rattle.meaning.specs.Local.{weighed, counts_by}
+use Rattle.meaning.proofs.Finding.{found_in}
+use Rattle.local.specs.Test.{lone_leaf, counts_are}
+use Rattle.nodehash.specs.Node.{leaf_hash, inner_hash}
+use Rattle.place.specs.declared.Place as place
+use Rattle.place.specs.Place.{place_of, Proper, Grown}
+use Rattle.place.proofs.Places.{proper_count}
+use Rattle.layout.specs.Headers.{size_right}
+use Rattle.layout.specs.Slots.{is_leaf, key_in, counts_in, left_in, right_in, kid_on}
+use Rattle.layout.specs.Stores.{slot_in, store_of, Has}
+use Rattle.store.proofs.Slots.{slots_many}
+use Rattle.lookup.specs.declared.Found as found
+use Rattle.lookup.specs.declared.Found.TheVariants.{At, Nothing}
+use Rattle.check_pass.specs.Passes.{Passed}
+use Rattle.order_near.proofs.Near.{passed_if}
+use Rattle.rescue_rules.specs.Joining.{linked, body_right, record_right}
+use Rattle.rescue_look.specs.Look.{LowestIn, Inside, linked_at, weighs_at, tied_at}
+use Rattle.rescue_look.proofs.Looking.{its_form, leaf_is, inner_is, inner_counts}
+use Rattle.rescue_right.specs.Right.{Sought, Alike, Told, Tied, Beside}
 
 -- two tests on each of two sides
-both-sides : (a b x y : Bool) → ((a && b) && (x && y)) ≡ ((x && a) && (y && b))
-both-sides true true true y = elim y as (λ z. z ≡ z && true) [ true ↦ refl | false ↦ refl ]
-both-sides true true false y = refl
-both-sides true false true true = refl
-both-sides true false true false = refl
-both-sides true false false y = refl
-both-sides false b true y = refl
-both-sides false b false y = refl
+both_sides : (a b x y : Bool) → ((a && b) && (x && y)) ≡ ((x && a) && (y && b))
+both_sides true true true y = elim y as (λ z. z ≡ z && true) [ true ↦ refl | false ↦ refl ]
+both_sides true true false y = refl
+both_sides true false true true = refl
+both_sides true false true false = refl
+both_sides true false false y = refl
+both_sides false b true y = refl
+both_sides false b false y = refl
 
 -- a record that was sought
 module _ (s : Bytes) (v : ℕ) (p : place.Place) {f : found.Found} (w : Sought s v p f) where
   abbrev Right : Bool
-  Right = recordRight leafHash innerHash (storeOf s .slots) v (placeOf p) (find v (placeOf p) (storeOf s .slots))
+  Right = record_right leaf_hash inner_hash (store_of s).slots v (place_of p) (find v (place_of p) (store_of s).slots)
 
-  pub right-nothing : f ≡ Nothing → eqb v 0 ≡ Right
-  right-nothing e =
-      sym (ap (recordRight leafHash innerHash (storeOf s .slots) v (placeOf p)) (subst (LowestIn (storeOf s .slots) v (placeOf p)) e (w .lowest)))
+  pub right_nothing : f ≡ Nothing → eqb v 0 ≡ Right
+  right_nothing e =
+      sym (ap (record_right leaf_hash inner_hash (store_of s).slots v (place_of p)) (subst (LowestIn (store_of s).slots v (place_of p)) e w.lowest))
 
   module _ (bytes : All Byte s) {i : ℕ} (e : f ≡ At i) where
-    at-slot : LowestIn (storeOf s .slots) v (placeOf p) (At i)
-    at-slot = subst (LowestIn (storeOf s .slots) v (placeOf p)) e (w .lowest)
+    at_slot : LowestIn (store_of s).slots v (place_of p) (At i)
+    at_slot = subst (LowestIn (store_of s).slots v (place_of p)) e w.lowest
 
-    pub sought-has : Has counted s i
-    sought-has = record { size = w .size; inside = omega (arith, at-slot .0, slots-many counted s) }
+    pub sought_has : Has counted s i
+    sought_has = record { size = w.size; inside = omega (arith, at_slot.0, slots_many counted s) }
 
-    right-by : (y : Body) → at-slot .1 .0 .body ≡ y → Right
-        ≡ (bodyRight leafHash innerHash (storeOf s .slots) (placeOf p) y && countsAre counted (at-slot .1 .0 .counts) (countsBy (storeOf s .slots) (placeOf p) y))
-    right-by y k =
-        ap (recordRight leafHash innerHash (storeOf s .slots) v (placeOf p)) (at-slot .1 .1 .found)
-        ∙ ap (λ z. bodyRight leafHash innerHash (storeOf s .slots) (placeOf p) z
-        && countsAre counted (at-slot .1 .0 .counts) (countsBy (storeOf s .slots) (placeOf p) z)) k
+    right_by : (y : Body) → at_slot.1.0.body ≡ y → Right
+        ≡ (body_right leaf_hash inner_hash (store_of s).slots (place_of p) y && counts_are counted at_slot.1.0.counts (counts_by (store_of s).slots (place_of p) y))
+    right_by y k =
+        ap (record_right leaf_hash inner_hash (store_of s).slots v (place_of p)) at_slot.1.1.found
+        ∙ ap (λ z. body_right leaf_hash inner_hash (store_of s).slots (place_of p) z
+        && counts_are counted at_slot.1.0.counts (counts_by (store_of s).slots (place_of p) z)) k
 
-    module _ {x : Bytes} {t : Bool} (slot : x ≡ slotIn counted i s) (kind : t ≡ isLeaf x) where
-      pub right-leaf : {z : Bytes} {r : Bool} → t ≡ true → z ≡ keyIn x → r ≡ begins (placeOf p) z → r ≡ Right
-      right-leaf u k g =
-          let y = keyIn (slotIn counted i s) in
-          let body = leaf-is s bytes i sought-has (at-slot .1 .0) (at-slot .1 .1 .at) (ap isLeaf (sym slot) ∙ sym kind ∙ u) in
-          let form = its-form s bytes i sought-has (at-slot .1 .0) (at-slot .1 .1 .at) in
-          let none-there : at-slot .1 .0 .counts ≡ noTally = subst (λ z. CountsForm z (at-slot .1 .0 .counts)) body (form .counts) in
+    module _ {x : Bytes} {t : Bool} (slot : x ≡ slot_in counted i s) (kind : t ≡ is_leaf x) where
+      pub right_leaf_lem : {z : Bytes} {r : Bool} → t ≡ true → z ≡ key_in x → r ≡ begins (place_of p) z → r ≡ Right
+      right_leaf_lem u k g =
+          let y = key_in (slot_in counted i s) in
+          let body = leaf_is s bytes i sought_has at_slot.1.0 at_slot.1.1.at (ap is_leaf (sym slot) ∙ sym kind ∙ u) in
+          let form = its_form s bytes i sought_has at_slot.1.0 at_slot.1.1.at in
+          let none_there : at_slot.1.0.counts ≡ no_tally = subst (λ z. CountsForm z at_slot.1.0.counts) body form.counts in
           g
-          ∙ ap (begins (placeOf p)) (k ∙ ap keyIn slot)
-          ∙ sym (right-by _ body ∙ ap (λ c. begins (placeOf p) y && countsAre counted c noTally) none-there ∙ and-true (begins (placeOf p) y))
+          ∙ ap (begins (place_of p)) (k ∙ ap key_in slot)
+          ∙ sym (right_by _ body ∙ ap (λ c. begins (place_of p) y && counts_are counted c no_tally) none_there ∙ and_true (begins (place_of p) y))
 
-      inner-body-is : t ≡ false → at-slot .1 .0 .body ≡ innerBody (leftIn (slotIn counted i s)) (rightIn (slotIn counted i s))
-      inner-body-is u = inner-is s bytes i sought-has (at-slot .1 .0) (at-slot .1 .1 .at) (ap isLeaf (sym slot) ∙ sym kind ∙ u)
+      inner_body_is : t ≡ false → at_slot.1.0.body ≡ inner_body (left_in (slot_in counted i s)) (right_in (slot_in counted i s))
+      inner_body_is u = inner_is s bytes i sought_has at_slot.1.0 at_slot.1.1.at (ap is_leaf (sym slot) ∙ sym kind ∙ u)
 
-      pub inner-short : t ≡ false → p .count < 256
-      inner-short u =
-          let form = its-form s bytes i sought-has (at-slot .1 .0) (at-slot .1 .1 .at) in
-          let there = found-in (storeOf s .slots) v (placeOf p) (at-slot .1 .0) (at-slot .1 .1 .found) .3 in
-          let limit : placeLimit (at-slot .1 .0 .body) ≡ 255 = ap placeLimit (inner-body-is u) in
-          omega (arith, form .short, ap length there, proper-count p (w .proper))
+      pub inner_short : t ≡ false → p.count < 256
+      inner_short u =
+          let form = its_form s bytes i sought_has at_slot.1.0 at_slot.1.1.at in
+          let there = (found_in (store_of s).slots v (place_of p) at_slot.1.0 at_slot.1.1.found).3 in
+          let limit : place_limit at_slot.1.0.body ≡ 255 = ap place_limit (inner_body_is u) in
+          omega (arith, form.short, ap length there, proper_count p w.proper)
 
-      module _ (u : t ≡ false) {l : place.Place} (on-left : Grown left p l) where
-        sides : Right ≡ (tiedAt s i left (placeOf l) && tiedAt s i right (longer right (placeOf p)))
-        unfolding tiedAt weighsAt linkedAt
+      module _ (u : t ≡ false) {l : place.Place} (on_left_lem : Grown left p l) where
+        sides : Right ≡ (tied_at s i left (place_of l) && tied_at s i right (longer right (place_of p)))
+        unfolding tied_at weighs_at linked_at
         sides =
-            let b = innerBody (leftIn (slotIn counted i s)) (rightIn (slotIn counted i s)) in
-            right-by b (inner-body-is u)
-            ∙ ap (λ c. bodyRight leafHash innerHash (storeOf s .slots) (placeOf p) b && countsAre counted c (countsBy (storeOf s .slots) (placeOf p) b))
-            (inner-counts s bytes i sought-has (at-slot .1 .0) (at-slot .1 .1 .at) (ap isLeaf (sym slot) ∙ sym kind ∙ u))
-            ∙ both-sides (linkedAt s i left (longer left (placeOf p))) (linkedAt s i right (longer right (placeOf p)))
-            (weighsAt s i left (longer left (placeOf p))) (weighsAt s i right (longer right (placeOf p)))
-            ∙ ap (λ y. tiedAt s i left y && tiedAt s i right (longer right (placeOf p))) (sym (on-left .place))
+            let b = inner_body (left_in (slot_in counted i s)) (right_in (slot_in counted i s)) in
+            right_by b (inner_body_is u)
+            ∙ ap (λ c. body_right leaf_hash inner_hash (store_of s).slots (place_of p) b && counts_are counted c (counts_by (store_of s).slots (place_of p) b))
+            (inner_counts s bytes i sought_has at_slot.1.0 at_slot.1.1.at (ap is_leaf (sym slot) ∙ sym kind ∙ u))
+            ∙ both_sides (linked_at s i left (longer left (place_of p))) (linked_at s i right (longer right (place_of p)))
+            (weighs_at s i left (longer left (place_of p))) (weighs_at s i right (longer right (place_of p)))
+            ∙ ap (λ y. tied_at s i left y && tied_at s i right (longer right (place_of p))) (sym on_left_lem.place)
 
-        pub left-off : {m : Bool} → m ≡ tiedAt s i left (placeOf l) → m ≡ false → false ≡ Right
-        left-off d n = sym (sides ∙ rw (sym d ∙ n))
+        pub left_off : {m : Bool} → m ≡ tied_at s i left (place_of l) → m ≡ false → false ≡ Right
+        left_off d n = sym (sides ∙ rw (sym d ∙ n))
 
-        pub right-on : {m o : Bool} {r : place.Place} → m ≡ tiedAt s i left (placeOf l) → m ≡ true → Grown right p r → o ≡ tiedAt s i right (placeOf r) → o ≡ Right
-        right-on d n g k = k ∙ ap (tiedAt s i right) (g .place) ∙ sym (sides ∙ rw (sym d ∙ n))
+        pub right_on : {m o : Bool} {r : place.Place} → m ≡ tied_at s i left (place_of l) → m ≡ true → Grown right p r → o ≡ tied_at s i right (place_of r) → o ≡ Right
+        right_on d n g k = k ∙ ap (tied_at s i right) g.place ∙ sym (sides ∙ rw (sym d ∙ n))
 
 -- the tests of a child that both say the same of
-both-true : (a b : Bool) → a ≡ true → b ≡ true → a && b ≡ true
-both-true a b x y = rw (x, y)
+both_true : (a b : Bool) → a ≡ true → b ≡ true → a && b ≡ true
+both_true a b x y = rw (x, y)
 
-not-lone : (d : Child) (y : Body) → (d .version ≡ 0 → ⊥) → not (loneLeaf d y) ≡ true
-not-lone d (leafBody k x) f = rw (ne-eqb (d .version) 0 f)
-not-lone d (innerBody l r) f = refl
+not_lone : (d : Child) (y : Body) → (d.version ≡ 0 → ⊥) → not (lone_leaf d y) ≡ true
+not_lone d (leaf_body k x) f = rw (ne_eqb d.version 0 f)
+not_lone d (inner_body l r) f = refl
 
-link-alike : (o : Option Record) (c d x y : Child) → c .version ≡ x .version → c .hash ≡ x .hash → (d .version ≡ 0 → ⊥) → linked leafHash innerHash o x y ≡ true →
-    linked leafHash innerHash o c d ≡ true
-link-alike none c d x y v h f t = ap (λ w. eqb w 0) v ∙ t
-link-alike (some q) c d x y v h f t =
-    both-true (sameBytes (bodyHash leafHash innerHash (q .body)) (c .hash)) (not (loneLeaf d (q .body)))
-    (ap (sameBytes (bodyHash leafHash innerHash (q .body))) h ∙ and-left _ _ t) (not-lone d (q .body) f)
+link_alike : (o : Option Record) (c d x y : Child) → c.version ≡ x.version → c.hash ≡ x.hash → (d.version ≡ 0 → ⊥) → linked leaf_hash inner_hash o x y ≡ true →
+    linked leaf_hash inner_hash o c d ≡ true
+link_alike none c d x y v h f t = ap (λ w. eqb w 0) v ∙ t
+link_alike (some q) c d x y v h f t =
+    both_true (same_bytes (body_hash leaf_hash inner_hash q.body) c.hash) (not (lone_leaf d q.body))
+    (ap (same_bytes (body_hash leaf_hash inner_hash q.body)) h ∙ and_left _ _ t) (not_lone d q.body f)
 
 -- What is tied beside an inner record that says the same is tied here.
 module _ (s : Bytes) (i j : ℕ) (b : Side) (p : Place) (a : Alike s i j b) where
-  weighs-alike : weighsAt s i b p ≡ weighsAt s j b p
-  unfolding weighsAt
-  weighs-alike = ap₂ (λ n v. eqb n (weighed (find v p (storeOf s .slots)))) (a .count) (a .version)
+  weighs_alike : weighs_at s i b p ≡ weighs_at s j b p
+  unfolding weighs_at
+  weighs_alike = ap₂ (λ n v. eqb n (weighed (find v p (store_of s).slots))) a.count a.version
 
-  linked-alike : linkedAt s j b p ≡ true → linkedAt s i b p ≡ true
-  unfolding linkedAt
-  linked-alike t =
-      link-alike (find (kidOn b (slotIn counted i s) .version) p (storeOf s .slots)) (kidOn b (slotIn counted i s)) (kidOn (not b) (slotIn counted i s))
-      (kidOn b (slotIn counted j s)) (kidOn (not b) (slotIn counted j s)) (a .version) (a .hash) (a .other)
-      (ap (λ v. linked leafHash innerHash (find v p (storeOf s .slots)) (kidOn b (slotIn counted j s)) (kidOn (not b) (slotIn counted j s))) (a .version) ∙ t)
+  linked_alike : linked_at s j b p ≡ true → linked_at s i b p ≡ true
+  unfolding linked_at
+  linked_alike t =
+      link_alike (find (kid_on b (slot_in counted i s)).version p (store_of s).slots) (kid_on b (slot_in counted i s)) (kid_on (not b) (slot_in counted i s))
+      (kid_on b (slot_in counted j s)) (kid_on (not b) (slot_in counted j s)) a.version a.hash a.other
+      (ap (λ v. linked leaf_hash inner_hash (find v p (store_of s).slots) (kid_on b (slot_in counted j s)) (kid_on (not b) (slot_in counted j s))) a.version ∙ t)
 
-  tied-alike : tiedAt s j b p ≡ true → tiedAt s i b p ≡ true
-  unfolding tiedAt
-  tied-alike t = both-true (weighsAt s i b p) (linkedAt s i b p) (weighs-alike ∙ and-left _ _ t) (linked-alike (and-right (weighsAt s j b p) _ t))
+  tied_alike : tied_at s j b p ≡ true → tied_at s i b p ≡ true
+  unfolding tied_at
+  tied_alike t = both_true (weighs_at s i b p) (linked_at s i b p) (weighs_alike ∙ and_left _ _ t) (linked_alike (and_right (weighs_at s j b p) _ t))
 
-pub told-tied : (s : Bytes) (i : ℕ) (b : Side) (p : Place) (f : found.Found) → Told s i b f → Tied s b p f → tiedAt s i b p ≡ true
-told-tied s i b p (At j) w t = tied-alike s i j b p (w .1) (t .1 (w .0))
-told-tied s i b p Nothing w t = absurd w
+pub told_tied : (s : Bytes) (i : ℕ) (b : Side) (p : Place) (f : found.Found) → Told s i b f → Tied s b p f → tied_at s i b p ≡ true
+told_tied s i b p (At j) w t = tied_alike s i j b p w.1 (t.1 w.0)
+told_tied s i b p Nothing w t = absurd w
 
 -- what the tests say
-pub alike-if : (s : Bytes) (i j : ℕ) (b : Side) {o v w m n : ℕ} {x y f g : Bytes} {t : Bool} → o ≡ kidOn (not b) (slotIn counted i s) .version → (o ≡ 0 → ⊥) →
-    v ≡ kidOn b (slotIn counted i s) .version → w ≡ kidOn b (slotIn counted j s) .version → v ≡ w →
-    m ≡ countOn b (countsIn (slotIn counted i s)) → n ≡ countOn b (countsIn (slotIn counted j s)) → m ≡ n →
-    x ≡ slotIn counted i s → f ≡ kidOn b x .hash → y ≡ slotIn counted j s → g ≡ kidOn b y .hash → t ≡ sameBytes f g → Passed t (Alike s i j b)
-alike-if s i j b {f = f} {g = g} {t = t} o-is there v-is w-is v-same m-is n-is m-same x-is f-is y-is g-is t-is =
-    passed-if {P = Alike s i j b} t
+pub alike_if : (s : Bytes) (i j : ℕ) (b : Side) {o v w m n : ℕ} {x y f g : Bytes} {t : Bool} → o ≡ (kid_on (not b) (slot_in counted i s)).version → (o ≡ 0 → ⊥) →
+    v ≡ (kid_on b (slot_in counted i s)).version → w ≡ (kid_on b (slot_in counted j s)).version → v ≡ w →
+    m ≡ count_on b (counts_in (slot_in counted i s)) → n ≡ count_on b (counts_in (slot_in counted j s)) → m ≡ n →
+    x ≡ slot_in counted i s → f ≡ (kid_on b x).hash → y ≡ slot_in counted j s → g ≡ (kid_on b y).hash → t ≡ same_bytes f g → Passed t (Alike s i j b)
+alike_if s i j b {f = f} {g = g} {t = t} o_is there v-is w-is v-same m-is n_is m-same x-is f-is y-is g-is t-is =
+    passed_if {P = Alike s i j b} t
     (λ e.
     record {
       version = sym v-is ∙ v-same ∙ w-is;
-      hash = sym (f-is ∙ ap (λ z. kidOn b z .hash) x-is) ∙ same-bytes f g (sym t-is ∙ e) ∙ g-is ∙ ap (λ z. kidOn b z .hash) y-is;
-      count = sym m-is ∙ m-same ∙ n-is;
-      other = λ z. there (o-is ∙ z);
+      hash = sym (f-is ∙ ap (λ z. (kid_on b z).hash) x-is) ∙ same_bytes_lem f g (sym t-is ∙ e) ∙ g-is ∙ ap (λ z. (kid_on b z).hash) y-is;
+      count = sym m-is ∙ m-same ∙ n_is;
+      other = λ z. there (o_is ∙ z);
     })
 
-pub passed-then : {P Q : Type 0} (r : Bool) → (P → Q) → Passed r P → Passed r Q
-passed-then true f h = f h
-passed-then false f h = tt
+pub passed_then : {P Q : Type 0} (r : Bool) → (P → Q) → Passed r P → Passed r Q
+passed_then true f h = f h
+passed_then false f h = tt
 
-pub tied-inside : (s : Bytes) (b : Side) (p : Place) (f : found.Found) → Tied s b p f → Inside s f
-tied-inside s b p (At j) t = t .0
-tied-inside s b p Nothing t = tt
+pub tied_inside : (s : Bytes) (b : Side) (p : Place) (f : found.Found) → Tied s b p f → Inside s f
+tied_inside s b p (At j) t = t.0
+tied_inside s b p Nothing t = tt
 
 -- Both children of a right record are tied.
-module _ (s : Bytes) (size : sizeRight counted (length s) ≡ true) (bytes : All Byte s) (p : place.Place) (proper : Proper p) {l : place.Place} (on-left : Grown left p l) where
-  as-sought : {f : found.Found} (h : Beside s p f) → Sought s (h .version) p f
-  as-sought h = record { size = size; proper = proper; lowest = h .lowest }
+module _ (s : Bytes) (size : size_right counted (length s) ≡ true) (bytes : All Byte s) (p : place.Place) (proper : Proper p) {l : place.Place} (on_left_lem : Grown left p l) where
+  as_sought : {f : found.Found} (h : Beside s p f) → Sought s h.version p f
+  as_sought h = record { size = size; proper = proper; lowest = h.lowest }
 
-  both-tied : {j : ℕ} (h : Beside s p (At j)) → isLeaf (slotIn counted j s) ≡ false → tiedAt s j left (placeOf l) && tiedAt s j right (longer right (placeOf p)) ≡ true
-  both-tied h u = sym (sides s (h .version) p (as-sought h) bytes refl refl refl u on-left) ∙ h .right
+  both_tied : {j : ℕ} (h : Beside s p (At j)) → is_leaf (slot_in counted j s) ≡ false → tied_at s j left (place_of l) && tied_at s j right (longer right (place_of p)) ≡ true
+  both_tied h u = sym (sides s h.version p (as_sought h) bytes refl refl refl u on_left_lem) ∙ h.right
 
-  pub beside-left : (f : found.Found) → Beside s p f → Tied s left (placeOf l) f
-  beside-left (At j) h = (sought-has s (h .version) p (as-sought h) bytes refl, λ u. and-left _ _ (both-tied h u))
-  beside-left Nothing h = tt
+  pub beside_left : (f : found.Found) → Beside s p f → Tied s left (place_of l) f
+  beside_left (At j) h = (sought_has s h.version p (as_sought h) bytes refl, λ u. and_left _ _ (both_tied h u))
+  beside_left Nothing h = tt
 
-  pub beside-right : {r : place.Place} → Grown right p r → (f : found.Found) → Beside s p f → Tied s right (placeOf r) f
-  beside-right g (At j) h = (
-    sought-has s (h .version) p (as-sought h) bytes refl,
-    λ u. ap (tiedAt s j right) (g .place) ∙ and-right (tiedAt s j left (placeOf l)) _ (both-tied h u),
+  pub beside_right : {r : place.Place} → Grown right p r → (f : found.Found) → Beside s p f → Tied s right (place_of r) f
+  beside_right g (At j) h = (
+    sought_has s h.version p (as_sought h) bytes refl,
+    λ u. ap (tied_at s j right) g.place ∙ and_right (tied_at s j left (place_of l)) _ (both_tied h u),
   )
-  beside-right g Nothing h = tt
+  beside_right g Nothing h = tt

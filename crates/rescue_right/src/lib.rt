@@ -1,31 +1,29 @@
 // Whether a record of a source of any contents is right by itself, document 02, request 2026-08; a child of which a right record says the same needs no look.
+#![tactic(auto)]
+
+ghost use Rattle.std.specs.Prelude.{◌≡◌};
+ghost use Rattle.meaning.specs.Store.{find};
+ghost use Rattle.nodehash.specs.Node.{leaf_hash, inner_hash};
+ghost use Rattle.place.specs.Place.{place_of, Proper};
+ghost use Rattle.layout.specs.Stores.{store_of, Has};
+ghost use Rattle.check_pass.specs.Passes.{Passed};
+ghost use Rattle.ordered.specs.Ordered.{Guide};
+ghost use Rattle.rescue_rules.specs.Joining.{record_right};
+ghost use Rattle.rescue_look.specs.Look.{Inside, tied_at};
+ghost use Rattle.rescue_right.specs.Right.{Sought, Alike, Told, Tied, Beside};
+
 use lookup::Found;
-use place::Place;
-use place::begins;
-use place::same;
+use place::{Place, begins, same};
 use rescue_look::linked;
-use slots::child_hash;
-use slots::key_of;
+use slots::{child_hash, key_of};
 use slots_form::is_leaf;
-use store::child_count_at;
-use store::child_version_at;
-use store::slot_of;
+use store::{child_count_at, child_version_at, slot_of};
 use terms::Form;
-ghost use mathlib.Core.Path.{_≡_};
-ghost use Rattle·meaning.specs.Store.{find};
-ghost use Rattle·nodehash.specs.Node.{leafHash, innerHash};
-ghost use Rattle·place.specs.Place.{placeOf, Proper};
-ghost use Rattle·layout.specs.Stores.{storeOf, Has};
-ghost use Rattle·check_pass.specs.Passes.{Passed};
-ghost use Rattle·ordered.specs.Ordered.{Guide};
-ghost use Rattle·rescue_rules.specs.Joining.{recordRight};
-ghost use Rattle·rescue_look.specs.Look.{Inside, tiedAt};
-ghost use Rattle·rescue_right·specs.specs.Right.{Sought, Alike, Told, Tied, Beside};
 
 // Whether the inner records in slots i and j say the same of the child on a side, and slot i names another child.
 fn alike(source: &[u8], i: usize, j: usize, right: bool) -> bool
-    requires { ⌜ Has Form.Counted (now source) i × Has Form.Counted (now source) j ⌝ }
-    ensures { λ r. ⌜ Passed r (Alike (now (source .entry)) i j right) ⌝ }
+    requires { Has Form.Counted source.now i × Has Form.Counted source.now j }
+    ensures { Passed result (Alike source.now i j right) }
 {
     if child_version_at(Form::Counted, source, i, !right) == 0 {
         return false;
@@ -48,8 +46,8 @@ fn alike(source: &[u8], i: usize, j: usize, right: bool) -> bool
 
 // Whether the record found beside that in slot i is an inner one, and says the same.
 fn told(source: &[u8], i: usize, right: bool, beside: Found) -> bool
-    requires { ⌜ Has Form.Counted (now source) i × Inside (now source) beside ⌝ }
-    ensures { λ r. ⌜ Passed r (Told (now (source .entry)) i right beside) ⌝ }
+    requires { Has Form.Counted source.now i × Inside source.now beside }
+    ensures { Passed result (Told source.now i right beside) }
 {
     let Found::At(j) = beside else {
         return false;
@@ -70,8 +68,8 @@ fn tied(
     place: Place,
     beside: Found,
 ) -> bool
-    requires { ⌜ Has Form.Counted (now source) i × Proper place × Guide (storeOf (now source) .slots) (now table) many × Tied (now source) right (placeOf place) beside ⌝ }
-    ensures { λ r. ⌜ r ≡ tiedAt (now (source .entry)) i right (placeOf place) ⌝ }
+    requires { Has Form.Counted source.now i × Proper place × Guide (store_of source.now).slots table.now many × Tied source.now right (place_of place) beside }
+    ensures { result ≡ tied_at source.now i right (place_of place) }
 {
     if told(source, i, right, beside) {
         return true;
@@ -90,8 +88,8 @@ pub fn record_right(
     found: Found,
     beside: Found,
 ) -> bool
-    requires { ⌜ Sought (now source) version place found × Guide (storeOf (now source) .slots) (now table) many × Beside (now source) place beside ⌝ }
-    ensures { λ r. ⌜ r ≡ recordRight leafHash innerHash (storeOf (now (source .entry)) .slots) version (placeOf place) (find version (placeOf place) (storeOf (now (source .entry)) .slots)) ⌝ }
+    requires { Sought source.now version place found × Guide (store_of source.now).slots table.now many × Beside source.now place beside }
+    ensures { result ≡ record_right leaf_hash inner_hash (store_of source.now).slots version (place_of place) (find version (place_of place) (store_of source.now).slots) }
 {
     let Found::At(i) = found else {
         return version == 0;

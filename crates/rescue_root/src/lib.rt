@@ -1,38 +1,30 @@
 // The root record of a version in a source of any contents, document 02, requests 2026-08 and 2026-13.
-use lookup::Found;
-use lookup::holds_record;
-use order_find::find_first;
-use order_find::first;
+#![tactic(auto)]
+
+ghost use Rattle.std.specs.Prelude.{◌≡◌, ◌≤◌, true, false, [], length};
+ghost use Rattle.std.proofs.Math.Option.{none};
+ghost use Rattle.meaning.specs.Store.{find};
+ghost use Rattle.local.specs.Test.{by_record};
+ghost use Rattle.layout.specs.Headers.{size_right};
+ghost use Rattle.layout.specs.Stores.{store_of, slot_no, Has};
+ghost use Rattle.lookup.specs.Lookup.{Located};
+ghost use Rattle.ordered.specs.Ordered.{node_key, Guide, Ordered};
+ghost use Rattle.order_halves.specs.First.{First};
+ghost use Rattle.rescue_rules.specs.Rescue.{newest_root};
+ghost use Rattle.rescue_rules.specs.Joining.{root_version};
+ghost use Rattle.rescue_root.specs.Roots.{root_above};
+
+use lookup::{Found, holds_record};
+use order_find::{find_first, first};
 use order_near::first_near;
 use place::Place;
-use store::count_at;
-use store::retired_at;
-use store::slot_count;
-use store::slot_of;
-use store::version_at;
-use store::wide;
+use store::{count_at, retired_at, slot_count, slot_of, version_at, wide};
 use terms::Form;
-ghost use mathlib.Core.Path.{_≡_};
-ghost use Prim.Native.Nat.{_≤_};
-ghost use mathlib.Core.Bool.{true, false};
-ghost use mathlib.Core.List.{[]};
-ghost use mathlib.Core.Option.{none};
-ghost use lib.ListN.{length};
-ghost use Rattle·meaning.specs.Store.{find};
-ghost use Rattle·local.specs.Test.{byRecord};
-ghost use Rattle·layout.specs.Headers.{sizeRight};
-ghost use Rattle·layout.specs.Stores.{storeOf, slotNo, Has};
-ghost use Rattle·lookup.specs.Lookup.{Located};
-ghost use Rattle·ordered.specs.Ordered.{nodeKey, Guide, Ordered};
-ghost use Rattle·order_halves.specs.First.{First};
-ghost use Rattle·rescue_rules.specs.Rescue.{newestRoot};
-ghost use Rattle·rescue_rules.specs.Joining.{rootVersion};
-ghost use Rattle·rescue_root·specs.specs.Roots.{rootAbove};
 
 // Whether slot i holds a root record of a version above `above` and not above `version`.
 fn newer_root(source: &[u8], i: usize, above: u32, version: u32) -> bool
-    requires { ⌜ Has Form.Counted (now source) i ⌝ }
-    ensures { λ r. ⌜ r ≡ byRecord false (rootAbove above version) (slotNo Form.Counted i (now (source .entry))) ⌝ }
+    requires { Has Form.Counted source.now i }
+    ensures { result ≡ by_record false (root_above above version) (slot_no Form.Counted i source.now) }
 {
     let v = version_at(Form::Counted, source, i);
     if v <= above {
@@ -49,8 +41,8 @@ fn newer_root(source: &[u8], i: usize, above: u32, version: u32) -> bool
 
 // The slot of the newest root record not above a version, the lowest of its version.
 fn newest_root(source: &[u8], version: u32) -> Found
-    requires { ⌜ sizeRight Form.Counted (length (now source)) ≡ true ⌝ }
-    ensures { λ r. ⌜ Located (storeOf (now (source .entry)) .slots) (newestRoot version (storeOf (now (source .entry)) .slots)) r ⌝ }
+    requires { size_right Form.Counted (length source.now) ≡ true }
+    ensures { Located (store_of source.now).slots (newest_root version (store_of source.now).slots) result }
 {
     let n = slot_count(Form::Counted, source);
     let mut best = Found::Nothing;
@@ -72,8 +64,8 @@ fn newest_root(source: &[u8], version: u32) -> Found
 
 // The same by a table, where no root record is of the version itself: that of the entry before entry k, the lowest of its version. Where no entry is before, the scan.
 fn newest_before(source: &[u8], table: &[u16; 16384], many: usize, k: usize, version: u32) -> Found
-    requires { ⌜ (sizeRight Form.Counted (length (now source)) ≡ true) × (many ≤ 16384) × Ordered (storeOf (now source) .slots) (now table) many × First (storeOf (now source) .slots) (now table) many (nodeKey version []) k × (find version [] (storeOf (now source) .slots) ≡ none) ⌝ }
-    ensures { λ r. ⌜ Located (storeOf (now (source .entry)) .slots) (newestRoot version (storeOf (now (source .entry)) .slots)) r ⌝ }
+    requires { (size_right Form.Counted (length source.now) ≡ true) × (many ≤ 16384) × Ordered (store_of source.now).slots table.now many × First (store_of source.now).slots table.now many (node_key version []) k × (find version [] (store_of source.now).slots ≡ none) }
+    ensures { Located (store_of source.now).slots (newest_root version (store_of source.now).slots) result }
 {
     if k == 0 {
         return newest_root(source, version);
@@ -86,8 +78,8 @@ fn newest_before(source: &[u8], table: &[u16; 16384], many: usize, k: usize, ver
 
 // The same by a table to find by: a root record of the version itself is the newest.
 fn newest_by(source: &[u8], table: &[u16; 16384], many: usize, version: u32) -> Found
-    requires { ⌜ (sizeRight Form.Counted (length (now source)) ≡ true) × Guide (storeOf (now source) .slots) (now table) many ⌝ }
-    ensures { λ r. ⌜ Located (storeOf (now (source .entry)) .slots) (newestRoot version (storeOf (now (source .entry)) .slots)) r ⌝ }
+    requires { (size_right Form.Counted (length source.now) ≡ true) × Guide (store_of source.now).slots table.now many }
+    ensures { Located (store_of source.now).slots (newest_root version (store_of source.now).slots) result }
 {
     if many == 0 {
         return newest_root(source, version);
@@ -103,8 +95,8 @@ fn newest_by(source: &[u8], table: &[u16; 16384], many: usize, version: u32) -> 
 
 // The version of the root record of a version; 0 where there is none, or where the newest one was retired by then.
 pub fn root_version(source: &[u8], table: &[u16; 16384], many: usize, version: u32) -> u32
-    requires { ⌜ (sizeRight Form.Counted (length (now source)) ≡ true) × Guide (storeOf (now source) .slots) (now table) many ⌝ }
-    ensures { λ r. ⌜ r ≡ rootVersion (storeOf (now (source .entry)) .slots) version ⌝ }
+    requires { (size_right Form.Counted (length source.now) ≡ true) × Guide (store_of source.now).slots table.now many }
+    ensures { result ≡ root_version (store_of source.now).slots version }
 {
     let newest = newest_by(source, table, many, version);
     let Found::At(i) = newest else {

@@ -1,19 +1,12 @@
 // A batch by words: 010=2 inserts the key that begins 010 with 32 bytes 2, -010 deletes it, *n inserts the first n numbered keys; and the root of the
 // tree of the grants that a batch inserts, as document 01 defines it.
-use crate::words::NONE;
-use crate::words::is_key;
-use crate::words::key;
-use crate::words::number;
-use crate::words::part;
+ghost use Rattle.std.specs.Prelude.{◌≤◌};
+
+use crate::words::{NONE, is_key, key, number, part};
 use fields::put_u32;
-use hash::Hash;
-use hash::hash_at;
-use hash::no_hash;
-use hash::put_hash;
-use nodehash::grant_hash;
-use nodehash::inner_hash;
+use hash::{Hash, hash_at, no_hash, put_hash};
+use nodehash::{grant_hash, inner_hash};
 use place::key_bit;
-ghost use Prim.Native.Nat.{_≤_};
 
 // More records than a batch has.
 pub const BAD: usize = 1026;
@@ -36,6 +29,7 @@ fn put(batch: &mut [u8], i: usize, head: Head, key: Hash, value: Hash) {
     put_hash(&mut batch[middle..end], value);
 }
 
+#[derive(Clone, Copy)]
 struct Head {
     length: u32,
     kind: u32,
@@ -111,7 +105,7 @@ fn fill(batch: &mut [u8], n: usize) {
 
 // Writes the batch that words after the first say, and answers how many records it has, or BAD.
 pub fn written(words: &[u8], batch: &mut [u8]) -> usize
-    ensures { λ r. ⌜ r ≤ 1026 ⌝ }
+    ensures { result ≤ 1026 }
 {
     let many = number(part(part(words, 1, b' '), 1, b'*'));
     if many < BAD {

@@ -1,6 +1,7 @@
 // What the slots of a store hold, read byte by byte as document 01 has it. A store of n slots has 24 + 128n bytes.
+ghost use Rattle.std.specs.Prelude.{◌≤◌};
+
 use crate::say;
-ghost use Prim.Native.Nat.{_≤_};
 
 // The four bytes at a position of slot i, as a number; 0 where the store has no such slot.
 fn field(store: &[u8], i: usize, at: usize) -> u32 {
@@ -74,7 +75,7 @@ fn counted(store: &[u8], slots: usize, at: usize, number: u32) -> usize {
 }
 
 fn tally(yes: bool) -> usize
-    ensures { λ r. ⌜ r ≤ 1 ⌝ }
+    ensures { result ≤ 1 }
 {
     if yes {
         return 1;
@@ -89,7 +90,7 @@ pub fn retired_since(store: &[u8], slots: usize, version: u32) -> usize {
 
 // How many bit counts below 256 have one inner node.
 fn inner_levels(store: &[u8], slots: usize) -> usize
-    ensures { λ r. ⌜ r ≤ 256 ⌝ }
+    ensures { result ≤ 256 }
 {
     let mut n = 0;
     let mut count = 0;

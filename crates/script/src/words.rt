@@ -1,6 +1,6 @@
 // The words of a line, and the numbers and keys that they are.
-ghost use Prim.Native.Nat.{_≤_};
-ghost use lib.ListN.{length};
+ghost use Rattle.std.specs.Prelude.{◌≤◌, length};
+
 use hash::Hash;
 
 // What a word is that is no number of at most 32 bits.
@@ -8,8 +8,8 @@ pub const NONE: usize = 4294967296;
 
 // Where the first such byte stands at `from` or after it; the end where there is none.
 pub fn stop(s: &[u8], from: usize, by: u8) -> usize
-    requires { ⌜ from ≤ length (now s) ⌝ }
-    ensures { λ r. ⌜ (from ≤ r) × (r ≤ length (now (s .entry))) ⌝ }
+    requires { from ≤ length s.now }
+    ensures { (from ≤ result) × (result ≤ length s.now) }
 {
     let mut i = from;
     while i < s.len() {
@@ -23,7 +23,7 @@ pub fn stop(s: &[u8], from: usize, by: u8) -> usize
 
 // Where the part after n such bytes begins; the end where there are fewer.
 fn start(s: &[u8], n: usize, by: u8) -> usize
-    ensures { λ r. ⌜ r ≤ length (now (s .entry)) ⌝ }
+    ensures { result ≤ length s.now }
 {
     let mut left = n;
     let mut i = 0;
@@ -55,7 +55,7 @@ pub fn rest(s: &[u8], by: u8) -> &[u8] {
 
 // The number that a word is in decimal or in binary, else NONE.
 fn number_in(ten: bool, w: &[u8]) -> usize
-    ensures { λ r. ⌜ r ≤ 4294967296 ⌝ }
+    ensures { result ≤ 4294967296 }
 {
     let mut n = 0;
     let mut i = 0;
@@ -75,7 +75,7 @@ fn number_in(ten: bool, w: &[u8]) -> usize
 
 // What a digit stands for, else NONE.
 fn digit(ten: bool, b: u8) -> usize
-    ensures { λ r. ⌜ r ≤ 4294967296 ⌝ }
+    ensures { result ≤ 4294967296 }
 {
     if b < b'0' {
         return NONE;
@@ -93,8 +93,8 @@ fn digit(ten: bool, b: u8) -> usize
 }
 
 fn times(ten: bool, n: usize) -> usize
-    requires { ⌜ n ≤ 4294967296 ⌝ }
-    ensures { λ r. ⌜ r ≤ 42949672960 ⌝ }
+    requires { n ≤ 4294967296 }
+    ensures { result ≤ 42949672960 }
 {
     if ten {
         return n * 10;
@@ -104,7 +104,7 @@ fn times(ten: bool, n: usize) -> usize
 
 // The number that a word is in decimal, else NONE.
 pub fn number(w: &[u8]) -> usize
-    ensures { λ r. ⌜ r ≤ 4294967296 ⌝ }
+    ensures { result ≤ 4294967296 }
 {
     if w.len() == 0 {
         return NONE;

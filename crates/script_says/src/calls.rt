@@ -1,17 +1,10 @@
 // What came of a call, in words: accepted or refused, the slot that a read named, the root, what was found, what was made.
 use digest::digest;
 use fields::get_u32;
-use hash::Hash;
-use hash::hash_at;
-use hash::same_hash;
+use hash::{Hash, hash_at, same_hash};
 use place::same;
-use script::held;
-use script::say;
-use script::words::NONE;
-use script::words::is_key;
-use script::words::number;
-use script::words::part;
-use script::words::rest;
+use script::words::{NONE, is_key, number, part, rest};
+use script::{held, say};
 
 pub fn slots(store: &[u8]) -> usize {
     if store.len() < 24 {

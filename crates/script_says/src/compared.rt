@@ -1,10 +1,7 @@
 // A list of changes in words.
-use fields::get_u16;
-use fields::get_u32;
+use fields::{get_u16, get_u32};
 use script::say;
-use script::words::NONE;
-use script::words::number;
-use script::words::part;
+use script::words::{NONE, number, part};
 
 // A byte as two digits.
 pub fn byte(b: u8) {

@@ -1,9 +1,7 @@
 // The report of a rescue in words.
 use fields::get_u32;
 use script::say;
-use script::words::NONE;
-use script::words::number;
-use script::words::part;
+use script::words::{NONE, number, part};
 
 // The run's first version and the three numbers.
 pub fn say_report(answer: &[u8; 16]) {

@@ -1,8 +1,7 @@
 // What is found of a proof in words.
 use crate::calls::accepted;
 use digest::digest;
-use hash::Hash;
-use hash::same_hash;
+use hash::{Hash, same_hash};
 use script::say;
 
 // Where the proof tells the truth, all 131 bytes are zero.

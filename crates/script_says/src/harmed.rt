@@ -1,10 +1,8 @@
 // The store harmed as a disk would harm it, for document 02, request 2026-07: a byte of a slot changed, or a slot emptied.
-use hash::no_hash;
-use hash::put_hash;
+use hash::{no_hash, put_hash};
 use place::same;
 use script::say;
-use script::words::number;
-use script::words::part;
+use script::words::{number, part};
 
 pub fn put_byte(store: &mut [u8], at: usize, byte: usize) {
     if store.len() <= at {

@@ -2,12 +2,9 @@
 use crate::calls::refused;
 use digest::digest;
 use fields::get_u16;
-use hash::Hash;
-use hash::same_hash;
+use hash::{Hash, same_hash};
 use script::say;
-use script::words::NONE;
-use script::words::number;
-use script::words::part;
+use script::words::{NONE, number, part};
 
 // What the header of the old form says.
 pub fn say_kind(old: &[u8]) {

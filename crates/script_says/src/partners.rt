@@ -2,10 +2,7 @@
 use crate::harmed::put_byte;
 use digest::digest;
 use fields::get_u32;
-use hash::Hash;
-use hash::hash_at;
-use hash::put_hash;
-use hash::same_hash;
+use hash::{Hash, hash_at, put_hash, same_hash};
 use place::same;
 use script::say;
 use script::words::part;

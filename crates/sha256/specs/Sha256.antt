@@ -1,13 +1,9 @@
 -- SHA-256 of whole bytes after FIPS 180-4 from 4.2.2 on, in its order and names; `sha256_words` has what is before.
-use Prim.Native.Nat.{ℕ, zero, suc, _+_, _*_, _-_, _/_, _%_, _^_}
-use mathlib.Core.Bool.{cond}
-use mathlib.Core.List.{List, [], _∷_, _++_}
-use lib.Dec.{ltb}
-use lib.ListN.{length, getD, replicate}
-use Rattle·terms.specs.Bits.{Bytes}
-use Rattle·hash.specs.BigEndian.{big, wordAt}
-use Rattle·sha256·specs.specs.declared.State.{State}
-use Rattle·sha256_words.specs.Words.{_⊞_, Ch, Maj, Σ₀, Σ₁, σ₀, σ₁}
+use Rattle.std.specs.Prelude.{ℕ, zero, suc, ◌+◌, ◌*◌, ◌-◌, ◌/◌, ◌%◌, ◌^◌, cond, List, [], ◌∷◌, ◌++◌, ltb, length, get_or, replicate}
+use Rattle.terms.specs.Bits.{Bytes}
+use Rattle.hash.specs.BigEndian.{big, word_at}
+use Rattle.sha256.specs.declared.State.{State}
+use Rattle.sha256_words.specs.Words.{◌⊞◌, Ch, Maj, Σ₀, Σ₁, σ₀, σ₁}
 
 -- 4.2.2: the constants.
 unfoldable pub K : List ℕ
@@ -31,7 +27,7 @@ padded m = marked m ++ big 8 (length m * 8)
 
 -- 5.2.1: word t of block i of a padded message.
 abbrev pub M : Bytes → ℕ → ℕ → ℕ
-M l i t = wordAt l (i * 64 + t * 4)
+M l i t = word_at l (i * 64 + t * 4)
 
 -- The eight words of a hash value, with the names of the working variables.
 abbrev pub state : ℕ → ℕ → ℕ → ℕ → ℕ → ℕ → ℕ → ℕ → State
@@ -50,43 +46,43 @@ abbrev pub W : (ℕ → ℕ) → ℕ → List ℕ
 W m zero = []
 W m (suc t) =
     let w = W m t in
-    w ++ (cond (ltb t 16) (m t) (scheduled (getD w (t - 2) 0) (getD w (t - 7) 0) (getD w (t - 15) 0)
-    (getD w (t - 16) 0)) ∷ [])
+    w ++ (cond (ltb t 16) (m t) (scheduled (get_or w (t - 2) 0) (get_or w (t - 7) 0) (get_or w (t - 15) 0)
+    (get_or w (t - 16) 0)) ∷ [])
 
 -- 6.2.2, 3: the two sums of a round, with its constant k and its word w.
 abbrev pub T₁ : State → ℕ → ℕ → ℕ
-T₁ s k w = s .h ⊞ Σ₁ (s .e) ⊞ Ch (s .e) (s .f) (s .g) ⊞ k ⊞ w
+T₁ s k w = s.h ⊞ Σ₁ s.e ⊞ Ch s.e s.f s.g ⊞ k ⊞ w
 
 abbrev pub T₂ : State → ℕ
-T₂ s = Σ₀ (s .a) ⊞ Maj (s .a) (s .b) (s .c)
+T₂ s = Σ₀ s.a ⊞ Maj s.a s.b s.c
 
 unfoldable pub round : State → ℕ → ℕ → State
-round s k w = state (T₁ s k w ⊞ T₂ s) (s .a) (s .b) (s .c) (s .d ⊞ T₁ s k w) (s .e) (s .f) (s .g)
+round s k w = state (T₁ s k w ⊞ T₂ s) s.a s.b s.c (s.d ⊞ T₁ s k w) s.e s.f s.g
 
 -- 6.2.2, 2 and 3: the working variables after t rounds, from the hash value s and the message schedule w.
 abbrev pub rounds : List ℕ → State → ℕ → State
 rounds w s zero = s
-rounds w s (suc t) = round (rounds w s t) (getD K t 0) (getD w t 0)
+rounds w s (suc t) = round (rounds w s t) (get_or K t 0) (get_or w t 0)
 
 -- 6.2.2, 4: the working variables x added to the hash value s.
 unfoldable pub added : State → State → State
 added x s =
-    state (x .a ⊞ s .a) (x .b ⊞ s .b) (x .c ⊞ s .c) (x .d ⊞ s .d) (x .e ⊞ s .e) (x .f ⊞ s .f) (x .g ⊞ s .g)
-    (x .h ⊞ s .h)
+    state (x.a ⊞ s.a) (x.b ⊞ s.b) (x.c ⊞ s.c) (x.d ⊞ s.d) (x.e ⊞ s.e) (x.f ⊞ s.f) (x.g ⊞ s.g)
+    (x.h ⊞ s.h)
 
 unfoldable pub compressed : State → (ℕ → ℕ) → State
 compressed s m = added (rounds (W m 64) s 64) s
 
 -- 6.2.2: the hash value H(i) after i blocks of a padded message.
-abbrev pub hashValue : Bytes → ℕ → State
-hashValue l zero = H0
-hashValue l (suc i) = compressed (hashValue l i) (M l i)
+abbrev pub hash_value : Bytes → ℕ → State
+hash_value l zero = H0
+hash_value l (suc i) = compressed (hash_value l i) (M l i)
 
 -- 6.2.2: the message digest is the last hash value, word after word.
-abbrev pub stateBytes : State → Bytes
-stateBytes s =
-    big 4 (s .a) ++ (big 4 (s .b) ++
-    (big 4 (s .c) ++ (big 4 (s .d) ++ (big 4 (s .e) ++ (big 4 (s .f) ++ (big 4 (s .g) ++ big 4 (s .h)))))))
+abbrev pub state_bytes : State → Bytes
+state_bytes s =
+    big 4 s.a ++ (big 4 s.b ++
+    (big 4 s.c ++ (big 4 s.d ++ (big 4 s.e ++ (big 4 s.f ++ (big 4 s.g ++ big 4 s.h))))))
 
 unfoldable pub sha256 : Bytes → Bytes
-sha256 m = stateBytes (hashValue (padded m) (length (padded m) / 64))
+sha256 m = state_bytes (hash_value (padded m) (length (padded m) / 64))

@@ -1,20 +1,16 @@
 // SHA-256's compression of one block. `specs/Sha256.antt` is FIPS 180-4; what the proofs say of this code is in terms of it.
-ghost use mathlib.Core.Path.{_≡_};
-ghost use Prim.Native.Nat.{_<_};
-ghost use Rattle·hash.specs.Hash.{hashBytes};
-ghost use Rattle·sha256·specs.specs.Sha256.{scheduled, round, added, H0, stateBytes};
-ghost use Rattle·sha256·specs.specs.Rolling.{rolls, turns, folded};
-use hash::Hash;
-use hash::join;
-use sha256_words::add;
-use sha256_words::big_sigma0;
-use sha256_words::big_sigma1;
-use sha256_words::ch;
-use sha256_words::maj;
-use sha256_words::sigma0;
-use sha256_words::sigma1;
+#![tactic(auto)]
+
+ghost use Rattle.std.specs.Prelude.{◌≡◌, ◌<◌};
+ghost use Rattle.hash.specs.Hash.{hash_bytes};
+ghost use Rattle.sha256.specs.Sha256.{scheduled, round, added, H0, state_bytes};
+ghost use Rattle.sha256.specs.Rolling.{rolls, turns, folded};
+
+use hash::{Hash, join};
+use sha256_words::{add, big_sigma0, big_sigma1, ch, maj, sigma0, sigma1};
 
 // The eight working variables, and the eight words of a hash value.
+#[derive(Clone, Copy)]
 pub struct State {
     pub a: u32,
     pub b: u32,
@@ -27,6 +23,7 @@ pub struct State {
 }
 
 // Sixteen words of the message schedule, one after another.
+#[derive(Clone, Copy)]
 pub struct Words {
     pub w0: u32,
     pub w1: u32,
@@ -47,6 +44,7 @@ pub struct Words {
 }
 
 // The working variables, and the words that the last rounds used.
+#[derive(Clone, Copy)]
 pub struct Rolled {
     pub s: State,
     pub x: Words,
@@ -54,13 +52,13 @@ pub struct Rolled {
 
 // The next word of the message schedule, from those 2, 7, 15 and 16 before it.
 pub fn schedule(p: u32, q: u32, r: u32, s: u32) -> u32
-    ensures { λ v. ⌜ v ≡ scheduled p q r s ⌝ }
+    ensures { result ≡ scheduled p q r s }
 {
     add(add(add(sigma1(p), q), sigma0(r)), s)
 }
 
 pub fn step(s: State, k: u32, w: u32) -> State
-    ensures { λ r. ⌜ r ≡ round s k w ⌝ }
+    ensures { result ≡ round s k w }
 {
     let t1 = add(add(add(add(s.h, big_sigma1(s.e)), ch(s.e, s.f, s.g)), k), w);
     let t2 = add(big_sigma0(s.a), maj(s.a, s.b, s.c));
@@ -79,7 +77,7 @@ pub fn step(s: State, k: u32, w: u32) -> State
 // Four functions of sixteen rounds, each with one caller, and constants in the code: so the compiler makes one straight run of all 64.
 // Each word is made just before its round.
 fn rounds0(s: State, x: Words) -> State
-    ensures { λ r. ⌜ r ≡ turns 0 16 s x ⌝ }
+    ensures { result ≡ turns 0 16 s x }
 {
     let s1 = step(s, 0x428a2f98, x.w0);
     let s2 = step(s1, 0x71374491, x.w1);
@@ -101,7 +99,7 @@ fn rounds0(s: State, x: Words) -> State
 }
 
 fn rounds1(q: Rolled) -> Rolled
-    ensures { λ r. ⌜ (r .x ≡ rolls 16 (q .x)) × (r .s ≡ turns 16 16 (q .s) (r .x)) ⌝ }
+    ensures { (result.x ≡ rolls 16 q.x) × (result.s ≡ turns 16 16 q.s result.x) }
 {
     let s = q.s;
     let x = q.x;
@@ -159,7 +157,7 @@ fn rounds1(q: Rolled) -> Rolled
 }
 
 fn rounds2(q: Rolled) -> Rolled
-    ensures { λ r. ⌜ (r .x ≡ rolls 16 (q .x)) × (r .s ≡ turns 32 16 (q .s) (r .x)) ⌝ }
+    ensures { (result.x ≡ rolls 16 q.x) × (result.s ≡ turns 32 16 q.s result.x) }
 {
     let s = q.s;
     let x = q.x;
@@ -217,7 +215,7 @@ fn rounds2(q: Rolled) -> Rolled
 }
 
 fn rounds3(q: Rolled) -> Rolled
-    ensures { λ r. ⌜ (r .x ≡ rolls 16 (q .x)) × (r .s ≡ turns 48 16 (q .s) (r .x)) ⌝ }
+    ensures { (result.x ≡ rolls 16 q.x) × (result.s ≡ turns 48 16 q.s result.x) }
 {
     let s = q.s;
     let x = q.x;
@@ -275,7 +273,7 @@ fn rounds3(q: Rolled) -> Rolled
 }
 
 fn rounds(s: State, x: Words) -> State
-    ensures { λ r. ⌜ r ≡ turns 0 64 s x ⌝ }
+    ensures { result ≡ turns 0 64 s x }
 {
     let r = rounds3(rounds2(rounds1(Rolled {
         s: rounds0(s, x),
@@ -285,7 +283,7 @@ fn rounds(s: State, x: Words) -> State
 }
 
 pub fn add_state(x: State, s: State) -> State
-    ensures { λ r. ⌜ r ≡ added x s ⌝ }
+    ensures { result ≡ added x s }
 {
     State {
         a: add(x.a, s.a),
@@ -301,14 +299,14 @@ pub fn add_state(x: State, s: State) -> State
 
 // The hash value after one block more.
 pub fn compress(s: State, x: Words) -> State
-    ensures { λ r. ⌜ r ≡ folded s x ⌝ }
+    ensures { result ≡ folded s x }
 {
     add_state(rounds(s, x), s)
 }
 
 // The initial hash value.
 pub fn start() -> State
-    ensures { λ r. ⌜ r ≡ H0 ⌝ }
+    ensures { result ≡ H0 }
 {
     State {
         a: 0x6a09e667,
@@ -324,7 +322,7 @@ pub fn start() -> State
 
 // The eight words as a hash.
 pub fn to_hash(s: State) -> Hash
-    ensures { λ r. ⌜ hashBytes r ≡ stateBytes s ⌝ }
+    ensures { hash_bytes result ≡ state_bytes s }
 {
     Hash {
         a: join(s.a, s.b),

@@ -1,19 +1,16 @@
 // Eight compressions side by side: a loop whose turns don't hang on each other, which the compiler makes one run over eight lanes, or two
 // runs over four. Its rounds are functions of their own, each with one caller, so that they are in the loop. The words of the lanes stand side by
 // side too, word k of lane l at 8k + l, so that a vector is read and written at once.
-ghost use mathlib.Core.Path.{_≡_};
-ghost use Prim.Native.Nat.{_<_};
-ghost use Rattle·sha256_eight·specs.specs.Lanes.{wordsIn, valueIn, valueList, wordList, spread, Compressed};
-ghost use Rattle·sha256.specs.Rolling.{rolls, turns, folded};
-use sha256::Rolled;
-use sha256::State;
-use sha256::Words;
-use sha256::add_state;
-use sha256::schedule;
-use sha256::step;
+#![tactic(auto)]
+
+ghost use Rattle.std.specs.Prelude.{◌≡◌, ◌<◌};
+ghost use Rattle.sha256_eight.specs.Lanes.{words_in, value_inside, value_list, word_list, spread, Compressed};
+ghost use Rattle.sha256.specs.Rolling.{rolls, turns, folded};
+
+use sha256::{Rolled, State, Words, add_state, schedule, step};
 
 fn lane0(s: State, x: Words) -> State
-    ensures { λ r. ⌜ r ≡ turns 0 16 s x ⌝ }
+    ensures { result ≡ turns 0 16 s x }
 {
     let s1 = step(s, 0x428a2f98, x.w0);
     let s2 = step(s1, 0x71374491, x.w1);
@@ -35,7 +32,7 @@ fn lane0(s: State, x: Words) -> State
 }
 
 fn lane1(q: Rolled) -> Rolled
-    ensures { λ r. ⌜ (r .x ≡ rolls 16 (q .x)) × (r .s ≡ turns 16 16 (q .s) (r .x)) ⌝ }
+    ensures { (result.x ≡ rolls 16 q.x) × (result.s ≡ turns 16 16 q.s result.x) }
 {
     let s = q.s;
     let x = q.x;
@@ -93,7 +90,7 @@ fn lane1(q: Rolled) -> Rolled
 }
 
 fn lane2(q: Rolled) -> Rolled
-    ensures { λ r. ⌜ (r .x ≡ rolls 16 (q .x)) × (r .s ≡ turns 32 16 (q .s) (r .x)) ⌝ }
+    ensures { (result.x ≡ rolls 16 q.x) × (result.s ≡ turns 32 16 q.s result.x) }
 {
     let s = q.s;
     let x = q.x;
@@ -151,7 +148,7 @@ fn lane2(q: Rolled) -> Rolled
 }
 
 fn lane3(q: Rolled) -> Rolled
-    ensures { λ r. ⌜ (r .x ≡ rolls 16 (q .x)) × (r .s ≡ turns 48 16 (q .s) (r .x)) ⌝ }
+    ensures { (result.x ≡ rolls 16 q.x) × (result.s ≡ turns 48 16 q.s result.x) }
 {
     let s = q.s;
     let x = q.x;
@@ -209,7 +206,7 @@ fn lane3(q: Rolled) -> Rolled
 }
 
 fn lane_rounds(s: State, x: Words) -> State
-    ensures { λ r. ⌜ r ≡ turns 0 64 s x ⌝ }
+    ensures { result ≡ turns 0 64 s x }
 {
     let r = lane3(lane2(lane1(Rolled {
         s: lane0(s, x),
@@ -219,15 +216,15 @@ fn lane_rounds(s: State, x: Words) -> State
 }
 
 fn compress_lane(s: State, x: Words) -> State
-    ensures { λ r. ⌜ r ≡ folded s x ⌝ }
+    ensures { result ≡ folded s x }
 {
     add_state(lane_rounds(s, x), s)
 }
 
 // The words of lane l.
 fn words_in(x: &[u32; 136], l: usize) -> Words
-    requires { ⌜ l < 8 ⌝ }
-    ensures { λ r. ⌜ r ≡ wordsIn (now (x .entry)) l ⌝ }
+    requires { l < 8 }
+    ensures { result ≡ words_in x.now l }
 {
     Words {
         w0: x[0 + l],
@@ -251,8 +248,8 @@ fn words_in(x: &[u32; 136], l: usize) -> Words
 
 // The hash value of lane l.
 pub fn value_in(s: &[u32; 64], l: usize) -> State
-    requires { ⌜ l < 8 ⌝ }
-    ensures { λ r. ⌜ r ≡ valueIn (now (s .entry)) l ⌝ }
+    requires { l < 8 }
+    ensures { result ≡ value_inside s.now l }
 {
     State {
         a: s[0 + l],
@@ -268,8 +265,8 @@ pub fn value_in(s: &[u32; 64], l: usize) -> State
 
 // Lane l gets the hash value v.
 pub fn put_value(s: &mut [u32; 64], l: usize, v: State)
-    requires { ⌜ l < 8 ⌝ }
-    ensures { λ _. ⌜ now (s .exit) ≡ spread (now (s .entry)) l 0 (valueList v) ⌝ }
+    requires { l < 8 }
+    ensures { s.new ≡ spread s.old l 0 (value_list v) }
 {
     s[0 + l] = v.a;
     s[8 + l] = v.b;
@@ -283,8 +280,8 @@ pub fn put_value(s: &mut [u32; 64], l: usize, v: State)
 
 // Lane l gets the words of a block.
 pub fn put_words(x: &mut [u32; 136], l: usize, v: Words)
-    requires { ⌜ l < 8 ⌝ }
-    ensures { λ _. ⌜ now (x .exit) ≡ spread (now (x .entry)) l 0 (wordList v) ⌝ }
+    requires { l < 8 }
+    ensures { x.new ≡ spread x.old l 0 (word_list v) }
 {
     x[0 + l] = v.w0;
     x[8 + l] = v.w1;
@@ -306,7 +303,7 @@ pub fn put_words(x: &mut [u32; 136], l: usize, v: Words)
 
 // The hash values after one block more of each of eight messages.
 pub fn compress_eight(s: &[u32; 64], x: &[u32; 136]) -> [u32; 64]
-    ensures { λ r. ⌜ Compressed (now (s .entry)) (now (x .entry)) 8 r ⌝ }
+    ensures { Compressed s.now x.now 8 result }
 {
     let mut r = [0u32; 64];
     for l in 0..8 {

@@ -1,19 +1,16 @@
 // SHA-256's compression of the second block of a node's message, request 2026-06. Its rounds are functions of their own, each with one
 // caller, so that the compiler makes one straight run of them and sees which words are known.
-ghost use mathlib.Core.Path.{_≡_};
-ghost use Rattle·sha256.specs.Rolling.{rolls, turns, folded};
-ghost use Rattle·sha256_second_start.specs.Second.{secondBlock};
-use sha256::Rolled;
-use sha256::State;
-use sha256::Words;
-use sha256::add_state;
-use sha256::schedule;
-use sha256::step;
-use sha256_second_start::second0;
-use sha256_second_start::second1;
+#![tactic(auto)]
+
+ghost use Rattle.std.specs.Prelude.{◌≡◌};
+ghost use Rattle.sha256.specs.Rolling.{rolls, turns, folded};
+ghost use Rattle.sha256_second_start.specs.Second.{second_block};
+
+use sha256::{Rolled, State, Words, add_state, schedule, step};
+use sha256_second_start::{second0, second1};
 
 fn second2(q: Rolled) -> Rolled
-    ensures { λ r. ⌜ (r .x ≡ rolls 16 (q .x)) × (r .s ≡ turns 32 16 (q .s) (r .x)) ⌝ }
+    ensures { (result.x ≡ rolls 16 q.x) × (result.s ≡ turns 32 16 q.s result.x) }
 {
     let s = q.s;
     let x = q.x;
@@ -71,7 +68,7 @@ fn second2(q: Rolled) -> Rolled
 }
 
 fn second3(q: Rolled) -> Rolled
-    ensures { λ r. ⌜ (r .x ≡ rolls 16 (q .x)) × (r .s ≡ turns 48 16 (q .s) (r .x)) ⌝ }
+    ensures { (result.x ≡ rolls 16 q.x) × (result.s ≡ turns 48 16 q.s result.x) }
 {
     let s = q.s;
     let x = q.x;
@@ -130,7 +127,7 @@ fn second3(q: Rolled) -> Rolled
 
 // The hash value after the second block, whose first word is w.
 pub fn compress_second(s: State, w: u32) -> State
-    ensures { λ r. ⌜ r ≡ folded s (secondBlock w) ⌝ }
+    ensures { result ≡ folded s (second_block w) }
 {
     let r = second3(second2(second1(second0(s, w), w)));
     add_state(r.s, s)

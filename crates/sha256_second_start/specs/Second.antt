@@ -1,11 +1,11 @@
 -- The words of the second block of a message of 65 bytes. Assumes nothing.
-use Prim.Native.Nat.{ℕ}
-use Rattle·sha256.specs.declared.Words.{Words}
+use Rattle.std.specs.Prelude.{ℕ}
+use Rattle.sha256.specs.declared.Words.{Words}
 
 -- The second block, whose first word has the message's last byte and the byte 128: then zeros, and 520, the message's
 -- number of bits.
-abbrev pub secondBlock : ℕ → Words
-secondBlock k =
+abbrev pub second_block : ℕ → Words
+second_block k =
     record {
       w0 = k;
       w1 = 0;

@@ -1,24 +1,18 @@
 // The first 32 rounds of the second block of a node's message, request 2026-06: one byte of data, the byte 128, zeros, and the number of bits.
 // What does not hang on the byte is in the constants; the terms of the schedule that are zero are left out.
-ghost use mathlib.Core.Path.{_≡_};
-ghost use Rattle·sha256.specs.Sha256.{scheduled, round};
-ghost use Rattle·sha256.specs.Rolling.{rolls, turns};
-ghost use Rattle·sha256_second_start·specs.specs.Second.{secondBlock};
-use sha256::Rolled;
-use sha256::State;
-use sha256::Words;
-use sha256::step;
-use sha256_words::add;
-use sha256_words::big_sigma0;
-use sha256_words::big_sigma1;
-use sha256_words::ch;
-use sha256_words::maj;
-use sha256_words::sigma0;
-use sha256_words::sigma1;
+#![tactic(auto)]
+
+ghost use Rattle.std.specs.Prelude.{◌≡◌};
+ghost use Rattle.sha256.specs.Sha256.{scheduled, round};
+ghost use Rattle.sha256.specs.Rolling.{rolls, turns};
+ghost use Rattle.sha256_second_start.specs.Second.{second_block};
+
+use sha256::{Rolled, State, Words, step};
+use sha256_words::{add, big_sigma0, big_sigma1, ch, maj, sigma0, sigma1};
 
 // A round whose word is in its constant.
 fn known(s: State, k: u32) -> State
-    ensures { λ r. ⌜ r ≡ round s k 0 ⌝ }
+    ensures { result ≡ round s k 0 }
 {
     let t1 = add(add(add(s.h, big_sigma1(s.e)), ch(s.e, s.f, s.g)), k);
     let t2 = add(big_sigma0(s.a), maj(s.a, s.b, s.c));
@@ -36,21 +30,21 @@ fn known(s: State, k: u32) -> State
 
 // The next word where only the word 2 before it is not zero.
 fn after(p: u32) -> u32
-    ensures { λ v. ⌜ v ≡ scheduled p 0 0 0 ⌝ }
+    ensures { result ≡ scheduled p 0 0 0 }
 {
     sigma1(p)
 }
 
 // The next word where those 15 and 16 before it are zero.
 fn after_two(p: u32, q: u32) -> u32
-    ensures { λ v. ⌜ v ≡ scheduled p q 0 0 ⌝ }
+    ensures { result ≡ scheduled p q 0 0 }
 {
     add(sigma1(p), q)
 }
 
 // Words 1 to 14 are zero.
 pub fn second0(s: State, w: u32) -> State
-    ensures { λ r. ⌜ r ≡ turns 0 16 s (secondBlock w) ⌝ }
+    ensures { result ≡ turns 0 16 s (second_block w) }
 {
     let s1 = step(s, 0x428a2f98, w);
     let s2 = known(s1, 0x71374491);
@@ -73,7 +67,7 @@ pub fn second0(s: State, w: u32) -> State
 
 // Word 16 is word 0 again; words 17, 19 and 21 do not hang on it.
 pub fn second1(s: State, w: u32) -> Rolled
-    ensures { λ r. ⌜ (r .x ≡ rolls 16 (secondBlock w)) × (r .s ≡ turns 16 16 s (r .x)) ⌝ }
+    ensures { (result.x ≡ rolls 16 (second_block w)) × (result.s ≡ turns 16 16 s result.x) }
 {
     let s1 = step(s, 0xe49b69c1, w);
     let s2 = known(s1, 0xf1034786);

@@ -1,21 +1,21 @@
 -- SHA-256's words of 32 bits, numbers below 2 ^ 32, after FIPS 180-4, 2.2.2 to 4.1.2, in its order and names.
-use Prim.Native.Nat.{ℕ, _+_, _*_, _-_, _/_, _%_, _^_}
-use lib.Bits.{bitAnd, bitOr, bitXor}
+use Rattle.std.specs.Prelude.{ℕ, ◌+◌, ◌*◌, ◌-◌, ◌/◌, ◌%◌, ◌^◌}
+use Rattle.std.specs.Int.Bits.{bit_and, bit_or, bit_xor}
 
 -- 2.2.2: bitwise and, exclusive or, complement, and the sum modulo 2 ^ 32.
-infixl 60 _&_
-abbrev pub _&_ : ℕ → ℕ → ℕ
-x & y = bitAnd x y
+infixl 60 ◌&◌
+abbrev pub ◌&◌ : ℕ → ℕ → ℕ
+x & y = bit_and x y
 
-infixl 40 _⊕_
-abbrev pub _⊕_ : ℕ → ℕ → ℕ
-x ⊕ y = bitXor x y
+infixl 40 ◌⊕◌
+abbrev pub ◌⊕◌ : ℕ → ℕ → ℕ
+x ⊕ y = bit_xor x y
 
 abbrev pub complement : ℕ → ℕ
 complement x = (2 ^ 32 - 1) - x
 
-infixl 50 _⊞_
-abbrev pub _⊞_ : ℕ → ℕ → ℕ
+infixl 50 ◌⊞◌
+abbrev pub ◌⊞◌ : ℕ → ℕ → ℕ
 x ⊞ y = (x + y) % 2 ^ 32
 
 -- 3.2: x shifted right by n bits, and rotated right by n bits.
@@ -23,7 +23,7 @@ abbrev pub SHR : ℕ → ℕ → ℕ
 SHR n x = x / 2 ^ n
 
 abbrev pub ROTR : ℕ → ℕ → ℕ
-ROTR n x = bitOr (x / 2 ^ n) ((x * 2 ^ (32 - n)) % 2 ^ 32)
+ROTR n x = bit_or (x / 2 ^ n) ((x * 2 ^ (32 - n)) % 2 ^ 32)
 
 -- 4.1.2: the six functions.
 abbrev pub Ch : ℕ → ℕ → ℕ → ℕ

@@ -1,136 +1,136 @@
 -- What is told of bytes as a shelf's proof is exactly what the tests read from them: bytes are a proof exactly if they are
 -- read as it, and it holds exactly if it is accepted. Assumes nothing.
-use Prim.Native.Nat.{ℕ, _≤_, _<_}
+use Prim.Native.Nat.{ℕ, ◌≤◌, ◌<◌}
 use native.Mathlib.Omega.{arith}
-use mathlib.Core.Path.{_≡_, refl, ap, ap₂, sym, _∙_, subst}
-use mathlib.Core.Logic.{_↔_}
-use mathlib.Core.Bool.{Bool, true, false, cond, _&&_}
-use mathlib.Core.List.{_++_}
+use mathlib.Core.Path.{◌≡◌, refl, ap, ap₂, sym, ◌∙◌, subst}
+use mathlib.Core.Logic.{◌↔◌}
+use mathlib.Core.Bool.{Bool, true, false, cond, ◌&&◌}
+use mathlib.Core.List.{◌++◌}
 use mathlib.Core.Option.{Option, none, some}
 use lib.ListN.{length}
 use lib.Dec.{eqb, leb}
 use borrow.Author.Tests.{eqb-true, eqb-false, leb-true, leb-false}
-use Rattle·terms.specs.Bits.{Bytes, Byte, All}
-use Rattle·meaning.specs.Calls.{Answer, refused, accepted}
-use Rattle·meaning.specs.Reading.{Verdict}
-use Rattle·meaning.specs.Answers.{foundBytes, Exported}
-use Rattle·meaning.proofs.Told.{exports}
-use Rattle·verify_rules.specs.Verify.{Sizes32}
-use Rattle·shelf_rules·specs.specs.Shelf.{ShelfProof, noPart, inPart, ShelfIs, alone, both, ShelfHolds, ShelfTold, not-32-bytes, too-many-bits, not-in-form, not-holding, holding, ShelfVerifies}
-use Rattle·shelf_rules·specs.specs.Reading.{shelfBytes, ShelfForm, shelfIn, shelfChecked, shelfJudged, shelfVerified}
-use Rattle·shelf_rules·proofs.proofs.Records.{shelf-back, shelf-bytes}
-use Rattle·shelf_rules·proofs.proofs.Theorems.{shelf-accepted-exactly-if-holds, shelf-refused-with-11}
+use Rattle.terms.specs.Bits.{Bytes, Byte, All}
+use Rattle.meaning.specs.Calls.{Answer, refused, accepted}
+use Rattle.meaning.specs.Reading.{Verdict}
+use Rattle.meaning.specs.Answers.{found_bytes, Exported}
+use Rattle.meaning.proofs.Told.{exports}
+use Rattle.verify_rules.specs.Verify.{Sizes32}
+use Rattle.shelf_rules.specs.Shelf.{ShelfProof, no_part, in_part, ShelfIs, alone, both, ShelfHolds, ShelfTold, not_32_bytes, too_many_bits, not_in_form, not_holding, holding, ShelfVerifies}
+use Rattle.shelf_rules.specs.Reading.{shelf_bytes, ShelfForm, shelf_in, shelf_checked, shelf_judged, shelf_verified}
+use Rattle.shelf_rules.proofs.Records.{shelf_back, shelf_bytes_lem}
+use Rattle.shelf_rules.proofs.Theorems.{shelf_accepted_exactly_if_holds, shelf_refused_with_11}
 
-not-both : {A : Type 0} {n : ℕ} {v : Verdict} → _≡_ {A = Answer Verdict} (refused n) (accepted v) → A
-not-both e = let z : _≡_ {A = ℕ} 0 1 = cc in absurd (omega arith)
+not_both : {A : Type 0} {n : ℕ} {v : Verdict} → ◌≡◌ {A = Answer Verdict} (refused n) (accepted v) → A
+not_both e = let z : ◌≡◌ {A = ℕ} 0 1 = cc in absurd (omega arith)
 
 -- bytes are a proof exactly if they are the bytes of one in form,
-pub shelf-in-form : {x : Bytes} {p : ShelfProof} → ShelfIs x p → (x ≡ shelfBytes p) × ShelfForm p
-shelf-in-form (alone h) = (h .bytes, h .form)
-shelf-in-form (both h i) = (ap₂ _++_ (h .bytes) (i .bytes), (h .form, i .form))
+pub shelf_in_form : {x : Bytes} {p : ShelfProof} → ShelfIs x p → (x ≡ shelf_bytes p) × ShelfForm p
+shelf_in_form (alone h) = (h.bytes, h.form)
+shelf_in_form (both h i) = (ap₂ ◌++◌ h.bytes i.bytes, (h.form, i.form))
 
-pub in-form-shelf : {x : Bytes} (p : ShelfProof) → x ≡ shelfBytes p → ShelfForm p → ShelfIs x p
-in-form-shelf (noPart a) e h = alone (record { bytes = e; form = h })
-in-form-shelf (inPart p q) e (h, i) =
-    subst (λ z. ShelfIs z (inPart p q)) (sym e) (both (record { bytes = refl; form = h }) (record { bytes = refl; form = i }))
+pub in_form_shelf : {x : Bytes} (p : ShelfProof) → x ≡ shelf_bytes p → ShelfForm p → ShelfIs x p
+in_form_shelf (no_part a) e h = alone (record { bytes = e; form = h })
+in_form_shelf (in_part p q) e (h, i) =
+    subst (λ z. ShelfIs z (in_part p q)) (sym e) (both (record { bytes = refl; form = h }) (record { bytes = refl; form = i }))
 
 -- which is exactly if they are read as it, and one at most
 module _ (x : Bytes) where
-  shelf-read-as : (p : ShelfProof) → ShelfIs x p → shelfIn x ≡ some p
-  shelf-read-as p w = let u = shelf-in-form w in ap shelfIn (u .0) ∙ shelf-back p (u .1)
+  shelf_read_as : (p : ShelfProof) → ShelfIs x p → shelf_in x ≡ some p
+  shelf_read_as p w = let u = shelf_in_form w in ap shelf_in u.0 ∙ shelf_back p u.1
 
-  shelf-is : All Byte x → (p : ShelfProof) → shelfIn x ≡ some p → ShelfIs x p
-  shelf-is bytes p e = let w = shelf-bytes x bytes p e in in-form-shelf p (sym (w .1)) (w .0)
+  shelf_is : All Byte x → (p : ShelfProof) → shelf_in x ≡ some p → ShelfIs x p
+  shelf_is bytes p e = let w = shelf_bytes_lem x bytes p e in in_form_shelf p (sym w.1) w.0
 
-  no-shelf-is : shelfIn x ≡ none → (p : ShelfProof) → ShelfIs x p → ⊥
-  no-shelf-is e p w = none-some (sym e ∙ shelf-read-as p w)
+  no_shelf_is : shelf_in x ≡ none → (p : ShelfProof) → ShelfIs x p → ⊥
+  no_shelf_is e p w = none_some (sym e ∙ shelf_read_as p w)
     where
-      none-some : none ≡ some p → ⊥
-      none-some z = let y : _≡_ {A = ℕ} 0 1 = cc in omega arith
+      none_some : none ≡ some p → ⊥
+      none_some z = let y : ◌≡◌ {A = ℕ} 0 1 = cc in omega arith
 
-  pub one-shelf-is : (p q : ShelfProof) → ShelfIs x p → ShelfIs x q → p ≡ q
-  one-shelf-is p q v w = same (sym (shelf-read-as p v) ∙ shelf-read-as q w)
+  pub one_shelf_is : (p q : ShelfProof) → ShelfIs x p → ShelfIs x q → p ≡ q
+  one_shelf_is p q v w = same (sym (shelf_read_as p v) ∙ shelf_read_as q w)
     where
       same : some p ≡ some q → p ≡ q
       same e = cc
 
 module _ (root : Bytes) (b : ℕ) (k x : Bytes) where
   -- What is read is told,
-  shelf-read-told : All Byte x → ShelfTold root b k x (shelfVerified root b k x)
-  unfolding shelfVerified
-  shelf-read-told bytes = sizes (eqb (length root) 32) (eqb (length k) 32) refl refl
+  shelf_read_told : All Byte x → ShelfTold root b k x (shelf_verified root b k x)
+  unfolding shelf_verified
+  shelf_read_told bytes = sizes (eqb (length root) 32) (eqb (length k) 32) refl refl
     where
-      held : Sizes32 root k → b ≤ 12 → (p : ShelfProof) → ShelfIs x p → (a : Answer Verdict) → shelfChecked root b k p ≡ a → ShelfTold root b k x a
+      held : Sizes32 root k → b ≤ 12 → (p : ShelfProof) → ShelfIs x p → (a : Answer Verdict) → shelf_checked root b k p ≡ a → ShelfTold root b k x a
       held s l p w (refused n) e =
-          subst (λ m. ShelfTold root b k x (refused m)) (sym (shelf-refused-with-11 root b k p e))
-          (not-holding s l w (λ v h. not-both (sym e ∙ shelf-accepted-exactly-if-holds root b k p v .1 h)))
-      held s l p w (accepted v) e = holding s l w (shelf-accepted-exactly-if-holds root b k p v .0 e)
+          subst (λ m. ShelfTold root b k x (refused m)) (sym (shelf_refused_with_11 root b k p e))
+          (not_holding s l w (λ v h. not_both (sym e ∙ (shelf_accepted_exactly_if_holds root b k p v).1 h)))
+      held s l p w (accepted v) e = holding s l w ((shelf_accepted_exactly_if_holds root b k p v).0 e)
 
-      form : Sizes32 root k → b ≤ 12 → (o : Option ShelfProof) → shelfIn x ≡ o → ShelfTold root b k x (shelfJudged root b k o)
-      form s l none e = not-in-form s l (no-shelf-is x e)
-      form s l (some p) e = held s l p (shelf-is x bytes p e) (shelfChecked root b k p) refl
+      form : Sizes32 root k → b ≤ 12 → (o : Option ShelfProof) → shelf_in x ≡ o → ShelfTold root b k x (shelf_judged root b k o)
+      form s l none e = not_in_form s l (no_shelf_is x e)
+      form s l (some p) e = held s l p (shelf_is x bytes p e) (shelf_checked root b k p) refl
 
-      few : Sizes32 root k → (c : Bool) → leb b 12 ≡ c → ShelfTold root b k x (cond c (shelfJudged root b k (shelfIn x)) (refused 21))
-      few s true e = form s (leb-true b 12 e) (shelfIn x) refl
-      few s false e = too-many-bits s (leb-false b 12 e)
+      few : Sizes32 root k → (c : Bool) → leb b 12 ≡ c → ShelfTold root b k x (cond c (shelf_judged root b k (shelf_in x)) (refused 21))
+      few s true e = form s (leb-true b 12 e) (shelf_in x) refl
+      few s false e = too_many_bits s (leb-false b 12 e)
 
       sizes : (c d : Bool) → eqb (length root) 32 ≡ c → eqb (length k) 32 ≡ d →
-          ShelfTold root b k x (cond (c && d) (cond (leb b 12) (shelfJudged root b k (shelfIn x)) (refused 21)) (refused 12))
-      sizes false d e f = not-32-bytes (λ s. eqb-false (length root) 32 e (s .0))
-      sizes true false e f = not-32-bytes (λ s. eqb-false (length k) 32 f (s .1))
+          ShelfTold root b k x (cond (c && d) (cond (leb b 12) (shelf_judged root b k (shelf_in x)) (refused 21)) (refused 12))
+      sizes false d e f = not_32_bytes (λ s. eqb-false (length root) 32 e s.0)
+      sizes true false e f = not_32_bytes (λ s. eqb-false (length k) 32 f s.1)
       sizes true true e f = few (eqb-true (length root) 32 e, eqb-true (length k) 32 f) (leb b 12) refl
 
   -- and one answer alone is:
-  only-12 : {a : Answer Verdict} → (Sizes32 root k → ⊥) → ShelfTold root b k x a → refused 12 ≡ a
-  only-12 n (not-32-bytes m) = refl
-  only-12 n (too-many-bits s m) = absurd (n s)
-  only-12 n (not-in-form s l m) = absurd (n s)
-  only-12 n (not-holding s l w m) = absurd (n s)
-  only-12 n (holding s l w h) = absurd (n s)
+  only_12 : {a : Answer Verdict} → (Sizes32 root k → ⊥) → ShelfTold root b k x a → refused 12 ≡ a
+  only_12 n (not_32_bytes m) = refl
+  only_12 n (too_many_bits s m) = absurd (n s)
+  only_12 n (not_in_form s l m) = absurd (n s)
+  only_12 n (not_holding s l w m) = absurd (n s)
+  only_12 n (holding s l w h) = absurd (n s)
 
-  only-21 : {a : Answer Verdict} → Sizes32 root k → 12 < b → ShelfTold root b k x a → refused 21 ≡ a
-  only-21 s m (not-32-bytes n) = absurd (n s)
-  only-21 s m (too-many-bits t n) = refl
-  only-21 s m (not-in-form t l n) = absurd (omega arith)
-  only-21 s m (not-holding t l w n) = absurd (omega arith)
-  only-21 s m (holding t l w h) = absurd (omega arith)
+  only_21 : {a : Answer Verdict} → Sizes32 root k → 12 < b → ShelfTold root b k x a → refused 21 ≡ a
+  only_21 s m (not_32_bytes n) = absurd (n s)
+  only_21 s m (too_many_bits t n) = refl
+  only_21 s m (not_in_form t l n) = absurd (omega arith)
+  only_21 s m (not_holding t l w n) = absurd (omega arith)
+  only_21 s m (holding t l w h) = absurd (omega arith)
 
-  only-10 : {a : Answer Verdict} → Sizes32 root k → b ≤ 12 → ((p : ShelfProof) → ShelfIs x p → ⊥) → ShelfTold root b k x a → refused 10 ≡ a
-  only-10 s l n (not-32-bytes m) = absurd (m s)
-  only-10 s l n (too-many-bits t m) = absurd (omega arith)
-  only-10 s l n (not-in-form t i m) = refl
-  only-10 s l n (not-holding {p} t i w m) = absurd (n p w)
-  only-10 s l n (holding {p} t i w h) = absurd (n p w)
+  only_10 : {a : Answer Verdict} → Sizes32 root k → b ≤ 12 → ((p : ShelfProof) → ShelfIs x p → ⊥) → ShelfTold root b k x a → refused 10 ≡ a
+  only_10 s l n (not_32_bytes m) = absurd (m s)
+  only_10 s l n (too_many_bits t m) = absurd (omega arith)
+  only_10 s l n (not_in_form t i m) = refl
+  only_10 s l n (not_holding {p} t i w m) = absurd (n p w)
+  only_10 s l n (holding {p} t i w h) = absurd (n p w)
 
-  fails : (p : ShelfProof) → ((v : Verdict) → ShelfHolds root b k p v → ⊥) → shelfChecked root b k p ≡ refused 11
-  fails p n = go (shelfChecked root b k p) refl
+  fails : (p : ShelfProof) → ((v : Verdict) → ShelfHolds root b k p v → ⊥) → shelf_checked root b k p ≡ refused 11
+  fails p n = go (shelf_checked root b k p) refl
     where
-      go : (a : Answer Verdict) → shelfChecked root b k p ≡ a → shelfChecked root b k p ≡ refused 11
-      go (refused m) e = e ∙ ap refused (shelf-refused-with-11 root b k p e)
-      go (accepted v) e = absurd (n v (shelf-accepted-exactly-if-holds root b k p v .0 e))
+      go : (a : Answer Verdict) → shelf_checked root b k p ≡ a → shelf_checked root b k p ≡ refused 11
+      go (refused m) e = e ∙ ap refused (shelf_refused_with_11 root b k p e)
+      go (accepted v) e = absurd (n v ((shelf_accepted_exactly_if_holds root b k p v).0 e))
 
-  only-what-holds : {a : Answer Verdict} {p : ShelfProof} → Sizes32 root k → b ≤ 12 → ShelfIs x p → ShelfTold root b k x a → shelfChecked root b k p ≡ a
-  only-what-holds s l v (not-32-bytes m) = absurd (m s)
-  only-what-holds s l v (too-many-bits t m) = absurd (omega arith)
-  only-what-holds {p = p} s l v (not-in-form t i m) = absurd (m p v)
-  only-what-holds {p = p} s l v (not-holding {p = q} t i w m) = ap (shelfChecked root b k) (one-shelf-is x p q v w) ∙ fails q m
-  only-what-holds {p = p} s l v (holding {p = q} {v = y} t i w h) =
-      ap (shelfChecked root b k) (one-shelf-is x p q v w) ∙ shelf-accepted-exactly-if-holds root b k q y .1 h
+  only_what_holds : {a : Answer Verdict} {p : ShelfProof} → Sizes32 root k → b ≤ 12 → ShelfIs x p → ShelfTold root b k x a → shelf_checked root b k p ≡ a
+  only_what_holds s l v (not_32_bytes m) = absurd (m s)
+  only_what_holds s l v (too_many_bits t m) = absurd (omega arith)
+  only_what_holds {p = p} s l v (not_in_form t i m) = absurd (m p v)
+  only_what_holds {p = p} s l v (not_holding {p = q} t i w m) = ap (shelf_checked root b k) (one_shelf_is x p q v w) ∙ fails q m
+  only_what_holds {p = p} s l v (holding {p = q} {v = y} t i w h) =
+      ap (shelf_checked root b k) (one_shelf_is x p q v w) ∙ (shelf_accepted_exactly_if_holds root b k q y).1 h
 
-  pub one-shelf-told : (a c : Answer Verdict) → ShelfTold root b k x a → ShelfTold root b k x c → a ≡ c
-  one-shelf-told _ c (not-32-bytes n) t = only-12 n t
-  one-shelf-told _ c (too-many-bits s m) t = only-21 s m t
-  one-shelf-told _ c (not-in-form s l n) t = only-10 s l n t
-  one-shelf-told _ c (not-holding {p} s l w n) t = sym (fails p n) ∙ only-what-holds s l w t
-  one-shelf-told _ c (holding {p} {v} s l w h) t = sym (shelf-accepted-exactly-if-holds root b k p v .1 h) ∙ only-what-holds s l w t
+  pub one_shelf_told : (a c : Answer Verdict) → ShelfTold root b k x a → ShelfTold root b k x c → a ≡ c
+  one_shelf_told _ c (not_32_bytes n) t = only_12 n t
+  one_shelf_told _ c (too_many_bits s m) t = only_21 s m t
+  one_shelf_told _ c (not_in_form s l n) t = only_10 s l n t
+  one_shelf_told _ c (not_holding {p} s l w n) t = sym (fails p n) ∙ only_what_holds s l w t
+  one_shelf_told _ c (holding {p} {v} s l w h) t = sym ((shelf_accepted_exactly_if_holds root b k p v).1 h) ∙ only_what_holds s l w t
 
   -- so what is told is exactly what is read.
-  pub shelf-told-exactly : All Byte x → (a : Answer Verdict) → ShelfTold root b k x a ↔ (a ≡ shelfVerified root b k x)
-  shelf-told-exactly bytes a = (
-    λ t. one-shelf-told a (shelfVerified root b k x) t (shelf-read-told bytes),
-    λ e. subst (ShelfTold root b k x) (sym e) (shelf-read-told bytes),
+  pub shelf_told_exactly : All Byte x → (a : Answer Verdict) → ShelfTold root b k x a ↔ (a ≡ shelf_verified root b k x)
+  shelf_told_exactly bytes a = (
+    λ t. one_shelf_told a (shelf_verified root b k x) t (shelf_read_told bytes),
+    λ e. subst (ShelfTold root b k x) (sym e) (shelf_read_told bytes),
   )
 
   -- A check that answers what is read keeps its contract.
-  pub shelf-verifies : {f g : Bytes} {r : ℕ} → All Byte x → Exported (shelfVerified root b k x) foundBytes f r g → ShelfVerifies root b k x f r g
-  shelf-verifies bytes e = exports (shelfVerified root b k x) (shelf-read-told bytes) e
+  pub shelf_verifies : {f g : Bytes} {r : ℕ} → All Byte x → Exported (shelf_verified root b k x) found_bytes f r g → ShelfVerifies root b k x f r g
+  shelf_verifies bytes e = exports (shelf_verified root b k x) (shelf_read_told bytes) e

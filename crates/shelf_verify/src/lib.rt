@@ -1,30 +1,25 @@
 // The check of a shelf's proof over hostile bytes: the list's record for the key's part against the root, then the part's record for the key
 // against the root that the list shows. 12, 21, 10, 11.
-ghost use mathlib.Core.Path.{_≡_};
-ghost use mathlib.Core.Bool.{true};
-ghost use Prim.Native.Nat.{_≤_};
-ghost use lib.ListN.{length};
-ghost use Rattle·shelf_rules.specs.Shelf.{ShelfVerifies};
-ghost use Rattle·shelf_verify·specs.specs.Both.{isProof, isShelf, firstLength, ChecksBoth};
-use fields::clear;
-use fields::get_u32;
+#![tactic(auto)]
+
+ghost use Rattle.std.specs.Prelude.{◌≡◌, true, ◌≤◌, length};
+ghost use Rattle.shelf_rules.specs.Shelf.{ShelfVerifies};
+ghost use Rattle.shelf_verify.specs.Both.{is_proof, is_shelf, first_length, ChecksBoth};
+
+use fields::{clear, get_u32};
 use hash::put_hash;
 use place::front;
-use refusal_numbers::NOT_32_BYTES;
-use refusal_numbers::NOT_IN_FORM;
-use refusal_numbers::TOO_MANY_BITS;
-use verify::Checked;
-use verify::verify;
+use refusal_numbers::{NOT_32_BYTES, NOT_IN_FORM, TOO_MANY_BITS};
+use verify::{Checked, verify};
 use verify_call::grants_verify;
-use verify_form::is_absence;
-use verify_form::is_presence;
+use verify_form::{is_absence, is_presence};
 
 // A shelf has 0 to 12 bits.
 const MOST_BITS: u32 = 12;
 
 // Where the first record ends, by its own length; the end where that is past it.
 fn first_end(proof: &[u8]) -> usize
-    ensures { λ r. ⌜ r ≡ firstLength (now (proof .entry)) ⌝ }
+    ensures { result ≡ first_length proof.now }
 {
     let n = proof.len();
     if n < 4 {
@@ -39,7 +34,7 @@ fn first_end(proof: &[u8]) -> usize
 
 // Whether the bytes are one whole record in form.
 fn is_proof(x: &[u8]) -> bool
-    ensures { λ r. ⌜ r ≡ isProof (now (x .entry)) ⌝ }
+    ensures { result ≡ is_proof x.now }
 {
     if is_presence(x) {
         return true;
@@ -49,8 +44,8 @@ fn is_proof(x: &[u8]) -> bool
 
 // Whether the bytes up to e and those after it are the records of a shelf's proof: a second one exactly if the first shows a presence.
 fn is_shelf(proof: &[u8], e: usize) -> bool
-    requires { ⌜ e ≤ length (now proof) ⌝ }
-    ensures { λ r. ⌜ r ≡ isShelf e (now (proof .entry)) ⌝ }
+    requires { e ≤ length proof.now }
+    ensures { result ≡ is_shelf e proof.now }
 {
     let n = proof.len();
     if is_presence(&proof[0..e]) {
@@ -71,8 +66,8 @@ fn check_both(
     e: usize,
     found: &mut [u8; 33],
 ) -> u32
-    requires { ⌜ e ≤ length (now proof) ⌝ }
-    ensures { λ r. ⌜ ChecksBoth (now (root .entry)) (now (part .entry)) (now (key .entry)) e (now (proof .entry)) (now (found .entry)) r (now (found .exit)) ⌝ }
+    requires { e ≤ length proof.now }
+    ensures { ChecksBoth root.now part.now key.now e proof.now found.old result found.new }
 {
     let n = proof.len();
     let list = verify(root, part, &proof[0..e]);
@@ -92,15 +87,14 @@ fn check_both(
 
 // The check for callers in other languages: 0 where a proof is accepted, with 1 and the value or 0 and zero bytes in `found`; else the
 // number of refusal, with `found` as it was.
-#[no_mangle]
-pub extern "C" fn grants_shelf_verify(
+pub fn grants_shelf_verify(
     root: &[u8],
     bits: u32,
     key: &[u8],
     proof: &[u8],
     found: &mut [u8; 33],
 ) -> u32
-    ensures { λ r. ⌜ ShelfVerifies (now (root .entry)) bits (now (key .entry)) (now (proof .entry)) (now (found .entry)) r (now (found .exit)) ⌝ }
+    ensures { ShelfVerifies root.now bits key.now proof.now found.old result found.new }
 {
     if root.len() != 32 {
         return NOT_32_BYTES;

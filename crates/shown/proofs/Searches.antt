@@ -1,76 +1,76 @@
 -- The search for a neighbour at one node: what is found below it, or by a turn there, or above it. So a search from a trail is a search from
 -- the node, and what it finds is raised by the trail. Assumes nothing.
 use Prim.Native.Nat.{ℕ, suc}
-use mathlib.Core.Path.{_≡_, refl, ap, sym, _∙_}
+use mathlib.Core.Path.{◌≡◌, refl, ap, sym, ◌∙◌}
 use mathlib.Core.Bool.{Bool, true, false, cond, not}
-use mathlib.Core.List.{List, [], _∷_, map, append-assoc}
+use mathlib.Core.List.{List, [], ◌∷◌, map, append_assoc}
 use mathlib.Core.Option.{Option, none, some}
-use Rattle·terms.specs.Bits.{Bytes, Side, bit}
-use Rattle·terms.specs.Records.{Step, Presence}
-use Rattle·meaning.specs.Tree.{Tree, hash}
-use Rattle·meaning.specs.Reading.{Seen, stoppedBy, gap, leafSeen, fork, Pass, walk}
-use Rattle·meaning.specs.Proving.{step, presenceOf, stepUp, raised, Descended, descentStopped, reached, raisedBy, descend, Sought, searchStopped, nobody, somebody, sought, turnsAway, fromTrail, beyond, neighbour}
-use Rattle·shown·proofs.proofs.Views.{onSide, not-not, occupied, viewed, passing, gap-or-node}
+use Rattle.terms.specs.Bits.{Bytes, Side, bit}
+use Rattle.terms.specs.Records.{Step, Presence}
+use Rattle.meaning.specs.Tree.{Tree, hash}
+use Rattle.meaning.specs.Reading.{Seen, stopped_by, gap, leaf_seen, fork, Pass, walk}
+use Rattle.meaning.specs.Proving.{step, presence_of, step_up, raised, Descended, descent_stopped, reached, raised_by, descend, Sought, search_stopped, nobody, somebody, sought, turns_away, from_trail, beyond, neighbour}
+use Rattle.shown.proofs.Views.{on_side, not_not, occupied, viewed, passing, gap_or_node}
 
 -- Where the first search finds nobody, the second.
-abbrev pub orElse : Sought → Sought → Sought
-orElse (searchStopped t) y = searchStopped t
-orElse nobody y = y
-orElse (somebody p) y = somebody p
+abbrev pub or_else : Sought → Sought → Sought
+or_else (search_stopped t) y = search_stopped t
+or_else nobody y = y
+or_else (somebody p) y = somebody p
 
 -- What a search found, with more steps above it.
-abbrev pub soughtBelow : List Step → Sought → Sought
-soughtBelow steps (searchStopped t) = searchStopped t
-soughtBelow steps nobody = nobody
-soughtBelow steps (somebody p) = somebody (raised steps p)
+abbrev pub sought_below : List Step → Sought → Sought
+sought_below steps (search_stopped t) = search_stopped t
+sought_below steps nobody = nobody
+sought_below steps (somebody p) = somebody (raised steps p)
 
-pub raised-twice : (s : Step) (steps : List Step) (p : Presence) → raised (s ∷ steps) p ≡ raised steps (raised (s ∷ []) p)
-raised-twice s steps p = ap (presenceOf (p .key) (p .value)) (sym (append-assoc (p .steps) (s ∷ []) steps))
+pub raised_twice : (s : Step) (steps : List Step) (p : Presence) → raised (s ∷ steps) p ≡ raised steps (raised (s ∷ []) p)
+raised_twice s steps p = ap (presence_of p.key p.value) (sym (append_assoc p.steps (s ∷ []) steps))
 
-at-node : (s u : Step) (steps : List Step) (below : Sought) (turn : Descended) (above : Sought) (away : Bool) →
-    orElse (soughtBelow (s ∷ steps) below) (cond away (sought (raisedBy (u ∷ steps) turn)) above)
-    ≡ orElse (soughtBelow steps (orElse (soughtBelow (s ∷ []) below) (cond away (sought (raisedBy (u ∷ []) turn)) nobody))) above
-at-node s u steps (searchStopped t) turn above away = refl
-at-node s u steps nobody turn above false = refl
-at-node s u steps nobody (descentStopped t) above true = refl
-at-node s u steps nobody (reached p) above true = ap somebody (raised-twice u steps p)
-at-node s u steps (somebody p) turn above away = ap somebody (raised-twice s steps p)
+at_node_lem : (s u : Step) (steps : List Step) (below : Sought) (turn : Descended) (above : Sought) (away : Bool) →
+    or_else (sought_below (s ∷ steps) below) (cond away (sought (raised_by (u ∷ steps) turn)) above)
+    ≡ or_else (sought_below steps (or_else (sought_below (s ∷ []) below) (cond away (sought (raised_by (u ∷ []) turn)) nobody))) above
+at_node_lem s u steps (search_stopped t) turn above away = refl
+at_node_lem s u steps nobody turn above false = refl
+at_node_lem s u steps nobody (descent_stopped t) above true = refl
+at_node_lem s u steps nobody (reached p) above true = ap somebody (raised_twice u steps p)
+at_node_lem s u steps (somebody p) turn above away = ap somebody (raised_twice s steps p)
 
-at-leaf : (l x : Bytes) (steps : List Step) (above : Sought) (on-side : Bool) →
-    cond on-side (somebody (presenceOf l x steps)) above
-    ≡ orElse (soughtBelow steps (cond on-side (somebody (presenceOf l x [])) nobody)) above
-at-leaf l x steps above true = refl
-at-leaf l x steps above false = refl
+at_leaf_lem : (l x : Bytes) (steps : List Step) (above : Sought) (on_side_lem : Bool) →
+    cond on_side_lem (somebody (presence_of l x steps)) above
+    ≡ or_else (sought_below steps (cond on_side_lem (somebody (presence_of l x [])) nobody)) above
+at_leaf_lem l x steps above true = refl
+at_leaf_lem l x steps above false = refl
 
 -- The neighbour of k on side b, of a walk that starts at bit i.
-abbrev pub neighbourBelow : Side → Bytes → ℕ → Seen → Sought
-neighbourBelow b k i s = neighbour b k (walk k i [] s)
+abbrev pub neighbour_below : Side → Bytes → ℕ → Seen → Sought
+neighbour_below b k i s = neighbour b k (walk k i [] s)
 
-pub neighbour-from-trail : (b : Side) (k : Bytes) (i : ℕ) (trail : List Pass) (s : Seen) →
-    neighbour b k (walk k i trail s) ≡ orElse (soughtBelow (map stepUp trail) (neighbourBelow b k i s)) (fromTrail b trail)
-neighbour-from-trail b k i trail (stoppedBy t) = refl
-neighbour-from-trail b k i trail gap = refl
-neighbour-from-trail b k i trail (leafSeen l x) = at-leaf l x (map stepUp trail) (fromTrail b trail) (beyond b l k)
-neighbour-from-trail b k i trail (fork hashes kids) =
+pub neighbour_from_trail : (b : Side) (k : Bytes) (i : ℕ) (trail : List Pass) (s : Seen) →
+    neighbour b k (walk k i trail s) ≡ or_else (sought_below (map step_up trail) (neighbour_below b k i s)) (from_trail b trail)
+neighbour_from_trail b k i trail (stopped_by t) = refl
+neighbour_from_trail b k i trail gap = refl
+neighbour_from_trail b k i trail (leaf_seen l x) = at_leaf_lem l x (map step_up trail) (from_trail b trail) (beyond b l k)
+neighbour_from_trail b k i trail (fork hashes kids) =
     let p : Pass = record { turn = bit i k; hashes = hashes; kids = kids } in
-    neighbour-from-trail b k (suc i) (p ∷ trail) (kids (bit i k))
-    ∙ at-node (stepUp p) (step b (hashes (not b))) (map stepUp trail) (neighbourBelow b k (suc i) (kids (bit i k)))
-    (descend (not b) (kids b)) (fromTrail b trail) (turnsAway b p)
-    ∙ ap (λ x. orElse (soughtBelow (map stepUp trail) x) (fromTrail b trail))
-    (sym (neighbour-from-trail b k (suc i) (p ∷ []) (kids (bit i k))))
+    neighbour_from_trail b k (suc i) (p ∷ trail) (kids (bit i k))
+    ∙ at_node_lem (step_up p) (step b (hashes (not b))) (map step_up trail) (neighbour_below b k (suc i) (kids (bit i k)))
+    (descend (not b) (kids b)) (from_trail b trail) (turns_away b p)
+    ∙ ap (λ x. or_else (sought_below (map step_up trail) x) (from_trail b trail))
+    (sym (neighbour_from_trail b k (suc i) (p ∷ []) (kids (bit i k))))
 
-module _ (leafHash innerHash : Bytes → Bytes → Bytes) where
+module _ (leaf_hash inner_hash : Bytes → Bytes → Bytes) where
   -- at an inner node the walk does not turn away from its own side
-  pub no-turn : (b : Side) (l r : Tree) → fromTrail b (passing leafHash innerHash b l r ∷ []) ≡ nobody
-  unfolding turnsAway
-  no-turn false l r = refl
-  no-turn true l r = refl
+  pub no_turn : (b : Side) (l r : Tree) → from_trail b (passing leaf_hash inner_hash b l r ∷ []) ≡ nobody
+  unfolding turns_away
+  no_turn false l r = refl
+  no_turn true l r = refl
 
   -- it turns away from the other, if there is a child
-  pub turn : (b : Side) (l r : Tree) (there : Bool) → occupied (onSide l r (not b)) ≡ there →
-      fromTrail (not b) (passing leafHash innerHash b l r ∷ [])
-      ≡ cond there (sought (raisedBy (step (not b) (hash leafHash innerHash (onSide l r b)) ∷ [])
-      (descend b (viewed leafHash innerHash (onSide l r (not b)))))) nobody
-  unfolding turnsAway
-  turn false l r there e = rw (gap-or-node leafHash innerHash r, e, not-not there)
-  turn true l r there e = rw (gap-or-node leafHash innerHash l, e, not-not there)
+  pub turn : (b : Side) (l r : Tree) (there : Bool) → occupied (on_side l r (not b)) ≡ there →
+      from_trail (not b) (passing leaf_hash inner_hash b l r ∷ [])
+      ≡ cond there (sought (raised_by (step (not b) (hash leaf_hash inner_hash (on_side l r b)) ∷ [])
+      (descend b (viewed leaf_hash inner_hash (on_side l r (not b)))))) nobody
+  unfolding turns_away
+  turn false l r there e = rw (gap_or_node leaf_hash inner_hash r, e, not_not there)
+  turn true l r there e = rw (gap_or_node leaf_hash inner_hash l, e, not_not there)

@@ -1,83 +1,83 @@
 -- For a seated tree that has a node, and any key, the prover gives a proof, and the checker's answer to it against the tree's hash is what the tree's grants
 -- say of the key: a walk that ends at the key has a trail that leads up, and any other has neighbours that hold. Assumes nothing.
-use mathlib.Core.Path.{_≡_, refl, sym, _∙_, subst}
+use mathlib.Core.Path.{◌≡◌, refl, sym, ◌∙◌, subst}
 use mathlib.Core.Bool.{Bool, true, false, cond, true≢false}
 use mathlib.Core.List.{List, [], map}
 use mathlib.Core.Option.{none, some}
-use Rattle·terms.specs.Bits.{Bytes, Whole32, Side, left, right, sameBytes}
-use Rattle·terms.specs.Records.{Presence, Proof, presence}
-use Rattle·terms.proofs.Tests.{bytes-same}
-use Rattle·meaning.specs.Tree.{Tree, grants, hash}
-use Rattle·meaning.specs.Calls.{Answer, accepted}
-use Rattle·meaning.specs.Reading.{Pass, End, walkStopped, atLeaf, atGap, walk, readEnd, Verdict, present, absent, answerOf}
-use Rattle·meaning.specs.Proving.{presenceOf, absenceOf, stepUp, Sought, neighbour, absenceFrom, absenceAt, proveEnd, proveSeen}
-use Rattle·meaning.specs.Checking.{leadsTo, neighbourHolds, checked}
-use Rattle·shown·proofs.proofs.Views.{occupied, Seated, viewed}
-use Rattle·shown·proofs.proofs.Walks.{start, walk-answers, Climbs, walk-climbs}
-use Rattle·shown·proofs.proofs.Verdicts.{accepted-same}
-use Rattle·shown·proofs.proofs.Flanks.{Flank, Flanked, neither, only, both, flanked}
+use Rattle.terms.specs.Bits.{Bytes, Whole32, Side, left, right, same_bytes}
+use Rattle.terms.specs.Records.{Presence, Proof, presence}
+use Rattle.terms.proofs.Tests.{bytes_same}
+use Rattle.meaning.specs.Tree.{Tree, grants, hash}
+use Rattle.meaning.specs.Calls.{Answer, accepted}
+use Rattle.meaning.specs.Reading.{Pass, End, walk_stopped, at_leaf, at_gap, walk, read_end, Verdict, present, absent, answer_of}
+use Rattle.meaning.specs.Proving.{presence_of, absence_of, step_up, Sought, neighbour, absence_from, absence_at, prove_end, prove_seen}
+use Rattle.meaning.specs.Checking.{leads_to, neighbour_holds, checked}
+use Rattle.shown.proofs.Views.{occupied, Seated, viewed}
+use Rattle.shown.proofs.Walks.{start, walk_answers, Climbs, walk_climbs}
+use Rattle.shown.proofs.Verdicts.{accepted_same}
+use Rattle.shown.proofs.Flanks.{Flank, Flanked, neither, only, both, flanked}
 
-module _ (leafHash innerHash : Bytes → Bytes → Bytes) where
+module _ (leaf_hash inner_hash : Bytes → Bytes → Bytes) where
   -- What is given is a proof, and the checker's answer to it is the verdict.
   abbrev pub Shows : Bytes → Bytes → Verdict → Answer Proof → Type 0
-  Shows root k verdict given = (p : Proof) × (given ≡ accepted p) × (checked leafHash innerHash root k p ≡ accepted verdict)
+  Shows root k verdict given = (p : Proof) × (given ≡ accepted p) × (checked leaf_hash inner_hash root k p ≡ accepted verdict)
 
-  flank-holds : (b : Side) (h k : Bytes) (p : Presence) → Flank leafHash innerHash b h k p →
-      neighbourHolds leafHash innerHash b h k p ≡ true
-  unfolding neighbourHolds leadsTo
-  flank-holds b h k p w = rw (w .leads, bytes-same h, w .order)
+  flank_holds : (b : Side) (h k : Bytes) (p : Presence) → Flank leaf_hash inner_hash b h k p →
+      neighbour_holds leaf_hash inner_hash b h k p ≡ true
+  unfolding neighbour_holds leads_to
+  flank_holds b h k p w = rw (w.leads, bytes_same h, w.order)
 
   -- neighbours that flank the key make a proof of absence; where there is a node, there is one
-  absence-shown : (h k : Bytes) (there : Bool) (found : Side → Sought) → there ≡ true →
-      Flanked leafHash innerHash h k there found →
-      Shows h k absent (absenceFrom k (found left) (found right))
-  absence-shown h k there found z (neither e f) = absurd (true≢false (sym z ∙ e))
-  absence-shown h k there found z (only false p f g w o) =
-      (absenceOf k (some p) none, rw (f, g), rw (bytes-same k, flank-holds left h k p w, o))
-  absence-shown h k there found z (only true p f g w o) =
-      (absenceOf k none (some p), rw (f, g), rw (bytes-same k, flank-holds right h k p w, o))
-  absence-shown h k there found z (both false p q f g w w′ o) =
-      (absenceOf k (some p) (some q), rw (f, g), rw (bytes-same k, flank-holds left h k p w, flank-holds right h k q w′, o))
-  absence-shown h k there found z (both true p q f g w w′ o) =
-      (absenceOf k (some q) (some p), rw (f, g), rw (bytes-same k, flank-holds left h k q w′, flank-holds right h k p w, o))
+  absence_shown : (h k : Bytes) (there : Bool) (found : Side → Sought) → there ≡ true →
+      Flanked leaf_hash inner_hash h k there found →
+      Shows h k absent (absence_from k (found left) (found right))
+  absence_shown h k there found z (neither e f) = absurd (true≢false (sym z ∙ e))
+  absence_shown h k there found z (only false p f g w o) =
+      (absence_of k (some p) none, rw (f, g), rw (bytes_same k, flank_holds left h k p w, o))
+  absence_shown h k there found z (only true p f g w o) =
+      (absence_of k none (some p), rw (f, g), rw (bytes_same k, flank_holds right h k p w, o))
+  absence_shown h k there found z (both false p q f g w w' o) =
+      (absence_of k (some p) (some q), rw (f, g), rw (bytes_same k, flank_holds left h k p w, flank_holds right h k q w', o))
+  absence_shown h k there found z (both true p q f g w w' o) =
+      (absence_of k (some q) (some p), rw (f, g), rw (bytes_same k, flank_holds left h k q w', flank_holds right h k p w, o))
 
   module _ (k : Bytes) (t : Tree) (w : Whole32 k) (s : Seated [] t) (there : occupied t ≡ true) where
     abbrev root : Bytes
-    root = hash leafHash innerHash t
+    root = hash leaf_hash inner_hash t
 
     -- the walk for k has come to the end e
     abbrev Came : End → Type 0
-    Came e = walk k 0 [] (viewed leafHash innerHash t) ≡ e
+    Came e = walk k 0 [] (viewed leaf_hash inner_hash t) ≡ e
 
-    end-answers : (e : End) → Came e → readEnd k e ≡ accepted (answerOf k (grants t))
-    end-answers e came = rw came at (walk-answers leafHash innerHash k 0 [] t [] (start k w) s)
+    end_answers : (e : End) → Came e → read_end k e ≡ accepted (answer_of k (grants t))
+    end_answers e came = rw came at (walk_answers leaf_hash inner_hash k 0 [] t [] (start k w) s)
 
-    end-climbs : (e : End) → Came e → Climbs leafHash innerHash root [] e
-    end-climbs e came = rw came at (walk-climbs leafHash innerHash k 0 [] t)
+    end_climbs : (e : End) → Came e → Climbs leaf_hash inner_hash root [] e
+    end_climbs e came = rw came at (walk_climbs leaf_hash inner_hash k 0 [] t)
 
-    shown-absent : (e : End) → Came e → answerOf k (grants t) ≡ absent → Shows root k (answerOf k (grants t)) (absenceAt k e)
-    unfolding absenceAt
-    shown-absent e came a =
+    shown_absent : (e : End) → Came e → answer_of k (grants t) ≡ absent → Shows root k (answer_of k (grants t)) (absence_at k e)
+    unfolding absence_at
+    shown_absent e came a =
         rw a
-        (absence-shown root k (occupied t) (λ b. neighbour b k e) there
-        (subst (λ x. Flanked leafHash innerHash root k (occupied t) (λ b. neighbour b k x)) came
-        (flanked leafHash innerHash k 0 [] t (start k w) s a)))
+        (absence_shown root k (occupied t) (λ b. neighbour b k e) there
+        (subst (λ x. Flanked leaf_hash inner_hash root k (occupied t) (λ b. neighbour b k x)) came
+        (flanked leaf_hash inner_hash k 0 [] t (start k w) s a)))
 
-    shown-leaf : (l x : Bytes) (trail : List Pass) → Came (atLeaf l x trail) → (same : Bool) → sameBytes k l ≡ same →
-        Shows root k (answerOf k (grants t))
-        (cond same (accepted (presence (presenceOf l x (map stepUp trail)))) (absenceAt k (atLeaf l x trail)))
-    unfolding leadsTo
-    shown-leaf l x trail came true e =
-        let says : accepted (present x) ≡ accepted (answerOf k (grants t)) = rw e at (end-answers (atLeaf l x trail) came) in
-        (presence (presenceOf l x (map stepUp trail)), refl, rw (e, end-climbs (atLeaf l x trail) came, bytes-same root) says)
-    shown-leaf l x trail came false e =
-        shown-absent (atLeaf l x trail) came (sym (accepted-same _ _ (rw e at (end-answers (atLeaf l x trail) came))))
+    shown_leaf : (l x : Bytes) (trail : List Pass) → Came (at_leaf l x trail) → (same : Bool) → same_bytes k l ≡ same →
+        Shows root k (answer_of k (grants t))
+        (cond same (accepted (presence (presence_of l x (map step_up trail)))) (absence_at k (at_leaf l x trail)))
+    unfolding leads_to
+    shown_leaf l x trail came true e =
+        let says : accepted (present x) ≡ accepted (answer_of k (grants t)) = rw e at (end_answers (at_leaf l x trail) came) in
+        (presence (presence_of l x (map step_up trail)), refl, rw (e, end_climbs (at_leaf l x trail) came, bytes_same root) says)
+    shown_leaf l x trail came false e =
+        shown_absent (at_leaf l x trail) came (sym (accepted_same _ _ (rw e at (end_answers (at_leaf l x trail) came))))
 
-    shown-end : (e : End) → Came e → Shows root k (answerOf k (grants t)) (proveEnd k e)
-    shown-end (walkStopped t) came = absurd (end-climbs (walkStopped t) came)
-    shown-end (atLeaf l x trail) came = shown-leaf l x trail came _ refl
-    shown-end (atGap trail) came = shown-absent (atGap trail) came (sym (accepted-same _ _ (end-answers (atGap trail) came)))
+    shown_end : (e : End) → Came e → Shows root k (answer_of k (grants t)) (prove_end k e)
+    shown_end (walk_stopped t) came = absurd (end_climbs (walk_stopped t) came)
+    shown_end (at_leaf l x trail) came = shown_leaf l x trail came _ refl
+    shown_end (at_gap trail) came = shown_absent (at_gap trail) came (sym (accepted_same _ _ (end_answers (at_gap trail) came)))
 
-    pub tree-shown : Shows root k (answerOf k (grants t)) (proveSeen k (viewed leafHash innerHash t))
-    unfolding proveSeen
-    tree-shown = shown-end (walk k 0 [] (viewed leafHash innerHash t)) refl
+    pub tree_shown : Shows root k (answer_of k (grants t)) (prove_seen k (viewed leaf_hash inner_hash t))
+    unfolding prove_seen
+    tree_shown = shown_end (walk k 0 [] (viewed leaf_hash inner_hash t)) refl

@@ -1,30 +1,26 @@
 // What finding a node in lent memory tells apart, document 02, 2026-07: a match, nothing, or a spoilt slot whose fields agree.
+#![tactic(auto)]
+
+ghost use Rattle.std.specs.Prelude.{◌≡◌, true, length};
+ghost use Rattle.meaning.specs.Sight.{agrees, agrees_root, root_sight, node_sight};
+ghost use Rattle.place.specs.Place.{place_of, Proper};
+ghost use Rattle.layout.specs.Sizes.{slot_size};
+ghost use Rattle.layout.specs.Headers.{size_right};
+ghost use Rattle.layout.specs.Slots.{slot_of};
+ghost use Rattle.layout.specs.Stores.{store_of, slot_no, Has};
+ghost use Rattle.sights.specs.Sights.{spoilt_by, is_spoilt, SpoiltIn, Sighted};
+
 use agree::agrees;
 use fields::all_zero;
 use lifetime::covers;
-use lookup::Found;
-use lookup::find;
-use lookup::holds_record;
+use lookup::{Found, find, holds_record};
 use lookup_root::find_root;
 use place::Place;
 use slots::bits_of;
-use store::count_at;
-use store::retired_at;
-use store::slot_count;
-use store::slot_of;
-use store::version_at;
+use store::{count_at, retired_at, slot_count, slot_of, version_at};
 use terms::Form;
-ghost use mathlib.Core.Path.{_≡_};
-ghost use mathlib.Core.Bool.{true};
-ghost use lib.ListN.{length};
-ghost use Rattle·meaning.specs.Sight.{agrees, agreesRoot, rootSight, nodeSight};
-ghost use Rattle·place.specs.Place.{placeOf, Proper};
-ghost use Rattle·layout.specs.Sizes.{slotSize};
-ghost use Rattle·layout.specs.Headers.{sizeRight};
-ghost use Rattle·layout.specs.Slots.{slotOf};
-ghost use Rattle·layout.specs.Stores.{storeOf, slotNo, Has};
-ghost use Rattle·sights·specs.specs.Sights.{spoiltBy, isSpoilt, SpoiltIn, Sighted};
 
+#[derive(Clone, Copy)]
 pub enum Sight {
     // The lowest slot in form that matches.
     Matches(usize),
@@ -35,8 +31,8 @@ pub enum Sight {
 
 // Whether a slot's bytes are neither free nor a record in form.
 fn is_spoilt(s: &[u8]) -> bool
-    requires { ⌜ length (now s) ≡ slotSize Form.Counted ⌝ }
-    ensures { λ r. ⌜ r ≡ isSpoilt (slotOf (now (s .entry))) ⌝ }
+    requires { length s.now ≡ slot_size Form.Counted }
+    ensures { result ≡ is_spoilt (slot_of s.now) }
 {
     if holds_record(s) {
         return false;
@@ -46,8 +42,8 @@ fn is_spoilt(s: &[u8]) -> bool
 
 // Whether slot i is spoilt and its fields agree with the node (version, place).
 fn node_spoilt(store: &[u8], i: usize, version: u32, place: Place) -> bool
-    requires { ⌜ Has Form.Counted (now store) i × Proper place ⌝ }
-    ensures { λ r. ⌜ r ≡ spoiltBy (agrees version (placeOf place)) (slotNo Form.Counted i (now (store .entry))) ⌝ }
+    requires { Has Form.Counted store.now i × Proper place }
+    ensures { result ≡ spoilt_by (agrees version (place_of place)) (slot_no Form.Counted i store.now) }
 {
     if !agrees(Form::Counted, store, i, version, place) {
         return false;
@@ -57,8 +53,8 @@ fn node_spoilt(store: &[u8], i: usize, version: u32, place: Place) -> bool
 
 // The lowest spoilt slot that agrees with a version and place.
 fn find_spoilt(store: &[u8], version: u32, place: Place) -> Found
-    requires { ⌜ (sizeRight Form.Counted (length (now store)) ≡ true) × Proper place ⌝ }
-    ensures { λ r. ⌜ SpoiltIn (agrees version (placeOf place)) (storeOf (now (store .entry)) .slots) r ⌝ }
+    requires { (size_right Form.Counted (length store.now) ≡ true) × Proper place }
+    ensures { SpoiltIn (agrees version (place_of place)) (store_of store.now).slots result }
 {
     let n = slot_count(Form::Counted, store);
     let mut i = 0;
@@ -73,8 +69,8 @@ fn find_spoilt(store: &[u8], version: u32, place: Place) -> Found
 
 // What is found of a version and place.
 pub fn look(store: &[u8], version: u32, place: Place) -> Sight
-    requires { ⌜ (sizeRight Form.Counted (length (now store)) ≡ true) × Proper place ⌝ }
-    ensures { λ r. ⌜ Sighted (storeOf (now (store .entry)) .slots) (nodeSight (storeOf (now (store .entry))) version (placeOf place)) r ⌝ }
+    requires { (size_right Form.Counted (length store.now) ≡ true) × Proper place }
+    ensures { Sighted (store_of store.now).slots (node_sight (store_of store.now) version (place_of place)) result }
 {
     let found = find(Form::Counted, store, version, place);
     if let Found::At(i) = found {
@@ -89,8 +85,8 @@ pub fn look(store: &[u8], version: u32, place: Place) -> Sight
 
 // Whether slot i is spoilt and agrees with a root by empty place and a lifetime that covers a version: the cheap fields first.
 fn root_spoilt(store: &[u8], i: usize, version: u32) -> bool
-    requires { ⌜ Has Form.Counted (now store) i ⌝ }
-    ensures { λ r. ⌜ r ≡ spoiltBy (agreesRoot version) (slotNo Form.Counted i (now (store .entry))) ⌝ }
+    requires { Has Form.Counted store.now i }
+    ensures { result ≡ spoilt_by (agrees_root version) (slot_no Form.Counted i store.now) }
 {
     if count_at(Form::Counted, store, i) != 0 {
         return false;
@@ -111,8 +107,8 @@ fn root_spoilt(store: &[u8], i: usize, version: u32) -> bool
 
 // The lowest spoilt slot that agrees with a root for a version.
 fn find_spoilt_root(store: &[u8], version: u32) -> Found
-    requires { ⌜ sizeRight Form.Counted (length (now store)) ≡ true ⌝ }
-    ensures { λ r. ⌜ SpoiltIn (agreesRoot version) (storeOf (now (store .entry)) .slots) r ⌝ }
+    requires { size_right Form.Counted (length store.now) ≡ true }
+    ensures { SpoiltIn (agrees_root version) (store_of store.now).slots result }
 {
     let n = slot_count(Form::Counted, store);
     let mut j = 0;
@@ -127,8 +123,8 @@ fn find_spoilt_root(store: &[u8], version: u32) -> Found
 
 // What is found of the root of a version.
 pub fn look_root(store: &[u8], version: u32) -> Sight
-    requires { ⌜ sizeRight Form.Counted (length (now store)) ≡ true ⌝ }
-    ensures { λ r. ⌜ Sighted (storeOf (now (store .entry)) .slots) (rootSight (storeOf (now (store .entry))) version) r ⌝ }
+    requires { size_right Form.Counted (length store.now) ≡ true }
+    ensures { Sighted (store_of store.now).slots (root_sight (store_of store.now) version) result }
 {
     let found = find_root(Form::Counted, store, version);
     if let Found::At(i) = found {

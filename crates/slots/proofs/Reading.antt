@@ -1,62 +1,62 @@
 -- A slot that was read says what its bytes are: by the tests of its bytes, case by case. Assumes nothing.
-use Prim.Native.Nat.{_≤_}
+use Prim.Native.Nat.{◌≤◌}
 use native.Mathlib.Omega.{arith}
-use mathlib.Core.Path.{_≡_, ap, ap₂, _∙_}
+use mathlib.Core.Path.{◌≡◌, ap, ap₂, ◌∙◌}
 use mathlib.Core.Bool.{true, false}
 use lib.ListN.{drop}
 use borrow.Author.Tests.{leb-true}
-use Rattle·terms.specs.Bits.{Bytes, bits, noneSet}
-use Rattle·terms.specs.Fields.{slice, allZero}
-use Rattle·terms.specs.Records.{Body, innerBody, used}
-use Rattle·terms.specs.Form.{placeLimit}
-use Rattle·terms.proofs.Fields.{all-of-tests}
-use Rattle·layout.specs.Slots.{countIn, leafIn, childIn, innerIn, recordIn, headRight, isLeaf, isInner, slotOf}
-use Rattle·slots·specs.specs.declared.Child as declared-child
-use Rattle·slots·specs.specs.declared.Kind.the-variants.{Free, Leaf, Inner, Spoiled}
-use Rattle·slots·specs.specs.declared.Slot as declared
-use Rattle·slots·specs.specs.Answer.{childSays, kindSays, slotSays, Made, Held, Read}
+use Rattle.terms.specs.Bits.{Bytes, bits, none_set}
+use Rattle.terms.specs.Fields.{slice, all_zero}
+use Rattle.terms.specs.Records.{Body, inner_body, used}
+use Rattle.terms.specs.Form.{place_limit}
+use Rattle.terms.proofs.Fields.{all_of_tests}
+use Rattle.layout.specs.Slots.{count_in, leaf_in, child_in, inner_in, record_in, head_right, is_leaf, is_inner, slot_of}
+use Rattle.slots.specs.declared.Child as declared-child
+use Rattle.slots.specs.declared.Kind.TheVariants.{Free, Leaf, Inner, Spoiled}
+use Rattle.slots.specs.declared.Slot as declared
+use Rattle.slots.specs.Answer.{child_says, kind_says, slot_says, Made, Held, Read}
 
 -- the bit count of a record in form, and its unused bits
 abbrev HeadSays : Bytes → Type 0
-HeadSays x = (countIn x ≤ 256) × (noneSet (drop (countIn x) (bits (slice 8 32 x))) ≡ true)
+HeadSays x = (count_in x ≤ 256) × (none_set (drop (count_in x) (bits (slice 8 32 x))) ≡ true)
 
-head-says : (b : Body) (x : Bytes) → placeLimit b ≤ 256 → headRight b x ≡ true → HeadSays x
-unfolding headRight
-head-says b x l e =
-    let t = all-of-tests _ e in
-    let c = leb-true (countIn x) (placeLimit b) (t .1 .1 .0) in
-    (omega arith, t .1 .1 .1 .0)
+head_says : (b : Body) (x : Bytes) → place_limit b ≤ 256 → head_right b x ≡ true → HeadSays x
+unfolding head_right
+head_says b x l e =
+    let t = all_of_tests _ e in
+    let c = leb-true (count_in x) (place_limit b) t.1.1.0 in
+    (omega arith, t.1.1.1.0)
 
-pub leaf-head : (x : Bytes) → isLeaf x ≡ true → HeadSays x
-unfolding isLeaf leafIn
-leaf-head x e = head-says (leafIn x) x (omega arith) (all-of-tests _ e .0)
+pub leaf_head : (x : Bytes) → is_leaf x ≡ true → HeadSays x
+unfolding is_leaf leaf_in
+leaf_head x e = head_says (leaf_in x) x (omega arith) (all_of_tests _ e).0
 
-pub inner-head : (x : Bytes) → isInner x ≡ true → HeadSays x
-unfolding isInner innerIn
-inner-head x e = head-says (innerIn x) x (omega arith) (all-of-tests _ e .0)
+pub inner_head_lem : (x : Bytes) → is_inner x ≡ true → HeadSays x
+unfolding is_inner inner_in
+inner_head_lem x e = head_says (inner_in x) x (omega arith) (all_of_tests _ e).0
 
 module _ {x : Bytes} {r : declared.Slot} where
-  pub read-free : Made Free r → allZero x ≡ true → Read x r
-  unfolding slotSays kindSays slotOf
-  read-free m e = record { says = rw (m .kind, e); proper = m .proper }
+  pub read_free : Made Free r → all_zero x ≡ true → Read x r
+  unfolding slot_says kind_says slot_of
+  read_free m e = record { says = rw (m.kind, e); proper = m.proper }
 
-  pub read-spoiled : Made Spoiled r → allZero x ≡ false → isLeaf x ≡ false → isInner x ≡ false → Read x r
-  unfolding slotSays kindSays slotOf
-  read-spoiled m e f g = record { says = rw (m .kind, e, f, g); proper = m .proper }
+  pub read_spoiled : Made Spoiled r → all_zero x ≡ false → is_leaf x ≡ false → is_inner x ≡ false → Read x r
+  unfolding slot_says kind_says slot_of
+  read_spoiled m e f g = record { says = rw (m.kind, e, f, g); proper = m.proper }
 
-  pub read-leaf : Held Leaf x r → allZero x ≡ false → isLeaf x ≡ true → Read x r
-  unfolding slotSays kindSays slotOf
-  read-leaf h e f =
-      let s : used (recordIn x (leafIn x)) ≡ slotOf x = rw (e, f) in
-      record { says = ap (λ k. kindSays k r x) (h .made .kind) ∙ ap used (h .says (leafIn x)) ∙ s; proper = h .made .proper }
+  pub read_leaf : Held Leaf x r → all_zero x ≡ false → is_leaf x ≡ true → Read x r
+  unfolding slot_says kind_says slot_of
+  read_leaf h e f =
+      let s : used (record_in x (leaf_in x)) ≡ slot_of x = rw (e, f) in
+      record { says = ap (λ k. kind_says k r x) h.made.kind ∙ ap used (h.says (leaf_in x)) ∙ s; proper = h.made.proper }
 
-  pub read-inner : {a b : declared-child.Child} → Held (Inner a b) x r → childSays a ≡ childIn 48 x → childSays b ≡ childIn 84 x →
-      allZero x ≡ false → isLeaf x ≡ false → isInner x ≡ true → Read x r
-  unfolding slotSays kindSays slotOf innerIn
-  read-inner {a} {b} h k l e f g =
-      let b′ : innerBody (childSays a) (childSays b) ≡ innerIn x = ap₂ innerBody k l in
-      let s : used (recordIn x (innerIn x)) ≡ slotOf x = rw (e, f, g) in
+  pub read_inner : {a b : declared-child.Child} → Held (Inner a b) x r → child_says a ≡ child_in 48 x → child_says b ≡ child_in 84 x →
+      all_zero x ≡ false → is_leaf x ≡ false → is_inner x ≡ true → Read x r
+  unfolding slot_says kind_says slot_of inner_in
+  read_inner {a} {b} h k l e f g =
+      let b' : inner_body (child_says a) (child_says b) ≡ inner_in x = ap₂ inner_body k l in
+      let s : used (record_in x (inner_in x)) ≡ slot_of x = rw (e, f, g) in
       record {
-        says = ap (λ k. kindSays k r x) (h .made .kind) ∙ ap used (h .says (innerBody (childSays a) (childSays b)) ∙ ap (recordIn x) b′) ∙ s;
-        proper = h .made .proper;
+        says = ap (λ k. kind_says k r x) h.made.kind ∙ ap used (h.says (inner_body (child_says a) (child_says b)) ∙ ap (record_in x) b') ∙ s;
+        proper = h.made.proper;
       }

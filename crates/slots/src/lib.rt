@@ -1,30 +1,27 @@
 // Slots in lent memory, document 01, 'Bytes', and the counted form of 2026-09: reading the bytes of any slot, and their parts. How many they
 // are, 120 or 128, tells the form.
-use fields::all_zero;
-use fields::get_u16;
-use fields::get_u32;
-use hash::Hash;
-use hash::hash_at;
+#![tactic(auto)]
+
+ghost use Rattle.std.specs.Prelude.{◌≡◌, true, ◌+◌, ◌≤◌, length, drop};
+ghost use Rattle.terms.specs.Bits.{bits, none_set};
+ghost use Rattle.layout.specs.Sizes.{grant_size, child_size};
+ghost use Rattle.layout.specs.Slots.{bits_in, count_in, key_in, value_inside, grant_in, child_in, kid_on, SlotLong};
+ghost use Rattle.slots.specs.Answer.{child_says, Made, Held, Read};
+
+use fields::{all_zero, get_u16, get_u32};
+use hash::{Hash, hash_at};
 use layout::sizes;
-use place::Place;
-use place::place_at;
-use slots_form::is_inner;
-use slots_form::is_leaf;
-ghost use mathlib.Core.Path.{_≡_};
-ghost use mathlib.Core.Bool.{true};
-ghost use Prim.Native.Nat.{_+_, _≤_};
-ghost use lib.ListN.{length, drop};
-ghost use Rattle·terms.specs.Bits.{bits, noneSet};
-ghost use Rattle·layout.specs.Sizes.{grantSize, childSize};
-ghost use Rattle·layout.specs.Slots.{bitsIn, countIn, keyIn, valueIn, grantIn, childIn, kidOn, SlotLong};
-ghost use Rattle·slots·specs.specs.Answer.{childSays, Made, Held, Read};
+use place::{Place, place_at};
+use slots_form::{is_inner, is_leaf};
 
 // What an inner record says of a child; version 0: there is no child.
+#[derive(Clone, Copy)]
 pub struct Child {
     pub version: u32,
     pub hash: Hash,
 }
 
+#[derive(Clone, Copy)]
 pub enum Kind {
     Free,
     // Its key and value stay in the slot's bytes.
@@ -34,6 +31,7 @@ pub enum Kind {
 }
 
 // What the bytes of a slot hold; of a free or spoiled slot the kind is all that counts.
+#[derive(Clone, Copy)]
 pub struct Slot {
     pub kind: Kind,
     pub place: Place,
@@ -42,8 +40,8 @@ pub struct Slot {
 }
 
 fn child_at(s: &[u8], at: usize) -> Child
-    requires { ⌜ at + childSize ≤ length (now s) ⌝ }
-    ensures { λ r. ⌜ childSays r ≡ childIn at (now (s .entry)) ⌝ }
+    requires { at + child_size ≤ length s.now }
+    ensures { child_says result ≡ child_in at s.now }
 {
     let version = get_u32(s, at);
     let hash = hash_at(s, at + 4);
@@ -52,7 +50,7 @@ fn child_at(s: &[u8], at: usize) -> Child
 
 // A slot of a kind that says nothing else.
 fn bare(kind: Kind) -> Slot
-    ensures { λ r. ⌜ Made kind r ⌝ }
+    ensures { Made kind result }
 {
     let place = Place::top();
     Slot {
@@ -65,8 +63,8 @@ fn bare(kind: Kind) -> Slot
 
 // A slot of a kind with place, version and retired-since as the bytes have them.
 fn held(s: &[u8], kind: Kind) -> Slot
-    requires { ⌜ SlotLong (now s) × (countIn (now s) ≤ 256) × (noneSet (drop (countIn (now s)) (bits (bitsIn (now s)))) ≡ true) ⌝ }
-    ensures { λ r. ⌜ Held kind (now (s .entry)) r ⌝ }
+    requires { SlotLong s.now × (count_in s.now ≤ 256) × (none_set (drop (count_in s.now) (bits (bits_in s.now))) ≡ true) }
+    ensures { Held kind s.now result }
 {
     let count = get_u16(s, sizes::COUNT_AT);
     let place = place_at(&s[sizes::BITS_AT..sizes::VERSION_AT], count as usize);
@@ -82,8 +80,8 @@ fn held(s: &[u8], kind: Kind) -> Slot
 
 // Reads the bytes of a slot.
 pub fn read_slot(s: &[u8]) -> Slot
-    requires { ⌜ SlotLong (now s) ⌝ }
-    ensures { λ r. ⌜ Read (now (s .entry)) r ⌝ }
+    requires { SlotLong s.now }
+    ensures { Read s.now result }
 {
     if all_zero(s) {
         return bare(Kind::Free);
@@ -101,40 +99,40 @@ pub fn read_slot(s: &[u8]) -> Slot
 
 // The grant of a leaf, in the slot's own bytes: key and value.
 pub fn grant_of(s: &[u8]) -> &[u8]
-    requires { ⌜ SlotLong (now s) ⌝ }
-    ensures { λ r. ⌜ (now r ≡ grantIn (now (s .entry))) × (length (now r) ≡ grantSize) ⌝ }
+    requires { SlotLong s.now }
+    ensures { (result.now ≡ grant_in s.now) × (length result.now ≡ grant_size) }
 {
     &s[sizes::KEY_AT..sizes::TAIL_AT]
 }
 
 // Its key alone.
 pub fn key_of(s: &[u8]) -> &[u8]
-    requires { ⌜ SlotLong (now s) ⌝ }
-    ensures { λ r. ⌜ (now r ≡ keyIn (now (s .entry))) × (length (now r) ≡ 32) ⌝ }
+    requires { SlotLong s.now }
+    ensures { (result.now ≡ key_in s.now) × (length result.now ≡ 32) }
 {
     &s[sizes::KEY_AT..sizes::VALUE_AT]
 }
 
 // Its value alone.
 pub fn value_of(s: &[u8]) -> &[u8]
-    requires { ⌜ SlotLong (now s) ⌝ }
-    ensures { λ r. ⌜ (now r ≡ valueIn (now (s .entry))) × (length (now r) ≡ 32) ⌝ }
+    requires { SlotLong s.now }
+    ensures { (result.now ≡ value_inside s.now) × (length result.now ≡ 32) }
 {
     &s[sizes::VALUE_AT..sizes::TAIL_AT]
 }
 
 // The bits of a record's place, in 32 bytes.
 pub fn bits_of(s: &[u8]) -> &[u8]
-    requires { ⌜ SlotLong (now s) ⌝ }
-    ensures { λ r. ⌜ (now r ≡ bitsIn (now (s .entry))) × (length (now r) ≡ 32) ⌝ }
+    requires { SlotLong s.now }
+    ensures { (result.now ≡ bits_in s.now) × (length result.now ≡ 32) }
 {
     &s[sizes::BITS_AT..sizes::VERSION_AT]
 }
 
 // The hash that an inner record has of its left or right child.
 pub fn child_hash(s: &[u8], right: bool) -> &[u8]
-    requires { ⌜ SlotLong (now s) ⌝ }
-    ensures { λ r. ⌜ (now r ≡ kidOn right (now (s .entry)) .hash) × (length (now r) ≡ 32) ⌝ }
+    requires { SlotLong s.now }
+    ensures { (result.now ≡ (kid_on right s.now).hash) × (length result.now ≡ 32) }
 {
     if right {
         return &s[sizes::RIGHT_HASH_AT..sizes::PLAIN_SIZE];

@@ -1,21 +1,20 @@
 // Whether the bytes of a slot are a record in form, document 01, 'Bytes', and the counted form of 2026-09. How many they are, 120 or 128, tells the
 // form. A leaf and an inner record share their head.
-use fields::all_zero;
-use fields::get_u16;
-use fields::get_u32;
+#![tactic(auto)]
+
+ghost use Rattle.std.specs.Prelude.{◌≡◌, ◌+◌, ◌≤◌, length};
+ghost use Rattle.terms.specs.Fields.{all_of};
+ghost use Rattle.layout.specs.Sizes.{inner_kind, child_size};
+ghost use Rattle.layout.specs.Slots.{child_in, head_tests, is_leaf, child_right, is_inner, SlotLong};
+
+use fields::{all_zero, get_u16, get_u32};
 use layout::sizes;
 use place::unused_zero;
-ghost use mathlib.Core.Path.{_≡_};
-ghost use Prim.Native.Nat.{_+_, _≤_};
-ghost use lib.ListN.{length};
-ghost use Rattle·terms.specs.Fields.{allOf};
-ghost use Rattle·layout.specs.Sizes.{innerKind, childSize};
-ghost use Rattle·layout.specs.Slots.{childIn, headTests, isLeaf, childRight, isInner, SlotLong};
 
 // Whether the head of a record is in form: its length and kind, a bit count up to a limit, unused bits zero, version at least 1.
 fn head_right(s: &[u8], len: u32, kind: u16, limit: u16) -> bool
-    requires { ⌜ SlotLong (now s) ⌝ }
-    ensures { λ r. ⌜ r ≡ allOf (headTests len kind limit (now (s .entry))) ⌝ }
+    requires { SlotLong s.now }
+    ensures { result ≡ all_of (head_tests len kind limit s.now) }
 {
     if get_u32(s, 0) != len {
         return false;
@@ -35,8 +34,8 @@ fn head_right(s: &[u8], len: u32, kind: u16, limit: u16) -> bool
 
 // Whether the bytes of a slot are a leaf in form.
 pub fn is_leaf(s: &[u8]) -> bool
-    requires { ⌜ SlotLong (now s) ⌝ }
-    ensures { λ r. ⌜ r ≡ isLeaf (now (s .entry)) ⌝ }
+    requires { SlotLong s.now }
+    ensures { result ≡ is_leaf s.now }
 {
     if !head_right(s, sizes::LEAF_LENGTH, sizes::LEAF_KIND, sizes::LEAF_BITS) {
         return false;
@@ -47,7 +46,7 @@ pub fn is_leaf(s: &[u8]) -> bool
 
 // The kind of an inner record in a slot of n bytes.
 pub fn inner_kind(n: usize) -> u16
-    ensures { λ r. ⌜ r ≡ innerKind n ⌝ }
+    ensures { result ≡ inner_kind n }
 {
     if n == sizes::PLAIN_SIZE {
         return sizes::PLAIN_INNER_KIND;
@@ -57,8 +56,8 @@ pub fn inner_kind(n: usize) -> u16
 
 // Whether a child that is missing has no hash.
 fn child_right(s: &[u8], at: usize) -> bool
-    requires { ⌜ at + childSize ≤ length (now s) ⌝ }
-    ensures { λ r. ⌜ r ≡ childRight (childIn at (now (s .entry))) ⌝ }
+    requires { at + child_size ≤ length s.now }
+    ensures { result ≡ child_right (child_in at s.now) }
 {
     if 1 <= get_u32(s, at) {
         return true;
@@ -70,8 +69,8 @@ fn child_right(s: &[u8], at: usize) -> bool
 
 // Whether they are an inner record in form.
 pub fn is_inner(s: &[u8]) -> bool
-    requires { ⌜ SlotLong (now s) ⌝ }
-    ensures { λ r. ⌜ r ≡ isInner (now (s .entry)) ⌝ }
+    requires { SlotLong s.now }
+    ensures { result ≡ is_inner s.now }
 {
     let size = s.len();
     let kind = inner_kind(size);

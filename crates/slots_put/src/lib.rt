@@ -1,30 +1,28 @@
 // Writing a slot in lent memory, document 01, 'Bytes', and the counted form of 2026-09: a leaf, an inner record, or free. A leaf and an inner
 // record share their head. How many bytes are lent, 120 or 128, tells the form.
-use fields::clear;
-use fields::copy;
-use fields::put_u16;
-use fields::put_u32;
+#![tactic(auto)]
+
+ghost use Rattle.std.specs.Prelude.{◌≡◌, ◌+◌, ◌≤◌, length};
+ghost use Rattle.terms.specs.declared.Form.{Form};
+ghost use Rattle.terms.specs.Fields.{flat};
+ghost use Rattle.terms.specs.Records.{used, free, inner_body, tally, no_tally};
+ghost use Rattle.fields.specs.Written.{written};
+ghost use Rattle.place.specs.Place.{place_of, Proper};
+ghost use Rattle.layout.specs.Sizes.{slot_size, grant_size, child_size};
+ghost use Rattle.layout.specs.Slots.{record_of, head_fields, child_fields, slot_bytes, SlotLong};
+ghost use Rattle.slots.specs.Answer.{child_says, grant_body};
+
+use fields::{clear, copy, put_u16, put_u32};
 use hash::put_hash;
 use layout::sizes;
 use place::Place;
 use slots::Child;
 use slots_form::inner_kind;
-ghost use mathlib.Core.Path.{_≡_};
-ghost use Prim.Native.Nat.{_+_, _≤_};
-ghost use lib.ListN.{length};
-ghost use Rattle·terms.specs.declared.Form.{Form};
-ghost use Rattle·terms.specs.Fields.{flat};
-ghost use Rattle·terms.specs.Records.{used, free, innerBody, tally, noTally};
-ghost use Rattle·fields.specs.Written.{written};
-ghost use Rattle·place.specs.Place.{placeOf, Proper};
-ghost use Rattle·layout.specs.Sizes.{slotSize, grantSize, childSize};
-ghost use Rattle·layout.specs.Slots.{recordOf, headFields, childFields, slotBytes, SlotLong};
-ghost use Rattle·slots.specs.Answer.{childSays, grantBody};
 
 // Writes the head of a record: length, kind, bit count, bits, version, retired-since.
 fn put_head(s: &mut [u8], len: u32, kind: u16, place: Place, version: u32, retired: u32)
-    requires { ⌜ SlotLong (now s) × Proper place ⌝ }
-    ensures { λ _. ⌜ now (s .exit) ≡ written 0 (flat (headFields len kind (placeOf place) version retired)) (now (s .entry)) ⌝ }
+    requires { SlotLong s.old × Proper place }
+    ensures { s.new ≡ written 0 (flat (head_fields len kind (place_of place) version retired)) s.old }
 {
     let count = place.count as u16;
     let bits = place.bits;
@@ -37,8 +35,8 @@ fn put_head(s: &mut [u8], len: u32, kind: u16, place: Place, version: u32, retir
 }
 
 fn put_child(s: &mut [u8], at: usize, c: Child)
-    requires { ⌜ at + childSize ≤ length (now s) ⌝ }
-    ensures { λ _. ⌜ now (s .exit) ≡ written at (flat (childFields (childSays c))) (now (s .entry)) ⌝ }
+    requires { at + child_size ≤ length s.old }
+    ensures { s.new ≡ written at (flat (child_fields (child_says c))) s.old }
 {
     let hash = at + 4;
     let end = hash + 32;
@@ -48,8 +46,8 @@ fn put_child(s: &mut [u8], at: usize, c: Child)
 
 // Writes a leaf over the bytes of a slot; the grant is key and value.
 pub fn put_leaf(s: &mut [u8], place: Place, version: u32, retired: u32, grant: &[u8])
-    requires { ⌜ SlotLong (now s) × Proper place × (length (now grant) ≡ grantSize) ⌝ }
-    ensures { λ _. ⌜ ((f : Form) → length (now (s .entry)) ≡ slotSize f → now (s .exit) ≡ slotBytes f (used (recordOf (placeOf place) version retired (grantBody (now (grant .entry))) noTally))) ⌝ }
+    requires { SlotLong s.old × Proper place × (length grant.now ≡ grant_size) }
+    ensures { (f : Form) → length s.old ≡ slot_size f → s.new ≡ slot_bytes f (used (record_of (place_of place) version retired (grant_body grant.now) no_tally)) }
 {
     let end = s.len();
     put_head(
@@ -75,8 +73,8 @@ pub fn put_inner(
     lefts: u32,
     rights: u32,
 )
-    requires { ⌜ SlotLong (now s) × Proper place ⌝ }
-    ensures { λ _. ⌜ ((f : Form) → length (now (s .entry)) ≡ slotSize f → now (s .exit) ≡ slotBytes f (used (recordOf (placeOf place) version retired (innerBody (childSays left) (childSays right)) (tally lefts rights)))) ⌝ }
+    requires { SlotLong s.old × Proper place }
+    ensures { (f : Form) → length s.old ≡ slot_size f → s.new ≡ slot_bytes f (used (record_of (place_of place) version retired (inner_body (child_says left) (child_says right)) (tally lefts rights))) }
 {
     let size = s.len();
     let kind = inner_kind(size);
@@ -92,8 +90,8 @@ pub fn put_inner(
 
 // Frees the bytes of a slot.
 pub fn clear_slot(s: &mut [u8])
-    requires { ⌜ SlotLong (now s) ⌝ }
-    ensures { λ _. ⌜ ((f : Form) → length (now (s .entry)) ≡ slotSize f → now (s .exit) ≡ slotBytes f free) ⌝ }
+    requires { SlotLong s.old }
+    ensures { (f : Form) → length s.old ≡ slot_size f → s.new ≡ slot_bytes f free }
 {
     clear(s);
 }

@@ -1,48 +1,48 @@
 -- The tests by which records are marked say what they test: a record's node is among those of a list, and the records of a tree are its nodes.
 -- Assumes nothing.
 use Prim.Native.Nat.{ℕ}
-use mathlib.Core.Path.{_≡_, refl, sym, subst₂}
-use mathlib.Core.Logic.{_⊎_, inl, inr, _↔_}
-use mathlib.Core.Bool.{Bool, true, false, _||_, false≢true}
-use mathlib.Core.List.{List, [], _∷_}
-use Rattle·terms.specs.Bits.{Bytes, Place}
-use Rattle·terms.specs.Records.{Record}
-use Rattle·meaning.specs.Tree.{VTree}
-use Rattle·meaning.specs.Store.{isNode, hasNode, recordsOf}
-use Rattle·meaning.specs.Sound.{NodeOf}
-use Rattle·meaning.proofs.Finding.{isNode-eq, isNode-refl}
-use Rattle·histories.proofs.Nodes.{hasNode-node, node-hasNode}
-use Rattle·steps·specs.specs.Step.{Node}
-use Rattle·steps·specs.specs.Given.{Among}
-use Rattle·steps·specs.specs.Writing.{isAmong}
+use mathlib.Core.Path.{◌≡◌, refl, sym, subst₂}
+use mathlib.Core.Logic.{◌⊎◌, inl, inr, ◌↔◌}
+use mathlib.Core.Bool.{Bool, true, false, ◌||◌, false≢true}
+use mathlib.Core.List.{List, [], ◌∷◌}
+use Rattle.terms.specs.Bits.{Bytes, Place}
+use Rattle.terms.specs.Records.{Record}
+use Rattle.meaning.specs.Tree.{VTree}
+use Rattle.meaning.specs.Store.{is_node, has_node, records_of}
+use Rattle.meaning.specs.Sound.{NodeOf}
+use Rattle.meaning.proofs.Finding.{is_node_eq, is_node_refl}
+use Rattle.histories.proofs.Nodes.{has_node_node, node_has_node}
+use Rattle.steps.specs.Step.{Node}
+use Rattle.steps.specs.Given.{Among}
+use Rattle.steps.specs.Writing.{is_among}
 
-is-same : (r : Record) (v : ℕ) (q : Place) → r .version ≡ v → r .place ≡ q → isNode v q r ≡ true
-is-same r v q e f = subst₂ (λ w u. isNode w u r ≡ true) e f (isNode-refl r)
+is_same_lem : (r : Record) (v : ℕ) (q : Place) → r.version ≡ v → r.place ≡ q → is_node v q r ≡ true
+is_same_lem r v q e f = subst₂ (λ w u. is_node w u r ≡ true) e f (is_node_refl r)
 
-or-either : (a b : Bool) → a || b ≡ true → (a ≡ true) ⊎ (b ≡ true)
-or-either true b h = inl refl
-or-either false b h = inr h
+or_either : (a b : Bool) → a || b ≡ true → (a ≡ true) ⊎ (b ≡ true)
+or_either true b h = inl refl
+or_either false b h = inr h
 
-or-right : (a : Bool) {b : Bool} → b ≡ true → a || b ≡ true
-or-right true h = refl
-or-right false h = h
+or_right : (a : Bool) {b : Bool} → b ≡ true → a || b ≡ true
+or_right true h = refl
+or_right false h = h
 
-pub among-test : (r : Record) (xs : List Node) → isAmong r xs ≡ true ↔ Among (r .version) (r .place) xs
-among-test r xs = (there xs, back xs)
+pub among_test : (r : Record) (xs : List Node) → is_among r xs ≡ true ↔ Among r.version r.place xs
+among_test r xs = (there xs, back xs)
   where
-    there : (xs : List Node) → isAmong r xs ≡ true → Among (r .version) (r .place) xs
+    there : (xs : List Node) → is_among r xs ≡ true → Among r.version r.place xs
     there [] h = absurd (false≢true h)
-    there (x ∷ xs) h = elim (or-either (isNode (x .version) (x .place) r) (isAmong r xs) h) [
-      | inl k ↦ let m = isNode-eq (x .version) (x .place) r k in inl (sym (m .0), sym (m .1))
+    there (x ∷ xs) h = elim (or_either (is_node x.version x.place r) (is_among r xs) h) [
+      | inl k ↦ let m = is_node_eq x.version x.place r k in inl (sym m.0, sym m.1)
       | inr k ↦ inr (there xs k)
     ]
 
-    back : (xs : List Node) → Among (r .version) (r .place) xs → isAmong r xs ≡ true
+    back : (xs : List Node) → Among r.version r.place xs → is_among r xs ≡ true
     back [] h = absurd h
-    back (x ∷ xs) (inl e) = rw (is-same r (x .version) (x .place) (sym (e .0)) (sym (e .1)))
-    back (x ∷ xs) (inr h) = or-right (isNode (x .version) (x .place) r) (back xs h)
+    back (x ∷ xs) (inl e) = rw (is_same_lem r x.version x.place (sym e.0) (sym e.1))
+    back (x ∷ xs) (inr h) = or_right (is_node x.version x.place r) (back xs h)
 
 -- the records of a tree are its nodes
-module _ (leafHash innerHash : Bytes → Bytes → Bytes) where
-  pub tree-test : (r : Record) (t : VTree) → hasNode r (recordsOf leafHash innerHash t) ≡ true ↔ NodeOf (r .version) (r .place) t []
-  tree-test r t = (hasNode-node leafHash innerHash r t, node-hasNode leafHash innerHash r t)
+module _ (leaf_hash inner_hash : Bytes → Bytes → Bytes) where
+  pub tree_test : (r : Record) (t : VTree) → has_node r (records_of leaf_hash inner_hash t) ≡ true ↔ NodeOf r.version r.place t []
+  tree_test r t = (has_node_node leaf_hash inner_hash r t, node_has_node leaf_hash inner_hash r t)

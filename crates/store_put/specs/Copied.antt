@@ -1,10 +1,10 @@
 -- The bytes of a store with those of a slot written over. Assumes nothing.
-use Prim.Native.Nat.{ℕ}
-use Rattle·terms.specs.declared.Form.the-variants.{Counted as counted}
-use Rattle·terms.specs.Bits.{Bytes}
-use Rattle·fields.specs.Written.{written}
-use Rattle·layout.specs.Sizes.{slotAt}
+use Rattle.std.specs.Prelude.{ℕ}
+use Rattle.terms.specs.declared.Form.TheVariants.{Counted as counted}
+use Rattle.terms.specs.Bits.{Bytes}
+use Rattle.fields.specs.Written.{written}
+use Rattle.layout.specs.Sizes.{slot_at}
 
 -- The bytes with other bytes in slot i, and nothing else changed.
-abbrev pub withBytes : ℕ → Bytes → Bytes → Bytes
-withBytes i x s = written (slotAt counted i) x s
+abbrev pub with_bytes : ℕ → Bytes → Bytes → Bytes
+with_bytes i x s = written (slot_at counted i) x s

@@ -1,332 +1,332 @@
 -- Random histories, part 4. Written by tests/tables/generate.py; compared with a second reading of document 01, 2026-07 and 2026-13. Assumes nothing.
-use mathlib.Core.Path.{_≡_, refl}
+use mathlib.Core.Path.{◌≡◌, refl}
 use mathlib.Core.Bool.{true, false}
-use mathlib.Core.List.{List, [], _∷_}
+use mathlib.Core.List.{List, [], ◌∷◌}
 use mathlib.Core.Option.{none, some}
-use Rattle·terms.specs.Bits.{Bytes, All}
-use Rattle·terms.specs.Records.{insert, delete, free, Store, presence, zeros}
-use Rattle·meaning.specs.Computed.{computed}
-use Rattle·meaning.specs.Calls.{refused, accepted}
-use Rattle·meaning.specs.Desk.{keyOf}
-use Rattle·meaning.specs.Proving.{step, presenceOf, absenceOf}
-use Rattle·meaning.specs.Reading.{present, absent}
-use Rattle·tables·specs.specs.Tables.{Game, game, GameHolds, applying, pruning, made, freed, denied, leafSlot, innerSlot, storeOf, freeSlots, valueOf}
+use Rattle.terms.specs.Bits.{Bytes, All}
+use Rattle.terms.specs.Records.{insert, delete, free, Store, presence, zeros}
+use Rattle.meaning.specs.Computed.{computed}
+use Rattle.meaning.specs.Calls.{refused, accepted}
+use Rattle.meaning.specs.Desk.{key_of}
+use Rattle.meaning.specs.Proving.{step, presence_of, absence_of}
+use Rattle.meaning.specs.Reading.{present, absent}
+use Rattle.tables.specs.Tables.{Game, game, GameHolds, applying, pruning, made, freed, denied, leaf_slot, inner_slot, store_of, free_slots, value_of}
 
-module _ (leafHash innerHash : Bytes → Bytes → Bytes) where
+module _ (leaf_hash inner_hash : Bytes → Bytes → Bytes) where
   abbrev h0 : Bytes
-  h0 = leafHash (keyOf 0 0) (valueOf 4)
+  h0 = leaf_hash (key_of 0 0) (value_of 4)
 
   abbrev h1 : Bytes
-  h1 = leafHash (keyOf 144 0) (valueOf 4)
+  h1 = leaf_hash (key_of 144 0) (value_of 4)
 
   abbrev h2 : Bytes
-  h2 = leafHash (keyOf 144 0) (valueOf 2)
+  h2 = leaf_hash (key_of 144 0) (value_of 2)
 
   abbrev h3 : Bytes
-  h3 = innerHash h0 h1
+  h3 = inner_hash h0 h1
 
   abbrev h4 : Bytes
-  h4 = innerHash h0 h2
+  h4 = inner_hash h0 h2
 
   abbrev h5 : Bytes
-  h5 = leafHash (keyOf 128 0) (valueOf 3)
+  h5 = leaf_hash (key_of 128 0) (value_of 3)
 
   abbrev h6 : Bytes
-  h6 = leafHash (keyOf 128 0) (valueOf 1)
+  h6 = leaf_hash (key_of 128 0) (value_of 1)
 
   abbrev h7 : Bytes
-  h7 = leafHash (keyOf 192 0) (valueOf 4)
+  h7 = leaf_hash (key_of 192 0) (value_of 4)
 
   abbrev h8 : Bytes
-  h8 = innerHash h6 h7
+  h8 = inner_hash h6 h7
 
   abbrev h9 : Bytes
-  h9 = innerHash zeros h8
+  h9 = inner_hash zeros h8
 
   abbrev h10 : Bytes
-  h10 = leafHash (keyOf 104 0) (valueOf 2)
+  h10 = leaf_hash (key_of 104 0) (value_of 2)
 
   abbrev h11 : Bytes
-  h11 = innerHash h0 h10
+  h11 = inner_hash h0 h10
 
   abbrev h12 : Bytes
-  h12 = leafHash (keyOf 104 0) (valueOf 1)
+  h12 = leaf_hash (key_of 104 0) (value_of 1)
 
   abbrev h13 : Bytes
-  h13 = innerHash h0 h12
+  h13 = inner_hash h0 h12
 
   abbrev h14 : Bytes
-  h14 = leafHash (keyOf 8 0) (valueOf 3)
+  h14 = leaf_hash (key_of 8 0) (value_of 3)
 
   abbrev h15 : Bytes
-  h15 = innerHash h0 h14
+  h15 = inner_hash h0 h14
 
   abbrev h16 : Bytes
-  h16 = innerHash h15 zeros
+  h16 = inner_hash h15 zeros
 
   abbrev h17 : Bytes
-  h17 = innerHash h16 zeros
+  h17 = inner_hash h16 zeros
 
   abbrev h18 : Bytes
-  h18 = innerHash h17 zeros
+  h18 = inner_hash h17 zeros
 
   abbrev h19 : Bytes
-  h19 = innerHash h11 zeros
+  h19 = inner_hash h11 zeros
 
   abbrev h20 : Bytes
-  h20 = innerHash h13 zeros
+  h20 = inner_hash h13 zeros
 
   abbrev h21 : Bytes
-  h21 = innerHash h18 zeros
+  h21 = inner_hash h18 zeros
 
   abbrev h22 : Bytes
-  h22 = leafHash (keyOf 8 0) (valueOf 2)
+  h22 = leaf_hash (key_of 8 0) (value_of 2)
 
   abbrev h23 : Bytes
-  h23 = leafHash (keyOf 192 0) (valueOf 1)
+  h23 = leaf_hash (key_of 192 0) (value_of 1)
 
   abbrev h24 : Bytes
-  h24 = leafHash (keyOf 96 0) (valueOf 1)
+  h24 = leaf_hash (key_of 96 0) (value_of 1)
 
   abbrev h25 : Bytes
-  h25 = innerHash h22 h24
+  h25 = inner_hash h22 h24
 
   abbrev h26 : Bytes
-  h26 = leafHash (keyOf 96 0) (valueOf 3)
+  h26 = leaf_hash (key_of 96 0) (value_of 3)
 
   abbrev h27 : Bytes
-  h27 = leafHash (keyOf 192 0) (valueOf 2)
+  h27 = leaf_hash (key_of 192 0) (value_of 2)
 
   abbrev h28 : Bytes
-  h28 = innerHash h22 h23
+  h28 = inner_hash h22 h23
 
   abbrev h29 : Bytes
-  h29 = innerHash h25 h23
+  h29 = inner_hash h25 h23
 
   abbrev h30 : Bytes
-  h30 = innerHash h26 h27
+  h30 = inner_hash h26 h27
 
   abbrev h31 : Bytes
-  h31 = leafHash (keyOf 255 0) (valueOf 3)
+  h31 = leaf_hash (key_of 255 0) (value_of 3)
 
   abbrev h32 : Bytes
-  h32 = innerHash h0 h22
+  h32 = inner_hash h0 h22
 
   abbrev h33 : Bytes
-  h33 = innerHash h32 zeros
+  h33 = inner_hash h32 zeros
 
   abbrev h34 : Bytes
-  h34 = innerHash h33 zeros
+  h34 = inner_hash h33 zeros
 
   abbrev h35 : Bytes
-  h35 = innerHash h34 zeros
+  h35 = inner_hash h34 zeros
 
   abbrev h36 : Bytes
-  h36 = innerHash h22 h31
+  h36 = inner_hash h22 h31
 
   abbrev h37 : Bytes
-  h37 = innerHash h35 h31
+  h37 = inner_hash h35 h31
 
   abbrev h38 : Bytes
-  h38 = leafHash (keyOf 104 0) (valueOf 3)
+  h38 = leaf_hash (key_of 104 0) (value_of 3)
 
   abbrev h39 : Bytes
-  h39 = leafHash (keyOf 255 0) (valueOf 1)
+  h39 = leaf_hash (key_of 255 0) (value_of 1)
 
   abbrev h40 : Bytes
-  h40 = leafHash (keyOf 16 0) (valueOf 4)
+  h40 = leaf_hash (key_of 16 0) (value_of 4)
 
   abbrev h41 : Bytes
-  h41 = innerHash h40 h38
+  h41 = inner_hash h40 h38
 
   abbrev h42 : Bytes
-  h42 = leafHash (keyOf 16 0) (valueOf 1)
+  h42 = leaf_hash (key_of 16 0) (value_of 1)
 
   abbrev h43 : Bytes
-  h43 = innerHash h42 h38
+  h43 = inner_hash h42 h38
 
   abbrev h44 : Bytes
-  h44 = innerHash h41 zeros
+  h44 = inner_hash h41 zeros
 
   abbrev h45 : Bytes
-  h45 = innerHash h43 zeros
+  h45 = inner_hash h43 zeros
 
   abbrev h46 : Bytes
-  h46 = leafHash (keyOf 0 0) (valueOf 1)
+  h46 = leaf_hash (key_of 0 0) (value_of 1)
 
   abbrev h47 : Bytes
-  h47 = innerHash h46 h12
+  h47 = inner_hash h46 h12
 
   abbrev h48 : Bytes
-  h48 = innerHash h47 h27
+  h48 = inner_hash h47 h27
 
   abbrev h49 : Bytes
-  h49 = leafHash (keyOf 16 0) (valueOf 3)
+  h49 = leaf_hash (key_of 16 0) (value_of 3)
 
   abbrev h50 : Bytes
-  h50 = leafHash (keyOf 254 0) (valueOf 1)
+  h50 = leaf_hash (key_of 254 0) (value_of 1)
 
   abbrev h51 : Bytes
-  h51 = leafHash (keyOf 144 0) (valueOf 3)
+  h51 = leaf_hash (key_of 144 0) (value_of 3)
 
   abbrev h52 : Bytes
-  h52 = leafHash (keyOf 254 0) (valueOf 3)
+  h52 = leaf_hash (key_of 254 0) (value_of 3)
 
   abbrev h53 : Bytes
-  h53 = innerHash h51 h52
+  h53 = inner_hash h51 h52
 
   abbrev h54 : Bytes
-  h54 = leafHash (keyOf 16 0) (valueOf 2)
+  h54 = leaf_hash (key_of 16 0) (value_of 2)
 
   abbrev h55 : Bytes
-  h55 = innerHash h49 h50
+  h55 = inner_hash h49 h50
 
   abbrev h56 : Bytes
-  h56 = innerHash h49 h53
+  h56 = inner_hash h49 h53
 
   abbrev h57 : Bytes
-  h57 = leafHash (keyOf 64 0) (valueOf 4)
+  h57 = leaf_hash (key_of 64 0) (value_of 4)
 
   abbrev h58 : Bytes
-  h58 = innerHash h57 h12
+  h58 = inner_hash h57 h12
 
   abbrev h59 : Bytes
-  h59 = innerHash zeros h58
+  h59 = inner_hash zeros h58
 
   abbrev h60 : Bytes
-  h60 = innerHash h59 h23
+  h60 = inner_hash h59 h23
 
   abbrev h61 : Bytes
-  h61 = leafHash (keyOf 128 0) (valueOf 2)
+  h61 = leaf_hash (key_of 128 0) (value_of 2)
 
   abbrev h62 : Bytes
-  h62 = leafHash (keyOf 254 0) (valueOf 2)
+  h62 = leaf_hash (key_of 254 0) (value_of 2)
 
   abbrev h63 : Bytes
-  h63 = innerHash h22 h62
+  h63 = inner_hash h22 h62
 
   abbrev h64 : Bytes
-  h64 = leafHash (keyOf 0 0) (valueOf 3)
+  h64 = leaf_hash (key_of 0 0) (value_of 3)
 
   abbrev h65 : Bytes
-  h65 = innerHash h64 h10
+  h65 = inner_hash h64 h10
 
   abbrev h66 : Bytes
-  h66 = leafHash (keyOf 192 0) (valueOf 3)
+  h66 = leaf_hash (key_of 192 0) (value_of 3)
 
   abbrev h67 : Bytes
-  h67 = leafHash (keyOf 255 0) (valueOf 2)
+  h67 = leaf_hash (key_of 255 0) (value_of 2)
 
   abbrev h68 : Bytes
-  h68 = leafHash (keyOf 255 0) (valueOf 4)
+  h68 = leaf_hash (key_of 255 0) (value_of 4)
 
   abbrev h69 : Bytes
-  h69 = leafHash (keyOf 0 0) (valueOf 2)
+  h69 = leaf_hash (key_of 0 0) (value_of 2)
 
   abbrev h70 : Bytes
-  h70 = innerHash h69 h38
+  h70 = inner_hash h69 h38
 
   abbrev h71 : Bytes
-  h71 = innerHash h65 h66
+  h71 = inner_hash h65 h66
 
   abbrev h72 : Bytes
-  h72 = innerHash h65 zeros
+  h72 = inner_hash h65 zeros
 
   abbrev h73 : Bytes
-  h73 = innerHash h65 h67
+  h73 = inner_hash h65 h67
 
   abbrev h74 : Bytes
-  h74 = innerHash h65 h68
+  h74 = inner_hash h65 h68
 
   abbrev h75 : Bytes
-  h75 = innerHash h10 h68
+  h75 = inner_hash h10 h68
 
   abbrev h76 : Bytes
-  h76 = innerHash h70 zeros
+  h76 = inner_hash h70 zeros
 
   abbrev h77 : Bytes
-  h77 = innerHash h14 h49
+  h77 = inner_hash h14 h49
 
   abbrev h78 : Bytes
-  h78 = innerHash h77 zeros
+  h78 = inner_hash h77 zeros
 
   abbrev h79 : Bytes
-  h79 = innerHash h78 zeros
+  h79 = inner_hash h78 zeros
 
   abbrev h80 : Bytes
-  h80 = leafHash (keyOf 8 0) (valueOf 4)
+  h80 = leaf_hash (key_of 8 0) (value_of 4)
 
   abbrev h81 : Bytes
-  h81 = innerHash h79 zeros
+  h81 = inner_hash h79 zeros
 
   abbrev h82 : Bytes
-  h82 = leafHash (keyOf 144 0) (valueOf 1)
+  h82 = leaf_hash (key_of 144 0) (value_of 1)
 
   abbrev h83 : Bytes
-  h83 = innerHash h82 h68
+  h83 = inner_hash h82 h68
 
   abbrev h84 : Bytes
-  h84 = innerHash zeros h83
+  h84 = inner_hash zeros h83
 
   abbrev h85 : Bytes
-  h85 = innerHash h82 h39
+  h85 = inner_hash h82 h39
 
   abbrev h86 : Bytes
-  h86 = innerHash zeros h85
+  h86 = inner_hash zeros h85
 
   abbrev h87 : Bytes
-  h87 = innerHash h24 h85
+  h87 = inner_hash h24 h85
 
   abbrev h88 : Bytes
-  h88 = innerHash h22 h51
+  h88 = inner_hash h22 h51
 
   abbrev h89 : Bytes
-  h89 = leafHash (keyOf 96 0) (valueOf 2)
+  h89 = leaf_hash (key_of 96 0) (value_of 2)
 
   abbrev h90 : Bytes
-  h90 = leafHash (keyOf 96 0) (valueOf 4)
+  h90 = leaf_hash (key_of 96 0) (value_of 4)
 
   abbrev h91 : Bytes
-  h91 = innerHash h82 h52
+  h91 = inner_hash h82 h52
 
   abbrev h92 : Bytes
-  h92 = innerHash h57 h91
+  h92 = inner_hash h57 h91
 
   abbrev h93 : Bytes
-  h93 = leafHash (keyOf 104 0) (valueOf 4)
+  h93 = leaf_hash (key_of 104 0) (value_of 4)
 
   abbrev h94 : Bytes
-  h94 = leafHash (keyOf 128 0) (valueOf 4)
+  h94 = leaf_hash (key_of 128 0) (value_of 4)
 
   abbrev h95 : Bytes
-  h95 = innerHash h93 h5
+  h95 = inner_hash h93 h5
 
   abbrev h96 : Bytes
-  h96 = innerHash h93 h94
+  h96 = inner_hash h93 h94
 
   abbrev h97 : Bytes
-  h97 = innerHash h24 h39
+  h97 = inner_hash h24 h39
 
   abbrev h98 : Bytes
-  h98 = innerHash h80 h66
+  h98 = inner_hash h80 h66
 
   abbrev h99 : Bytes
-  h99 = innerHash h80 h7
+  h99 = inner_hash h80 h7
 
   abbrev h100 : Bytes
-  h100 = innerHash h80 h23
+  h100 = inner_hash h80 h23
 
   abbrev end0 : Store
   end0 =
-      storeOf 7 17
-      (leafSlot (false ∷ []) 4 17 (keyOf 0 0) (valueOf 4)
-      ∷ leafSlot (true ∷ []) 4 14 (keyOf 144 0) (valueOf 4)
-      ∷ innerSlot ([]) 4 9 4 h0 4 h1 1 1
-      ∷ innerSlot ([]) 9 14 4 h0 4 h1 1 1
-      ∷ leafSlot (true ∷ []) 14 17 (keyOf 144 0) (valueOf 2)
-      ∷ innerSlot ([]) 14 16 4 h0 14 h2 1 1
-      ∷ innerSlot ([]) 16 17 4 h0 14 h2 1 1
-      ∷ leafSlot ([]) 17 0 (keyOf 0 0) (valueOf 4)
+      store_of 7 17
+      (leaf_slot (false ∷ []) 4 17 (key_of 0 0) (value_of 4)
+      ∷ leaf_slot (true ∷ []) 4 14 (key_of 144 0) (value_of 4)
+      ∷ inner_slot ([]) 4 9 4 h0 4 h1 1 1
+      ∷ inner_slot ([]) 9 14 4 h0 4 h1 1 1
+      ∷ leaf_slot (true ∷ []) 14 17 (key_of 144 0) (value_of 2)
+      ∷ inner_slot ([]) 14 16 4 h0 14 h2 1 1
+      ∷ inner_slot ([]) 16 17 4 h0 14 h2 1 1
+      ∷ leaf_slot ([]) 17 0 (key_of 0 0) (value_of 4)
       ∷ free
       ∷ free
       ∷ free
@@ -339,8 +339,8 @@ module _ (leafHash innerHash : Bytes → Bytes → Bytes) where
 
   abbrev end1 : Store
   end1 =
-      storeOf 1 2
-      (leafSlot ([]) 2 0 (keyOf 128 0) (valueOf 3)
+      store_of 1 2
+      (leaf_slot ([]) 2 0 (key_of 128 0) (value_of 3)
       ∷ free
       ∷ free
       ∷ free
@@ -352,77 +352,77 @@ module _ (leafHash innerHash : Bytes → Bytes → Bytes) where
 
   abbrev end2 : Store
   end2 =
-      storeOf 0 6
-      (leafSlot ([]) 3 4 (keyOf 128 0) (valueOf 1)
-      ∷ leafSlot ([]) 4 6 (keyOf 128 0) (valueOf 1)
-      ∷ leafSlot (true ∷ false ∷ []) 6 0 (keyOf 128 0) (valueOf 1)
-      ∷ leafSlot (true ∷ true ∷ []) 6 0 (keyOf 192 0) (valueOf 4)
-      ∷ innerSlot (true ∷ []) 6 0 6 h6 6 h7 1 1
-      ∷ innerSlot ([]) 6 0 0 zeros 6 h8 0 2
+      store_of 0 6
+      (leaf_slot ([]) 3 4 (key_of 128 0) (value_of 1)
+      ∷ leaf_slot ([]) 4 6 (key_of 128 0) (value_of 1)
+      ∷ leaf_slot (true ∷ false ∷ []) 6 0 (key_of 128 0) (value_of 1)
+      ∷ leaf_slot (true ∷ true ∷ []) 6 0 (key_of 192 0) (value_of 4)
+      ∷ inner_slot (true ∷ []) 6 0 6 h6 6 h7 1 1
+      ∷ inner_slot ([]) 6 0 0 zeros 6 h8 0 2
       ∷ free
       ∷ free
       ∷ [])
 
   abbrev end3 : Store
   end3 =
-      storeOf 3 7
-      (leafSlot ([]) 4 5 (keyOf 104 0) (valueOf 2)
-      ∷ leafSlot (false ∷ false ∷ []) 5 7 (keyOf 0 0) (valueOf 4)
-      ∷ leafSlot (false ∷ true ∷ []) 5 6 (keyOf 104 0) (valueOf 2)
-      ∷ innerSlot (false ∷ []) 5 6 5 h0 5 h10 1 1
-      ∷ innerSlot ([]) 5 6 5 h11 0 zeros 2 0
-      ∷ leafSlot (false ∷ true ∷ []) 6 7 (keyOf 104 0) (valueOf 1)
-      ∷ innerSlot (false ∷ []) 6 7 5 h0 6 h12 1 1
-      ∷ innerSlot ([]) 6 7 6 h13 0 zeros 2 0
-      ∷ leafSlot (false ∷ false ∷ false ∷ false ∷ false ∷ []) 7 0 (keyOf 0 0) (valueOf 4)
-      ∷ leafSlot (false ∷ false ∷ false ∷ false ∷ true ∷ []) 7 0 (keyOf 8 0) (valueOf 3)
-      ∷ innerSlot (false ∷ false ∷ false ∷ false ∷ []) 7 0 7 h0 7 h14 1 1
-      ∷ innerSlot (false ∷ false ∷ false ∷ []) 7 0 7 h15 0 zeros 2 0
-      ∷ innerSlot (false ∷ false ∷ []) 7 0 7 h16 0 zeros 2 0
-      ∷ innerSlot (false ∷ []) 7 0 7 h17 0 zeros 2 0
-      ∷ innerSlot ([]) 7 0 7 h18 0 zeros 2 0
+      store_of 3 7
+      (leaf_slot ([]) 4 5 (key_of 104 0) (value_of 2)
+      ∷ leaf_slot (false ∷ false ∷ []) 5 7 (key_of 0 0) (value_of 4)
+      ∷ leaf_slot (false ∷ true ∷ []) 5 6 (key_of 104 0) (value_of 2)
+      ∷ inner_slot (false ∷ []) 5 6 5 h0 5 h10 1 1
+      ∷ inner_slot ([]) 5 6 5 h11 0 zeros 2 0
+      ∷ leaf_slot (false ∷ true ∷ []) 6 7 (key_of 104 0) (value_of 1)
+      ∷ inner_slot (false ∷ []) 6 7 5 h0 6 h12 1 1
+      ∷ inner_slot ([]) 6 7 6 h13 0 zeros 2 0
+      ∷ leaf_slot (false ∷ false ∷ false ∷ false ∷ false ∷ []) 7 0 (key_of 0 0) (value_of 4)
+      ∷ leaf_slot (false ∷ false ∷ false ∷ false ∷ true ∷ []) 7 0 (key_of 8 0) (value_of 3)
+      ∷ inner_slot (false ∷ false ∷ false ∷ false ∷ []) 7 0 7 h0 7 h14 1 1
+      ∷ inner_slot (false ∷ false ∷ false ∷ []) 7 0 7 h15 0 zeros 2 0
+      ∷ inner_slot (false ∷ false ∷ []) 7 0 7 h16 0 zeros 2 0
+      ∷ inner_slot (false ∷ []) 7 0 7 h17 0 zeros 2 0
+      ∷ inner_slot ([]) 7 0 7 h18 0 zeros 2 0
       ∷ free
       ∷ [])
 
   abbrev end4 : Store
   end4 =
-      storeOf 0 4
-      (leafSlot (false ∷ []) 2 3 (keyOf 8 0) (valueOf 2)
-      ∷ leafSlot (true ∷ []) 2 4 (keyOf 192 0) (valueOf 1)
-      ∷ innerSlot ([]) 2 3 2 h22 2 h23 1 1
-      ∷ leafSlot (false ∷ false ∷ []) 3 4 (keyOf 8 0) (valueOf 2)
-      ∷ leafSlot (false ∷ true ∷ []) 3 4 (keyOf 96 0) (valueOf 1)
-      ∷ innerSlot (false ∷ []) 3 4 3 h22 3 h24 1 1
-      ∷ innerSlot ([]) 3 4 3 h25 2 h23 2 1
-      ∷ leafSlot (false ∷ []) 4 0 (keyOf 96 0) (valueOf 3)
-      ∷ leafSlot (true ∷ []) 4 0 (keyOf 192 0) (valueOf 2)
-      ∷ innerSlot ([]) 4 0 4 h26 4 h27 1 1
+      store_of 0 4
+      (leaf_slot (false ∷ []) 2 3 (key_of 8 0) (value_of 2)
+      ∷ leaf_slot (true ∷ []) 2 4 (key_of 192 0) (value_of 1)
+      ∷ inner_slot ([]) 2 3 2 h22 2 h23 1 1
+      ∷ leaf_slot (false ∷ false ∷ []) 3 4 (key_of 8 0) (value_of 2)
+      ∷ leaf_slot (false ∷ true ∷ []) 3 4 (key_of 96 0) (value_of 1)
+      ∷ inner_slot (false ∷ []) 3 4 3 h22 3 h24 1 1
+      ∷ inner_slot ([]) 3 4 3 h25 2 h23 2 1
+      ∷ leaf_slot (false ∷ []) 4 0 (key_of 96 0) (value_of 3)
+      ∷ leaf_slot (true ∷ []) 4 0 (key_of 192 0) (value_of 2)
+      ∷ inner_slot ([]) 4 0 4 h26 4 h27 1 1
       ∷ free
       ∷ free
       ∷ [])
 
   abbrev end5 : Store
   end5 =
-      storeOf 3 12
-      (leafSlot (false ∷ false ∷ false ∷ false ∷ false ∷ []) 12 0 (keyOf 0 0) (valueOf 4)
-      ∷ leafSlot ([]) 2 7 (keyOf 8 0) (valueOf 2)
-      ∷ leafSlot ([]) 7 11 (keyOf 8 0) (valueOf 2)
-      ∷ leafSlot (false ∷ []) 11 12 (keyOf 8 0) (valueOf 2)
-      ∷ leafSlot (true ∷ []) 11 0 (keyOf 255 0) (valueOf 3)
-      ∷ innerSlot ([]) 11 12 11 h22 11 h31 1 1
-      ∷ leafSlot (false ∷ false ∷ false ∷ false ∷ true ∷ []) 12 0 (keyOf 8 0) (valueOf 2)
-      ∷ innerSlot (false ∷ false ∷ false ∷ false ∷ []) 12 0 12 h0 12 h22 1 1
-      ∷ innerSlot (false ∷ false ∷ false ∷ []) 12 0 12 h32 0 zeros 2 0
-      ∷ innerSlot (false ∷ false ∷ []) 12 0 12 h33 0 zeros 2 0
-      ∷ innerSlot (false ∷ []) 12 0 12 h34 0 zeros 2 0
-      ∷ innerSlot ([]) 12 0 12 h35 11 h31 2 1
+      store_of 3 12
+      (leaf_slot (false ∷ false ∷ false ∷ false ∷ false ∷ []) 12 0 (key_of 0 0) (value_of 4)
+      ∷ leaf_slot ([]) 2 7 (key_of 8 0) (value_of 2)
+      ∷ leaf_slot ([]) 7 11 (key_of 8 0) (value_of 2)
+      ∷ leaf_slot (false ∷ []) 11 12 (key_of 8 0) (value_of 2)
+      ∷ leaf_slot (true ∷ []) 11 0 (key_of 255 0) (value_of 3)
+      ∷ inner_slot ([]) 11 12 11 h22 11 h31 1 1
+      ∷ leaf_slot (false ∷ false ∷ false ∷ false ∷ true ∷ []) 12 0 (key_of 8 0) (value_of 2)
+      ∷ inner_slot (false ∷ false ∷ false ∷ false ∷ []) 12 0 12 h0 12 h22 1 1
+      ∷ inner_slot (false ∷ false ∷ false ∷ []) 12 0 12 h32 0 zeros 2 0
+      ∷ inner_slot (false ∷ false ∷ []) 12 0 12 h33 0 zeros 2 0
+      ∷ inner_slot (false ∷ []) 12 0 12 h34 0 zeros 2 0
+      ∷ inner_slot ([]) 12 0 12 h35 11 h31 2 1
       ∷ [])
 
   abbrev end6 : Store
   end6 =
-      storeOf 1 2
-      (leafSlot ([]) 1 2 (keyOf 104 0) (valueOf 3)
-      ∷ leafSlot ([]) 2 0 (keyOf 104 0) (valueOf 3)
+      store_of 1 2
+      (leaf_slot ([]) 1 2 (key_of 104 0) (value_of 3)
+      ∷ leaf_slot ([]) 2 0 (key_of 104 0) (value_of 3)
       ∷ free
       ∷ free
       ∷ free
@@ -449,9 +449,9 @@ module _ (leafHash innerHash : Bytes → Bytes → Bytes) where
 
   abbrev end7 : Store
   end7 =
-      storeOf 4294967294 4294967295
-      (leafSlot ([]) 4294967294 4294967295 (keyOf 255 0) (valueOf 1)
-      ∷ leafSlot ([]) 4294967295 0 (keyOf 255 0) (valueOf 1)
+      store_of 4294967294 4294967295
+      (leaf_slot ([]) 4294967294 4294967295 (key_of 255 0) (value_of 1)
+      ∷ leaf_slot ([]) 4294967295 0 (key_of 255 0) (value_of 1)
       ∷ free
       ∷ free
       ∷ free
@@ -466,54 +466,54 @@ module _ (leafHash innerHash : Bytes → Bytes → Bytes) where
 
   abbrev end8 : Store
   end8 =
-      storeOf 2 9
-      (leafSlot ([]) 1 3 (keyOf 104 0) (valueOf 3)
-      ∷ leafSlot ([]) 3 4 (keyOf 104 0) (valueOf 3)
-      ∷ leafSlot (false ∷ false ∷ []) 4 5 (keyOf 16 0) (valueOf 4)
-      ∷ leafSlot (false ∷ true ∷ []) 4 0 (keyOf 104 0) (valueOf 3)
-      ∷ innerSlot (false ∷ []) 4 5 4 h40 4 h38 1 1
-      ∷ innerSlot ([]) 4 5 4 h41 0 zeros 2 0
-      ∷ leafSlot (false ∷ false ∷ []) 5 0 (keyOf 16 0) (valueOf 1)
-      ∷ innerSlot (false ∷ []) 5 0 5 h42 4 h38 1 1
-      ∷ innerSlot ([]) 5 8 5 h43 0 zeros 2 0
-      ∷ innerSlot ([]) 8 9 5 h43 0 zeros 2 0
-      ∷ innerSlot ([]) 9 0 5 h43 0 zeros 2 0
+      store_of 2 9
+      (leaf_slot ([]) 1 3 (key_of 104 0) (value_of 3)
+      ∷ leaf_slot ([]) 3 4 (key_of 104 0) (value_of 3)
+      ∷ leaf_slot (false ∷ false ∷ []) 4 5 (key_of 16 0) (value_of 4)
+      ∷ leaf_slot (false ∷ true ∷ []) 4 0 (key_of 104 0) (value_of 3)
+      ∷ inner_slot (false ∷ []) 4 5 4 h40 4 h38 1 1
+      ∷ inner_slot ([]) 4 5 4 h41 0 zeros 2 0
+      ∷ leaf_slot (false ∷ false ∷ []) 5 0 (key_of 16 0) (value_of 1)
+      ∷ inner_slot (false ∷ []) 5 0 5 h42 4 h38 1 1
+      ∷ inner_slot ([]) 5 8 5 h43 0 zeros 2 0
+      ∷ inner_slot ([]) 8 9 5 h43 0 zeros 2 0
+      ∷ inner_slot ([]) 9 0 5 h43 0 zeros 2 0
       ∷ free
       ∷ [])
 
   abbrev end9 : Store
   end9 =
-      storeOf 0 8
-      (leafSlot (false ∷ false ∷ []) 5 0 (keyOf 0 0) (valueOf 1)
-      ∷ leafSlot (false ∷ true ∷ []) 5 0 (keyOf 104 0) (valueOf 1)
-      ∷ innerSlot (false ∷ []) 5 0 5 h46 5 h12 1 1
-      ∷ leafSlot (true ∷ []) 5 0 (keyOf 192 0) (valueOf 2)
-      ∷ innerSlot ([]) 5 8 5 h47 5 h27 2 1
-      ∷ innerSlot ([]) 8 0 5 h47 5 h27 2 1
+      store_of 0 8
+      (leaf_slot (false ∷ false ∷ []) 5 0 (key_of 0 0) (value_of 1)
+      ∷ leaf_slot (false ∷ true ∷ []) 5 0 (key_of 104 0) (value_of 1)
+      ∷ inner_slot (false ∷ []) 5 0 5 h46 5 h12 1 1
+      ∷ leaf_slot (true ∷ []) 5 0 (key_of 192 0) (value_of 2)
+      ∷ inner_slot ([]) 5 8 5 h47 5 h27 2 1
+      ∷ inner_slot ([]) 8 0 5 h47 5 h27 2 1
       ∷ free
       ∷ free
       ∷ [])
 
   abbrev end10 : Store
   end10 =
-      storeOf 1 8
-      (leafSlot ([]) 1 4 (keyOf 16 0) (valueOf 2)
-      ∷ leafSlot ([]) 4 5 (keyOf 254 0) (valueOf 1)
-      ∷ leafSlot ([]) 5 6 (keyOf 254 0) (valueOf 1)
-      ∷ leafSlot (false ∷ []) 6 0 (keyOf 16 0) (valueOf 3)
-      ∷ leafSlot (true ∷ []) 6 7 (keyOf 254 0) (valueOf 1)
-      ∷ innerSlot ([]) 6 7 6 h49 6 h50 1 1
-      ∷ leafSlot (true ∷ false ∷ []) 7 0 (keyOf 144 0) (valueOf 3)
-      ∷ leafSlot (true ∷ true ∷ []) 7 0 (keyOf 254 0) (valueOf 3)
-      ∷ innerSlot (true ∷ []) 7 0 7 h51 7 h52 1 1
-      ∷ innerSlot ([]) 7 8 6 h49 7 h53 1 2
-      ∷ innerSlot ([]) 8 0 6 h49 7 h53 1 2
+      store_of 1 8
+      (leaf_slot ([]) 1 4 (key_of 16 0) (value_of 2)
+      ∷ leaf_slot ([]) 4 5 (key_of 254 0) (value_of 1)
+      ∷ leaf_slot ([]) 5 6 (key_of 254 0) (value_of 1)
+      ∷ leaf_slot (false ∷ []) 6 0 (key_of 16 0) (value_of 3)
+      ∷ leaf_slot (true ∷ []) 6 7 (key_of 254 0) (value_of 1)
+      ∷ inner_slot ([]) 6 7 6 h49 6 h50 1 1
+      ∷ leaf_slot (true ∷ false ∷ []) 7 0 (key_of 144 0) (value_of 3)
+      ∷ leaf_slot (true ∷ true ∷ []) 7 0 (key_of 254 0) (value_of 3)
+      ∷ inner_slot (true ∷ []) 7 0 7 h51 7 h52 1 1
+      ∷ inner_slot ([]) 7 8 6 h49 7 h53 1 2
+      ∷ inner_slot ([]) 8 0 6 h49 7 h53 1 2
       ∷ free
       ∷ [])
 
   abbrev end11 : Store
   end11 =
-      storeOf 0 1
+      store_of 0 1
       (free
       ∷ free
       ∷ free
@@ -522,7 +522,7 @@ module _ (leafHash innerHash : Bytes → Bytes → Bytes) where
 
   abbrev end12 : Store
   end12 =
-      storeOf 6 13
+      store_of 6 13
       (free
       ∷ free
       ∷ free
@@ -531,15 +531,15 @@ module _ (leafHash innerHash : Bytes → Bytes → Bytes) where
 
   abbrev end13 : Store
   end13 =
-      storeOf 1 3
-      (leafSlot ([]) 1 2 (keyOf 192 0) (valueOf 1)
-      ∷ leafSlot (false ∷ true ∷ false ∷ []) 2 0 (keyOf 64 0) (valueOf 4)
-      ∷ leafSlot (false ∷ true ∷ true ∷ []) 2 0 (keyOf 104 0) (valueOf 1)
-      ∷ innerSlot (false ∷ true ∷ []) 2 0 2 h57 2 h12 1 1
-      ∷ innerSlot (false ∷ []) 2 0 0 zeros 2 h58 0 2
-      ∷ leafSlot (true ∷ []) 2 0 (keyOf 192 0) (valueOf 1)
-      ∷ innerSlot ([]) 2 3 2 h59 2 h23 2 1
-      ∷ innerSlot ([]) 3 0 2 h59 2 h23 2 1
+      store_of 1 3
+      (leaf_slot ([]) 1 2 (key_of 192 0) (value_of 1)
+      ∷ leaf_slot (false ∷ true ∷ false ∷ []) 2 0 (key_of 64 0) (value_of 4)
+      ∷ leaf_slot (false ∷ true ∷ true ∷ []) 2 0 (key_of 104 0) (value_of 1)
+      ∷ inner_slot (false ∷ true ∷ []) 2 0 2 h57 2 h12 1 1
+      ∷ inner_slot (false ∷ []) 2 0 0 zeros 2 h58 0 2
+      ∷ leaf_slot (true ∷ []) 2 0 (key_of 192 0) (value_of 1)
+      ∷ inner_slot ([]) 2 3 2 h59 2 h23 2 1
+      ∷ inner_slot ([]) 3 0 2 h59 2 h23 2 1
       ∷ free
       ∷ free
       ∷ free
@@ -548,9 +548,9 @@ module _ (leafHash innerHash : Bytes → Bytes → Bytes) where
 
   abbrev end14 : Store
   end14 =
-      storeOf 4294967295 4294967295
+      store_of 4294967295 4294967295
       (free
-      ∷ leafSlot ([]) 4294967295 0 (keyOf 8 0) (valueOf 3)
+      ∷ leaf_slot ([]) 4294967295 0 (key_of 8 0) (value_of 3)
       ∷ free
       ∷ free
       ∷ free
@@ -561,9 +561,9 @@ module _ (leafHash innerHash : Bytes → Bytes → Bytes) where
 
   abbrev end15 : Store
   end15 =
-      storeOf 0 3
-      (leafSlot ([]) 2 3 (keyOf 128 0) (valueOf 2)
-      ∷ leafSlot ([]) 3 0 (keyOf 128 0) (valueOf 2)
+      store_of 0 3
+      (leaf_slot ([]) 2 3 (key_of 128 0) (value_of 2)
+      ∷ leaf_slot ([]) 3 0 (key_of 128 0) (value_of 2)
       ∷ free
       ∷ free
       ∷ free
@@ -578,8 +578,8 @@ module _ (leafHash innerHash : Bytes → Bytes → Bytes) where
 
   abbrev end16 : Store
   end16 =
-      storeOf 5 5
-      (leafSlot ([]) 5 0 (keyOf 8 0) (valueOf 3)
+      store_of 5 5
+      (leaf_slot ([]) 5 0 (key_of 8 0) (value_of 3)
       ∷ free
       ∷ free
       ∷ free
@@ -587,45 +587,45 @@ module _ (leafHash innerHash : Bytes → Bytes → Bytes) where
 
   abbrev end17 : Store
   end17 =
-      storeOf 0 4
-      (leafSlot ([]) 2 4 (keyOf 8 0) (valueOf 2)
-      ∷ leafSlot (false ∷ []) 4 0 (keyOf 8 0) (valueOf 2)
-      ∷ leafSlot (true ∷ []) 4 0 (keyOf 254 0) (valueOf 2)
-      ∷ innerSlot ([]) 4 0 4 h22 4 h62 1 1
+      store_of 0 4
+      (leaf_slot ([]) 2 4 (key_of 8 0) (value_of 2)
+      ∷ leaf_slot (false ∷ []) 4 0 (key_of 8 0) (value_of 2)
+      ∷ leaf_slot (true ∷ []) 4 0 (key_of 254 0) (value_of 2)
+      ∷ inner_slot ([]) 4 0 4 h22 4 h62 1 1
       ∷ [])
 
   abbrev end18 : Store
   end18 =
-      storeOf 9 21
-      (innerSlot ([]) 11 12 3 h65 0 zeros 2 0
-      ∷ leafSlot (false ∷ false ∷ []) 3 19 (keyOf 0 0) (valueOf 3)
-      ∷ leafSlot (false ∷ true ∷ []) 3 19 (keyOf 104 0) (valueOf 2)
-      ∷ innerSlot (false ∷ []) 3 19 3 h64 3 h10 1 1
-      ∷ leafSlot (true ∷ []) 3 11 (keyOf 192 0) (valueOf 3)
-      ∷ leafSlot (true ∷ []) 17 21 (keyOf 255 0) (valueOf 4)
-      ∷ innerSlot ([]) 8 11 3 h65 3 h66 2 1
-      ∷ leafSlot (true ∷ []) 12 17 (keyOf 255 0) (valueOf 2)
-      ∷ innerSlot ([]) 12 17 3 h65 12 h67 2 1
-      ∷ innerSlot ([]) 17 19 3 h65 17 h68 2 1
-      ∷ leafSlot (false ∷ []) 19 21 (keyOf 104 0) (valueOf 2)
-      ∷ innerSlot ([]) 19 21 19 h10 17 h68 1 1
-      ∷ leafSlot (false ∷ false ∷ []) 21 0 (keyOf 0 0) (valueOf 2)
-      ∷ leafSlot (false ∷ true ∷ []) 21 0 (keyOf 104 0) (valueOf 3)
-      ∷ innerSlot (false ∷ []) 21 0 21 h69 21 h38 1 1
-      ∷ innerSlot ([]) 21 0 21 h70 0 zeros 2 0
+      store_of 9 21
+      (inner_slot ([]) 11 12 3 h65 0 zeros 2 0
+      ∷ leaf_slot (false ∷ false ∷ []) 3 19 (key_of 0 0) (value_of 3)
+      ∷ leaf_slot (false ∷ true ∷ []) 3 19 (key_of 104 0) (value_of 2)
+      ∷ inner_slot (false ∷ []) 3 19 3 h64 3 h10 1 1
+      ∷ leaf_slot (true ∷ []) 3 11 (key_of 192 0) (value_of 3)
+      ∷ leaf_slot (true ∷ []) 17 21 (key_of 255 0) (value_of 4)
+      ∷ inner_slot ([]) 8 11 3 h65 3 h66 2 1
+      ∷ leaf_slot (true ∷ []) 12 17 (key_of 255 0) (value_of 2)
+      ∷ inner_slot ([]) 12 17 3 h65 12 h67 2 1
+      ∷ inner_slot ([]) 17 19 3 h65 17 h68 2 1
+      ∷ leaf_slot (false ∷ []) 19 21 (key_of 104 0) (value_of 2)
+      ∷ inner_slot ([]) 19 21 19 h10 17 h68 1 1
+      ∷ leaf_slot (false ∷ false ∷ []) 21 0 (key_of 0 0) (value_of 2)
+      ∷ leaf_slot (false ∷ true ∷ []) 21 0 (key_of 104 0) (value_of 3)
+      ∷ inner_slot (false ∷ []) 21 0 21 h69 21 h38 1 1
+      ∷ inner_slot ([]) 21 0 21 h70 0 zeros 2 0
       ∷ [])
 
   abbrev end19 : Store
   end19 =
-      storeOf 2 4
-      (leafSlot ([]) 3 4 (keyOf 8 0) (valueOf 3)
-      ∷ leafSlot (false ∷ false ∷ false ∷ false ∷ []) 2 3 (keyOf 8 0) (valueOf 3)
-      ∷ leafSlot (false ∷ false ∷ false ∷ true ∷ []) 2 3 (keyOf 16 0) (valueOf 3)
-      ∷ innerSlot (false ∷ false ∷ false ∷ []) 2 3 2 h14 2 h49 1 1
-      ∷ innerSlot (false ∷ false ∷ []) 2 3 2 h77 0 zeros 2 0
-      ∷ innerSlot (false ∷ []) 2 3 2 h78 0 zeros 2 0
-      ∷ innerSlot ([]) 2 3 2 h79 0 zeros 2 0
-      ∷ leafSlot ([]) 4 0 (keyOf 8 0) (valueOf 3)
+      store_of 2 4
+      (leaf_slot ([]) 3 4 (key_of 8 0) (value_of 3)
+      ∷ leaf_slot (false ∷ false ∷ false ∷ false ∷ []) 2 3 (key_of 8 0) (value_of 3)
+      ∷ leaf_slot (false ∷ false ∷ false ∷ true ∷ []) 2 3 (key_of 16 0) (value_of 3)
+      ∷ inner_slot (false ∷ false ∷ false ∷ []) 2 3 2 h14 2 h49 1 1
+      ∷ inner_slot (false ∷ false ∷ []) 2 3 2 h77 0 zeros 2 0
+      ∷ inner_slot (false ∷ []) 2 3 2 h78 0 zeros 2 0
+      ∷ inner_slot ([]) 2 3 2 h79 0 zeros 2 0
+      ∷ leaf_slot ([]) 4 0 (key_of 8 0) (value_of 3)
       ∷ free
       ∷ free
       ∷ free
@@ -634,12 +634,12 @@ module _ (leafHash innerHash : Bytes → Bytes → Bytes) where
 
   abbrev end20 : Store
   end20 =
-      storeOf 5 6
-      (innerSlot ([]) 6 0 0 zeros 5 h83 0 2
-      ∷ leafSlot (true ∷ false ∷ []) 5 0 (keyOf 144 0) (valueOf 1)
-      ∷ leafSlot (true ∷ true ∷ []) 5 0 (keyOf 255 0) (valueOf 4)
-      ∷ innerSlot (true ∷ []) 5 0 5 h82 5 h68 1 1
-      ∷ innerSlot ([]) 5 6 0 zeros 5 h83 0 2
+      store_of 5 6
+      (inner_slot ([]) 6 0 0 zeros 5 h83 0 2
+      ∷ leaf_slot (true ∷ false ∷ []) 5 0 (key_of 144 0) (value_of 1)
+      ∷ leaf_slot (true ∷ true ∷ []) 5 0 (key_of 255 0) (value_of 4)
+      ∷ inner_slot (true ∷ []) 5 0 5 h82 5 h68 1 1
+      ∷ inner_slot ([]) 5 6 0 zeros 5 h83 0 2
       ∷ free
       ∷ free
       ∷ free
@@ -651,14 +651,14 @@ module _ (leafHash innerHash : Bytes → Bytes → Bytes) where
 
   abbrev end21 : Store
   end21 =
-      storeOf 7 7
-      (leafSlot (true ∷ false ∷ []) 5 0 (keyOf 144 0) (valueOf 1)
-      ∷ leafSlot (true ∷ true ∷ []) 5 0 (keyOf 255 0) (valueOf 1)
-      ∷ innerSlot (true ∷ []) 5 0 5 h82 5 h39 1 1
+      store_of 7 7
+      (leaf_slot (true ∷ false ∷ []) 5 0 (key_of 144 0) (value_of 1)
+      ∷ leaf_slot (true ∷ true ∷ []) 5 0 (key_of 255 0) (value_of 1)
+      ∷ inner_slot (true ∷ []) 5 0 5 h82 5 h39 1 1
       ∷ free
       ∷ free
-      ∷ leafSlot (false ∷ []) 7 0 (keyOf 96 0) (valueOf 1)
-      ∷ innerSlot ([]) 7 0 7 h24 5 h85 1 2
+      ∷ leaf_slot (false ∷ []) 7 0 (key_of 96 0) (value_of 1)
+      ∷ inner_slot ([]) 7 0 7 h24 5 h85 1 2
       ∷ free
       ∷ free
       ∷ free
@@ -680,11 +680,11 @@ module _ (leafHash innerHash : Bytes → Bytes → Bytes) where
 
   abbrev end22 : Store
   end22 =
-      storeOf 4294967293 4294967295
-      (leafSlot ([]) 4294967294 4294967295 (keyOf 8 0) (valueOf 2)
-      ∷ leafSlot (false ∷ []) 4294967295 0 (keyOf 8 0) (valueOf 2)
-      ∷ leafSlot (true ∷ []) 4294967295 0 (keyOf 144 0) (valueOf 3)
-      ∷ innerSlot ([]) 4294967295 0 4294967295 h22 4294967295 h51 1 1
+      store_of 4294967293 4294967295
+      (leaf_slot ([]) 4294967294 4294967295 (key_of 8 0) (value_of 2)
+      ∷ leaf_slot (false ∷ []) 4294967295 0 (key_of 8 0) (value_of 2)
+      ∷ leaf_slot (true ∷ []) 4294967295 0 (key_of 144 0) (value_of 3)
+      ∷ inner_slot ([]) 4294967295 0 4294967295 h22 4294967295 h51 1 1
       ∷ free
       ∷ free
       ∷ free
@@ -693,9 +693,9 @@ module _ (leafHash innerHash : Bytes → Bytes → Bytes) where
 
   abbrev end23 : Store
   end23 =
-      storeOf 4294967295 4294967295
+      store_of 4294967295 4294967295
       (free
-      ∷ leafSlot ([]) 4294967295 0 (keyOf 96 0) (valueOf 4)
+      ∷ leaf_slot ([]) 4294967295 0 (key_of 96 0) (value_of 4)
       ∷ free
       ∷ free
       ∷ free
@@ -710,7 +710,7 @@ module _ (leafHash innerHash : Bytes → Bytes → Bytes) where
 
   abbrev end24 : Store
   end24 =
-      storeOf 4294967295 4294967295
+      store_of 4294967295 4294967295
       (free
       ∷ free
       ∷ free
@@ -719,29 +719,29 @@ module _ (leafHash innerHash : Bytes → Bytes → Bytes) where
 
   abbrev end25 : Store
   end25 =
-      storeOf 4 4
+      store_of 4 4
       (free
       ∷ free
-      ∷ leafSlot (true ∷ false ∷ []) 3 0 (keyOf 144 0) (valueOf 1)
-      ∷ leafSlot (true ∷ true ∷ []) 3 0 (keyOf 254 0) (valueOf 3)
-      ∷ leafSlot (false ∷ []) 3 0 (keyOf 64 0) (valueOf 4)
-      ∷ innerSlot (true ∷ []) 3 0 3 h82 3 h52 1 1
+      ∷ leaf_slot (true ∷ false ∷ []) 3 0 (key_of 144 0) (value_of 1)
+      ∷ leaf_slot (true ∷ true ∷ []) 3 0 (key_of 254 0) (value_of 3)
+      ∷ leaf_slot (false ∷ []) 3 0 (key_of 64 0) (value_of 4)
+      ∷ inner_slot (true ∷ []) 3 0 3 h82 3 h52 1 1
       ∷ free
-      ∷ innerSlot ([]) 4 0 3 h57 3 h91 1 2
+      ∷ inner_slot ([]) 4 0 3 h57 3 h91 1 2
       ∷ [])
 
   abbrev end26 : Store
   end26 =
-      storeOf 4 9
-      (leafSlot ([]) 4 5 (keyOf 104 0) (valueOf 4)
-      ∷ leafSlot (false ∷ []) 5 0 (keyOf 104 0) (valueOf 4)
-      ∷ leafSlot (true ∷ []) 5 8 (keyOf 128 0) (valueOf 3)
-      ∷ innerSlot ([]) 5 6 5 h93 5 h5 1 1
-      ∷ innerSlot ([]) 6 7 5 h93 5 h5 1 1
-      ∷ innerSlot ([]) 7 8 5 h93 5 h5 1 1
-      ∷ leafSlot (true ∷ []) 8 0 (keyOf 128 0) (valueOf 4)
-      ∷ innerSlot ([]) 8 9 5 h93 8 h94 1 1
-      ∷ innerSlot ([]) 9 0 5 h93 8 h94 1 1
+      store_of 4 9
+      (leaf_slot ([]) 4 5 (key_of 104 0) (value_of 4)
+      ∷ leaf_slot (false ∷ []) 5 0 (key_of 104 0) (value_of 4)
+      ∷ leaf_slot (true ∷ []) 5 8 (key_of 128 0) (value_of 3)
+      ∷ inner_slot ([]) 5 6 5 h93 5 h5 1 1
+      ∷ inner_slot ([]) 6 7 5 h93 5 h5 1 1
+      ∷ inner_slot ([]) 7 8 5 h93 5 h5 1 1
+      ∷ leaf_slot (true ∷ []) 8 0 (key_of 128 0) (value_of 4)
+      ∷ inner_slot ([]) 8 9 5 h93 8 h94 1 1
+      ∷ inner_slot ([]) 9 0 5 h93 8 h94 1 1
       ∷ free
       ∷ free
       ∷ free
@@ -761,20 +761,20 @@ module _ (leafHash innerHash : Bytes → Bytes → Bytes) where
 
   abbrev end27 : Store
   end27 =
-      storeOf 2 9
-      (leafSlot ([]) 2 3 (keyOf 16 0) (valueOf 2)
-      ∷ leafSlot ([]) 3 4 (keyOf 16 0) (valueOf 1)
-      ∷ leafSlot ([]) 4 9 (keyOf 16 0) (valueOf 1)
-      ∷ leafSlot ([]) 9 0 (keyOf 16 0) (valueOf 1)
+      store_of 2 9
+      (leaf_slot ([]) 2 3 (key_of 16 0) (value_of 2)
+      ∷ leaf_slot ([]) 3 4 (key_of 16 0) (value_of 1)
+      ∷ leaf_slot ([]) 4 9 (key_of 16 0) (value_of 1)
+      ∷ leaf_slot ([]) 9 0 (key_of 16 0) (value_of 1)
       ∷ [])
 
   abbrev end28 : Store
   end28 =
-      storeOf 9 13
-      (leafSlot ([]) 10 13 (keyOf 96 0) (valueOf 1)
-      ∷ leafSlot (false ∷ []) 13 0 (keyOf 96 0) (valueOf 1)
-      ∷ leafSlot (true ∷ []) 13 0 (keyOf 255 0) (valueOf 1)
-      ∷ innerSlot ([]) 13 0 13 h24 13 h39 1 1
+      store_of 9 13
+      (leaf_slot ([]) 10 13 (key_of 96 0) (value_of 1)
+      ∷ leaf_slot (false ∷ []) 13 0 (key_of 96 0) (value_of 1)
+      ∷ leaf_slot (true ∷ []) 13 0 (key_of 255 0) (value_of 1)
+      ∷ inner_slot ([]) 13 0 13 h24 13 h39 1 1
       ∷ free
       ∷ free
       ∷ free
@@ -783,15 +783,15 @@ module _ (leafHash innerHash : Bytes → Bytes → Bytes) where
 
   abbrev end29 : Store
   end29 =
-      storeOf 0 10
-      (leafSlot ([]) 4 6 (keyOf 8 0) (valueOf 3)
-      ∷ leafSlot (false ∷ []) 6 0 (keyOf 8 0) (valueOf 4)
-      ∷ leafSlot (true ∷ []) 6 7 (keyOf 192 0) (valueOf 3)
-      ∷ innerSlot ([]) 6 7 6 h80 6 h66 1 1
-      ∷ leafSlot (true ∷ []) 7 10 (keyOf 192 0) (valueOf 4)
-      ∷ innerSlot ([]) 7 10 6 h80 7 h7 1 1
-      ∷ leafSlot (true ∷ []) 10 0 (keyOf 192 0) (valueOf 1)
-      ∷ innerSlot ([]) 10 0 6 h80 10 h23 1 1
+      store_of 0 10
+      (leaf_slot ([]) 4 6 (key_of 8 0) (value_of 3)
+      ∷ leaf_slot (false ∷ []) 6 0 (key_of 8 0) (value_of 4)
+      ∷ leaf_slot (true ∷ []) 6 7 (key_of 192 0) (value_of 3)
+      ∷ inner_slot ([]) 6 7 6 h80 6 h66 1 1
+      ∷ leaf_slot (true ∷ []) 7 10 (key_of 192 0) (value_of 4)
+      ∷ inner_slot ([]) 7 10 6 h80 7 h7 1 1
+      ∷ leaf_slot (true ∷ []) 10 0 (key_of 192 0) (value_of 1)
+      ∷ inner_slot ([]) 10 0 6 h80 10 h23 1 1
       ∷ free
       ∷ free
       ∷ free
@@ -804,128 +804,128 @@ module _ (leafHash innerHash : Bytes → Bytes → Bytes) where
 
   abbrev rows : List Game
   rows =
-      game (storeOf 0 0 (freeSlots 16))
-      (pruning 0 ∷ pruning 1 ∷ applying 4 (insert (keyOf 0 0) (valueOf 4) ∷ insert (keyOf 144 0) (valueOf 4) ∷ delete (keyOf 255 0) ∷ []) ∷ applying 9 ([]) ∷ pruning 7 ∷ pruning 6 ∷ applying 14 (insert (keyOf 0 0) (valueOf 4) ∷ insert (keyOf 144 0) (valueOf 2) ∷ []) ∷ applying 16 (insert (keyOf 144 0) (valueOf 2) ∷ []) ∷ applying 17 (delete (keyOf 144 0) ∷ delete (keyOf 255 0) ∷ []) ∷ [])
+      game (store_of 0 0 (free_slots 16))
+      (pruning 0 ∷ pruning 1 ∷ applying 4 (insert (key_of 0 0) (value_of 4) ∷ insert (key_of 144 0) (value_of 4) ∷ delete (key_of 255 0) ∷ []) ∷ applying 9 ([]) ∷ pruning 7 ∷ pruning 6 ∷ applying 14 (insert (key_of 0 0) (value_of 4) ∷ insert (key_of 144 0) (value_of 2) ∷ []) ∷ applying 16 (insert (key_of 144 0) (value_of 2) ∷ []) ∷ applying 17 (delete (key_of 144 0) ∷ delete (key_of 255 0) ∷ []) ∷ [])
       (freed 0 ∷ denied 8 ∷ made 4 h3 3 ∷ made 9 h3 1 ∷ freed 0 ∷ denied 8 ∷ made 14 h4 2 ∷ made 16 h4 1 ∷ made 17 h0 1 ∷ [])
       end0
-      ∷ game (storeOf 0 0 (freeSlots 8))
-      (applying 1 (delete (keyOf 192 0) ∷ []) ∷ applying 2 (insert (keyOf 128 0) (valueOf 3) ∷ []) ∷ pruning 1 ∷ pruning 0 ∷ [])
+      ∷ game (store_of 0 0 (free_slots 8))
+      (applying 1 (delete (key_of 192 0) ∷ []) ∷ applying 2 (insert (key_of 128 0) (value_of 3) ∷ []) ∷ pruning 1 ∷ pruning 0 ∷ [])
       (made 1 zeros 0 ∷ made 2 h5 1 ∷ freed 0 ∷ denied 8 ∷ [])
       end1
-      ∷ game (storeOf 0 0 (freeSlots 8))
-      (applying 2 (delete (keyOf 0 0) ∷ delete (keyOf 8 0) ∷ delete (keyOf 128 0) ∷ []) ∷ applying 3 (delete (keyOf 8 0) ∷ insert (keyOf 128 0) (valueOf 1) ∷ delete (keyOf 192 0) ∷ []) ∷ applying 4 (delete (keyOf 0 0) ∷ delete (keyOf 8 0) ∷ insert (keyOf 128 0) (valueOf 1) ∷ []) ∷ applying 6 (insert (keyOf 192 0) (valueOf 4) ∷ []) ∷ [])
+      ∷ game (store_of 0 0 (free_slots 8))
+      (applying 2 (delete (key_of 0 0) ∷ delete (key_of 8 0) ∷ delete (key_of 128 0) ∷ []) ∷ applying 3 (delete (key_of 8 0) ∷ insert (key_of 128 0) (value_of 1) ∷ delete (key_of 192 0) ∷ []) ∷ applying 4 (delete (key_of 0 0) ∷ delete (key_of 8 0) ∷ insert (key_of 128 0) (value_of 1) ∷ []) ∷ applying 6 (insert (key_of 192 0) (value_of 4) ∷ []) ∷ [])
       (made 2 zeros 0 ∷ made 3 h6 1 ∷ made 4 h6 1 ∷ made 6 h9 4 ∷ [])
       end2
-      ∷ game (storeOf 0 0 (freeSlots 16))
-      (applying 1 (delete (keyOf 0 0) ∷ []) ∷ applying 4 (insert (keyOf 104 0) (valueOf 2) ∷ []) ∷ pruning 3 ∷ applying 5 (insert (keyOf 0 0) (valueOf 4) ∷ []) ∷ applying 6 (insert (keyOf 104 0) (valueOf 1) ∷ []) ∷ applying 7 (insert (keyOf 8 0) (valueOf 3) ∷ delete (keyOf 64 0) ∷ delete (keyOf 104 0) ∷ []) ∷ applying 8 (insert (keyOf 8 0) (valueOf 1) ∷ []) ∷ [])
+      ∷ game (store_of 0 0 (free_slots 16))
+      (applying 1 (delete (key_of 0 0) ∷ []) ∷ applying 4 (insert (key_of 104 0) (value_of 2) ∷ []) ∷ pruning 3 ∷ applying 5 (insert (key_of 0 0) (value_of 4) ∷ []) ∷ applying 6 (insert (key_of 104 0) (value_of 1) ∷ []) ∷ applying 7 (insert (key_of 8 0) (value_of 3) ∷ delete (key_of 64 0) ∷ delete (key_of 104 0) ∷ []) ∷ applying 8 (insert (key_of 8 0) (value_of 1) ∷ []) ∷ [])
       (made 1 zeros 0 ∷ made 4 h10 1 ∷ freed 0 ∷ made 5 h19 4 ∷ made 6 h20 3 ∷ made 7 h21 7 ∷ denied 7 ∷ [])
       end3
-      ∷ game (storeOf 0 0 (freeSlots 12))
-      (pruning 0 ∷ applying 1 ([]) ∷ applying 2 (insert (keyOf 8 0) (valueOf 2) ∷ insert (keyOf 192 0) (valueOf 1) ∷ []) ∷ applying 3 (insert (keyOf 96 0) (valueOf 1) ∷ []) ∷ applying 4 (delete (keyOf 8 0) ∷ insert (keyOf 96 0) (valueOf 3) ∷ insert (keyOf 192 0) (valueOf 2) ∷ []) ∷ applying 9 (insert (keyOf 8 0) (valueOf 1) ∷ insert (keyOf 192 0) (valueOf 3) ∷ []) ∷ [])
+      ∷ game (store_of 0 0 (free_slots 12))
+      (pruning 0 ∷ applying 1 ([]) ∷ applying 2 (insert (key_of 8 0) (value_of 2) ∷ insert (key_of 192 0) (value_of 1) ∷ []) ∷ applying 3 (insert (key_of 96 0) (value_of 1) ∷ []) ∷ applying 4 (delete (key_of 8 0) ∷ insert (key_of 96 0) (value_of 3) ∷ insert (key_of 192 0) (value_of 2) ∷ []) ∷ applying 9 (insert (key_of 8 0) (value_of 1) ∷ insert (key_of 192 0) (value_of 3) ∷ []) ∷ [])
       (freed 0 ∷ made 1 zeros 0 ∷ made 2 h28 3 ∷ made 3 h29 4 ∷ made 4 h30 3 ∷ denied 7 ∷ [])
       end4
-      ∷ game (storeOf 0 0 (freeSlots 12))
-      (applying 1 (delete (keyOf 0 0) ∷ insert (keyOf 8 0) (valueOf 2) ∷ delete (keyOf 255 0) ∷ []) ∷ applying 2 (delete (keyOf 0 0) ∷ []) ∷ pruning 1 ∷ applying 7 (delete (keyOf 128 0) ∷ delete (keyOf 255 0) ∷ []) ∷ applying 11 (delete (keyOf 128 0) ∷ insert (keyOf 255 0) (valueOf 3) ∷ []) ∷ pruning 2 ∷ applying 12 (insert (keyOf 0 0) (valueOf 4) ∷ []) ∷ pruning 3 ∷ applying 14 ([]) ∷ [])
+      ∷ game (store_of 0 0 (free_slots 12))
+      (applying 1 (delete (key_of 0 0) ∷ insert (key_of 8 0) (value_of 2) ∷ delete (key_of 255 0) ∷ []) ∷ applying 2 (delete (key_of 0 0) ∷ []) ∷ pruning 1 ∷ applying 7 (delete (key_of 128 0) ∷ delete (key_of 255 0) ∷ []) ∷ applying 11 (delete (key_of 128 0) ∷ insert (key_of 255 0) (value_of 3) ∷ []) ∷ pruning 2 ∷ applying 12 (insert (key_of 0 0) (value_of 4) ∷ []) ∷ pruning 3 ∷ applying 14 ([]) ∷ [])
       (made 1 h22 1 ∷ made 2 h22 1 ∷ freed 0 ∷ made 7 h22 1 ∷ made 11 h36 3 ∷ freed 1 ∷ made 12 h37 7 ∷ freed 0 ∷ denied 7 ∷ [])
       end5
-      ∷ game (storeOf 0 0 (freeSlots 24))
-      (applying 1 (insert (keyOf 104 0) (valueOf 3) ∷ delete (keyOf 192 0) ∷ delete (keyOf 255 0) ∷ []) ∷ pruning 1 ∷ pruning 2 ∷ applying 2 (delete (keyOf 255 0) ∷ []) ∷ [])
+      ∷ game (store_of 0 0 (free_slots 24))
+      (applying 1 (insert (key_of 104 0) (value_of 3) ∷ delete (key_of 192 0) ∷ delete (key_of 255 0) ∷ []) ∷ pruning 1 ∷ pruning 2 ∷ applying 2 (delete (key_of 255 0) ∷ []) ∷ [])
       (made 1 h38 1 ∷ freed 0 ∷ denied 8 ∷ made 2 h38 1 ∷ [])
       end6
-      ∷ game (storeOf 4294967293 4294967293 (freeSlots 12))
-      (applying 4294967294 (insert (keyOf 255 0) (valueOf 1) ∷ []) ∷ pruning 4294967294 ∷ applying 4294967295 ([]) ∷ pruning 4294967293 ∷ applying 4294967295 ([]) ∷ pruning 4294967296 ∷ applying 3618347287 (insert (keyOf 254 0) (valueOf 3) ∷ delete (keyOf 192 0) ∷ insert (keyOf 0 0) (valueOf 2) ∷ []) ∷ applying 4294967295 (insert (keyOf 192 0) (valueOf 1) ∷ insert (keyOf 255 0) (valueOf 1) ∷ []) ∷ applying 4294967295 (delete (keyOf 0 0) ∷ insert (keyOf 96 0) (valueOf 4) ∷ []) ∷ applying 4294967295 (insert (keyOf 254 0) (valueOf 4) ∷ []) ∷ [])
+      ∷ game (store_of 4294967293 4294967293 (free_slots 12))
+      (applying 4294967294 (insert (key_of 255 0) (value_of 1) ∷ []) ∷ pruning 4294967294 ∷ applying 4294967295 ([]) ∷ pruning 4294967293 ∷ applying 4294967295 ([]) ∷ pruning 4294967296 ∷ applying 3618347287 (insert (key_of 254 0) (value_of 3) ∷ delete (key_of 192 0) ∷ insert (key_of 0 0) (value_of 2) ∷ []) ∷ applying 4294967295 (insert (key_of 192 0) (value_of 1) ∷ insert (key_of 255 0) (value_of 1) ∷ []) ∷ applying 4294967295 (delete (key_of 0 0) ∷ insert (key_of 96 0) (value_of 4) ∷ []) ∷ applying 4294967295 (insert (key_of 254 0) (value_of 4) ∷ []) ∷ [])
       (made 4294967294 h39 1 ∷ freed 0 ∷ made 4294967295 h39 1 ∷ denied 8 ∷ denied 18 ∷ denied 8 ∷ denied 5 ∷ denied 18 ∷ denied 18 ∷ denied 18 ∷ [])
       end7
-      ∷ game (storeOf 0 0 (freeSlots 12))
-      (applying 1 (insert (keyOf 104 0) (valueOf 3) ∷ []) ∷ applying 3 (delete (keyOf 16 0) ∷ []) ∷ applying 4 (insert (keyOf 16 0) (valueOf 4) ∷ []) ∷ applying 5 (insert (keyOf 16 0) (valueOf 1) ∷ []) ∷ applying 8 (insert (keyOf 104 0) (valueOf 3) ∷ []) ∷ applying 9 (insert (keyOf 16 0) (valueOf 1) ∷ []) ∷ pruning 2 ∷ applying 10 (insert (keyOf 104 0) (valueOf 4) ∷ []) ∷ [])
+      ∷ game (store_of 0 0 (free_slots 12))
+      (applying 1 (insert (key_of 104 0) (value_of 3) ∷ []) ∷ applying 3 (delete (key_of 16 0) ∷ []) ∷ applying 4 (insert (key_of 16 0) (value_of 4) ∷ []) ∷ applying 5 (insert (key_of 16 0) (value_of 1) ∷ []) ∷ applying 8 (insert (key_of 104 0) (value_of 3) ∷ []) ∷ applying 9 (insert (key_of 16 0) (value_of 1) ∷ []) ∷ pruning 2 ∷ applying 10 (insert (key_of 104 0) (value_of 4) ∷ []) ∷ [])
       (made 1 h38 1 ∷ made 3 h38 1 ∷ made 4 h44 4 ∷ made 5 h45 3 ∷ made 8 h45 1 ∷ made 9 h45 1 ∷ freed 0 ∷ denied 7 ∷ [])
       end8
-      ∷ game (storeOf 0 0 (freeSlots 8))
-      (pruning 1 ∷ applying 5 (insert (keyOf 0 0) (valueOf 1) ∷ insert (keyOf 104 0) (valueOf 1) ∷ insert (keyOf 192 0) (valueOf 2) ∷ []) ∷ applying 8 (insert (keyOf 0 0) (valueOf 4) ∷ insert (keyOf 8 0) (valueOf 2) ∷ insert (keyOf 192 0) (valueOf 2) ∷ []) ∷ applying 8 ([]) ∷ pruning 0 ∷ applying 11 (insert (keyOf 0 0) (valueOf 2) ∷ insert (keyOf 104 0) (valueOf 1) ∷ []) ∷ [])
+      ∷ game (store_of 0 0 (free_slots 8))
+      (pruning 1 ∷ applying 5 (insert (key_of 0 0) (value_of 1) ∷ insert (key_of 104 0) (value_of 1) ∷ insert (key_of 192 0) (value_of 2) ∷ []) ∷ applying 8 (insert (key_of 0 0) (value_of 4) ∷ insert (key_of 8 0) (value_of 2) ∷ insert (key_of 192 0) (value_of 2) ∷ []) ∷ applying 8 ([]) ∷ pruning 0 ∷ applying 11 (insert (key_of 0 0) (value_of 2) ∷ insert (key_of 104 0) (value_of 1) ∷ []) ∷ [])
       (denied 8 ∷ made 5 h48 5 ∷ denied 7 ∷ made 8 h48 1 ∷ freed 0 ∷ denied 7 ∷ [])
       end9
-      ∷ game (storeOf 0 0 (freeSlots 12))
-      (applying 1 (insert (keyOf 16 0) (valueOf 2) ∷ []) ∷ applying 4 (delete (keyOf 16 0) ∷ insert (keyOf 254 0) (valueOf 1) ∷ []) ∷ pruning 5 ∷ applying 5 (delete (keyOf 104 0) ∷ []) ∷ applying 6 (insert (keyOf 16 0) (valueOf 3) ∷ delete (keyOf 104 0) ∷ []) ∷ applying 7 (insert (keyOf 144 0) (valueOf 3) ∷ insert (keyOf 254 0) (valueOf 3) ∷ []) ∷ applying 8 (delete (keyOf 96 0) ∷ insert (keyOf 144 0) (valueOf 3) ∷ []) ∷ pruning 1 ∷ applying 9 (insert (keyOf 0 0) (valueOf 1) ∷ delete (keyOf 104 0) ∷ insert (keyOf 254 0) (valueOf 4) ∷ []) ∷ [])
+      ∷ game (store_of 0 0 (free_slots 12))
+      (applying 1 (insert (key_of 16 0) (value_of 2) ∷ []) ∷ applying 4 (delete (key_of 16 0) ∷ insert (key_of 254 0) (value_of 1) ∷ []) ∷ pruning 5 ∷ applying 5 (delete (key_of 104 0) ∷ []) ∷ applying 6 (insert (key_of 16 0) (value_of 3) ∷ delete (key_of 104 0) ∷ []) ∷ applying 7 (insert (key_of 144 0) (value_of 3) ∷ insert (key_of 254 0) (value_of 3) ∷ []) ∷ applying 8 (delete (key_of 96 0) ∷ insert (key_of 144 0) (value_of 3) ∷ []) ∷ pruning 1 ∷ applying 9 (insert (key_of 0 0) (value_of 1) ∷ delete (key_of 104 0) ∷ insert (key_of 254 0) (value_of 4) ∷ []) ∷ [])
       (made 1 h54 1 ∷ made 4 h50 1 ∷ denied 8 ∷ made 5 h50 1 ∷ made 6 h55 3 ∷ made 7 h56 4 ∷ made 8 h56 1 ∷ freed 0 ∷ denied 7 ∷ [])
       end10
-      ∷ game (storeOf 0 0 (freeSlots 4))
-      (pruning 1 ∷ pruning 0 ∷ pruning 1 ∷ applying 1 (delete (keyOf 128 0) ∷ []) ∷ [])
+      ∷ game (store_of 0 0 (free_slots 4))
+      (pruning 1 ∷ pruning 0 ∷ pruning 1 ∷ applying 1 (delete (key_of 128 0) ∷ []) ∷ [])
       (denied 8 ∷ freed 0 ∷ denied 8 ∷ made 1 zeros 0 ∷ [])
       end11
-      ∷ game (storeOf 0 0 (freeSlots 4))
-      (applying 1 (delete (keyOf 8 0) ∷ delete (keyOf 16 0) ∷ []) ∷ applying 6 (delete (keyOf 8 0) ∷ delete (keyOf 16 0) ∷ delete (keyOf 104 0) ∷ []) ∷ applying 6 (insert (keyOf 8 0) (valueOf 2) ∷ delete (keyOf 16 0) ∷ []) ∷ pruning 6 ∷ applying 7 ([]) ∷ applying 6 (insert (keyOf 8 0) (valueOf 3) ∷ delete (keyOf 104 0) ∷ []) ∷ applying 9 ([]) ∷ applying 13 (delete (keyOf 8 0) ∷ []) ∷ [])
+      ∷ game (store_of 0 0 (free_slots 4))
+      (applying 1 (delete (key_of 8 0) ∷ delete (key_of 16 0) ∷ []) ∷ applying 6 (delete (key_of 8 0) ∷ delete (key_of 16 0) ∷ delete (key_of 104 0) ∷ []) ∷ applying 6 (insert (key_of 8 0) (value_of 2) ∷ delete (key_of 16 0) ∷ []) ∷ pruning 6 ∷ applying 7 ([]) ∷ applying 6 (insert (key_of 8 0) (value_of 3) ∷ delete (key_of 104 0) ∷ []) ∷ applying 9 ([]) ∷ applying 13 (delete (key_of 8 0) ∷ []) ∷ [])
       (made 1 zeros 0 ∷ made 6 zeros 0 ∷ denied 18 ∷ freed 0 ∷ made 7 zeros 0 ∷ denied 18 ∷ made 9 zeros 0 ∷ made 13 zeros 0 ∷ [])
       end12
-      ∷ game (storeOf 0 0 (freeSlots 12))
-      (applying 0 (insert (keyOf 104 0) (valueOf 1) ∷ []) ∷ applying 1 (insert (keyOf 192 0) (valueOf 1) ∷ []) ∷ pruning 1 ∷ applying 2 (insert (keyOf 64 0) (valueOf 4) ∷ insert (keyOf 104 0) (valueOf 1) ∷ []) ∷ applying 3 ([]) ∷ pruning 4 ∷ pruning 4 ∷ [])
+      ∷ game (store_of 0 0 (free_slots 12))
+      (applying 0 (insert (key_of 104 0) (value_of 1) ∷ []) ∷ applying 1 (insert (key_of 192 0) (value_of 1) ∷ []) ∷ pruning 1 ∷ applying 2 (insert (key_of 64 0) (value_of 4) ∷ insert (key_of 104 0) (value_of 1) ∷ []) ∷ applying 3 ([]) ∷ pruning 4 ∷ pruning 4 ∷ [])
       (denied 18 ∷ made 1 h23 1 ∷ freed 0 ∷ made 2 h60 6 ∷ made 3 h60 1 ∷ denied 8 ∷ denied 8 ∷ [])
       end13
-      ∷ game (storeOf 4294967293 4294967293 (freeSlots 8))
-      (applying 4294967294 (insert (keyOf 8 0) (valueOf 2) ∷ []) ∷ applying 4294967295 (insert (keyOf 8 0) (valueOf 3) ∷ []) ∷ applying 4294967295 (insert (keyOf 8 0) (valueOf 3) ∷ insert (keyOf 64 0) (valueOf 1) ∷ insert (keyOf 96 0) (valueOf 2) ∷ delete (keyOf 104 0) ∷ insert (keyOf 255 0) (valueOf 3) ∷ []) ∷ pruning 4294967295 ∷ [])
+      ∷ game (store_of 4294967293 4294967293 (free_slots 8))
+      (applying 4294967294 (insert (key_of 8 0) (value_of 2) ∷ []) ∷ applying 4294967295 (insert (key_of 8 0) (value_of 3) ∷ []) ∷ applying 4294967295 (insert (key_of 8 0) (value_of 3) ∷ insert (key_of 64 0) (value_of 1) ∷ insert (key_of 96 0) (value_of 2) ∷ delete (key_of 104 0) ∷ insert (key_of 255 0) (value_of 3) ∷ []) ∷ pruning 4294967295 ∷ [])
       (made 4294967294 h22 1 ∷ made 4294967295 h14 1 ∷ denied 18 ∷ freed 1 ∷ [])
       end14
-      ∷ game (storeOf 0 0 (freeSlots 12))
-      (pruning 0 ∷ applying 1 ([]) ∷ applying 2 (insert (keyOf 128 0) (valueOf 2) ∷ delete (keyOf 255 0) ∷ []) ∷ applying 3 ([]) ∷ [])
+      ∷ game (store_of 0 0 (free_slots 12))
+      (pruning 0 ∷ applying 1 ([]) ∷ applying 2 (insert (key_of 128 0) (value_of 2) ∷ delete (key_of 255 0) ∷ []) ∷ applying 3 ([]) ∷ [])
       (freed 0 ∷ made 1 zeros 0 ∷ made 2 h61 1 ∷ made 3 h61 1 ∷ [])
       end15
-      ∷ game (storeOf 0 0 (freeSlots 4))
-      (applying 1 (insert (keyOf 8 0) (valueOf 3) ∷ delete (keyOf 16 0) ∷ insert (keyOf 104 0) (valueOf 3) ∷ insert (keyOf 254 0) (valueOf 1) ∷ []) ∷ applying 1 (delete (keyOf 16 0) ∷ []) ∷ applying 5 (insert (keyOf 8 0) (valueOf 3) ∷ delete (keyOf 16 0) ∷ delete (keyOf 254 0) ∷ []) ∷ pruning 5 ∷ [])
+      ∷ game (store_of 0 0 (free_slots 4))
+      (applying 1 (insert (key_of 8 0) (value_of 3) ∷ delete (key_of 16 0) ∷ insert (key_of 104 0) (value_of 3) ∷ insert (key_of 254 0) (value_of 1) ∷ []) ∷ applying 1 (delete (key_of 16 0) ∷ []) ∷ applying 5 (insert (key_of 8 0) (value_of 3) ∷ delete (key_of 16 0) ∷ delete (key_of 254 0) ∷ []) ∷ pruning 5 ∷ [])
       (denied 7 ∷ made 1 zeros 0 ∷ made 5 h14 1 ∷ freed 0 ∷ [])
       end16
-      ∷ game (storeOf 0 0 (freeSlots 4))
-      (pruning 0 ∷ applying 2 (insert (keyOf 8 0) (valueOf 2) ∷ delete (keyOf 254 0) ∷ []) ∷ applying 4 (insert (keyOf 254 0) (valueOf 2) ∷ []) ∷ applying 5 (insert (keyOf 8 0) (valueOf 2) ∷ insert (keyOf 254 0) (valueOf 1) ∷ []) ∷ applying 9 (insert (keyOf 8 0) (valueOf 4) ∷ []) ∷ applying 5 ([]) ∷ [])
+      ∷ game (store_of 0 0 (free_slots 4))
+      (pruning 0 ∷ applying 2 (insert (key_of 8 0) (value_of 2) ∷ delete (key_of 254 0) ∷ []) ∷ applying 4 (insert (key_of 254 0) (value_of 2) ∷ []) ∷ applying 5 (insert (key_of 8 0) (value_of 2) ∷ insert (key_of 254 0) (value_of 1) ∷ []) ∷ applying 9 (insert (key_of 8 0) (value_of 4) ∷ []) ∷ applying 5 ([]) ∷ [])
       (freed 0 ∷ made 2 h22 1 ∷ made 4 h63 3 ∷ denied 7 ∷ denied 7 ∷ denied 7 ∷ [])
       end17
-      ∷ game (storeOf 0 0 (freeSlots 16))
-      (applying 1 (insert (keyOf 0 0) (valueOf 3) ∷ []) ∷ applying 3 (insert (keyOf 104 0) (valueOf 2) ∷ insert (keyOf 192 0) (valueOf 3) ∷ delete (keyOf 255 0) ∷ []) ∷ applying 8 (insert (keyOf 104 0) (valueOf 2) ∷ []) ∷ pruning 7 ∷ applying 11 (insert (keyOf 0 0) (valueOf 3) ∷ delete (keyOf 192 0) ∷ []) ∷ applying 12 (insert (keyOf 255 0) (valueOf 2) ∷ []) ∷ pruning 9 ∷ applying 17 (insert (keyOf 104 0) (valueOf 2) ∷ insert (keyOf 255 0) (valueOf 4) ∷ []) ∷ applying 19 (delete (keyOf 0 0) ∷ insert (keyOf 104 0) (valueOf 2) ∷ []) ∷ applying 21 (insert (keyOf 0 0) (valueOf 2) ∷ insert (keyOf 104 0) (valueOf 3) ∷ delete (keyOf 255 0) ∷ []) ∷ [])
+      ∷ game (store_of 0 0 (free_slots 16))
+      (applying 1 (insert (key_of 0 0) (value_of 3) ∷ []) ∷ applying 3 (insert (key_of 104 0) (value_of 2) ∷ insert (key_of 192 0) (value_of 3) ∷ delete (key_of 255 0) ∷ []) ∷ applying 8 (insert (key_of 104 0) (value_of 2) ∷ []) ∷ pruning 7 ∷ applying 11 (insert (key_of 0 0) (value_of 3) ∷ delete (key_of 192 0) ∷ []) ∷ applying 12 (insert (key_of 255 0) (value_of 2) ∷ []) ∷ pruning 9 ∷ applying 17 (insert (key_of 104 0) (value_of 2) ∷ insert (key_of 255 0) (value_of 4) ∷ []) ∷ applying 19 (delete (key_of 0 0) ∷ insert (key_of 104 0) (value_of 2) ∷ []) ∷ applying 21 (insert (key_of 0 0) (value_of 2) ∷ insert (key_of 104 0) (value_of 3) ∷ delete (key_of 255 0) ∷ []) ∷ [])
       (made 1 h64 1 ∷ made 3 h71 5 ∷ made 8 h71 1 ∷ freed 1 ∷ made 11 h72 1 ∷ made 12 h73 2 ∷ freed 1 ∷ made 17 h74 2 ∷ made 19 h75 2 ∷ made 21 h76 4 ∷ [])
       end18
-      ∷ game (storeOf 0 0 (freeSlots 12))
-      (applying 1 (insert (keyOf 8 0) (valueOf 4) ∷ []) ∷ pruning 1 ∷ applying 2 (insert (keyOf 16 0) (valueOf 2) ∷ insert (keyOf 8 0) (valueOf 4) ∷ []) ∷ pruning 1 ∷ applying 2 (insert (keyOf 8 0) (valueOf 3) ∷ insert (keyOf 16 0) (valueOf 3) ∷ []) ∷ pruning 3 ∷ pruning 2 ∷ applying 3 (delete (keyOf 16 0) ∷ []) ∷ applying 4 (delete (keyOf 16 0) ∷ []) ∷ applying 2 ([]) ∷ [])
+      ∷ game (store_of 0 0 (free_slots 12))
+      (applying 1 (insert (key_of 8 0) (value_of 4) ∷ []) ∷ pruning 1 ∷ applying 2 (insert (key_of 16 0) (value_of 2) ∷ insert (key_of 8 0) (value_of 4) ∷ []) ∷ pruning 1 ∷ applying 2 (insert (key_of 8 0) (value_of 3) ∷ insert (key_of 16 0) (value_of 3) ∷ []) ∷ pruning 3 ∷ pruning 2 ∷ applying 3 (delete (key_of 16 0) ∷ []) ∷ applying 4 (delete (key_of 16 0) ∷ []) ∷ applying 2 ([]) ∷ [])
       (made 1 h80 1 ∷ freed 0 ∷ denied 5 ∷ freed 0 ∷ made 2 h81 6 ∷ denied 8 ∷ freed 1 ∷ made 3 h14 1 ∷ made 4 h14 1 ∷ denied 18 ∷ [])
       end19
-      ∷ game (storeOf 0 0 (freeSlots 12))
-      (pruning 1 ∷ applying 2 (insert (keyOf 96 0) (valueOf 3) ∷ delete (keyOf 254 0) ∷ delete (keyOf 255 0) ∷ []) ∷ pruning 0 ∷ applying 3 (delete (keyOf 96 0) ∷ []) ∷ applying 5 (insert (keyOf 144 0) (valueOf 1) ∷ insert (keyOf 255 0) (valueOf 4) ∷ []) ∷ pruning 6 ∷ pruning 5 ∷ applying 10 (insert (keyOf 144 0) (valueOf 1) ∷ insert (keyOf 254 0) (valueOf 1) ∷ []) ∷ applying 6 (delete (keyOf 254 0) ∷ []) ∷ applying 8 (insert (keyOf 254 0) (valueOf 1) ∷ []) ∷ [])
+      ∷ game (store_of 0 0 (free_slots 12))
+      (pruning 1 ∷ applying 2 (insert (key_of 96 0) (value_of 3) ∷ delete (key_of 254 0) ∷ delete (key_of 255 0) ∷ []) ∷ pruning 0 ∷ applying 3 (delete (key_of 96 0) ∷ []) ∷ applying 5 (insert (key_of 144 0) (value_of 1) ∷ insert (key_of 255 0) (value_of 4) ∷ []) ∷ pruning 6 ∷ pruning 5 ∷ applying 10 (insert (key_of 144 0) (value_of 1) ∷ insert (key_of 254 0) (value_of 1) ∷ []) ∷ applying 6 (delete (key_of 254 0) ∷ []) ∷ applying 8 (insert (key_of 254 0) (value_of 1) ∷ []) ∷ [])
       (denied 8 ∷ made 2 h26 1 ∷ freed 0 ∷ made 3 zeros 0 ∷ made 5 h84 4 ∷ denied 8 ∷ freed 1 ∷ denied 7 ∷ made 6 h84 1 ∷ denied 7 ∷ [])
       end20
-      ∷ game (storeOf 0 0 (freeSlots 24))
-      (applying 1 (delete (keyOf 96 0) ∷ delete (keyOf 128 0) ∷ []) ∷ applying 3 ([]) ∷ applying 4 (delete (keyOf 255 0) ∷ []) ∷ applying 5 (delete (keyOf 16 0) ∷ delete (keyOf 128 0) ∷ insert (keyOf 144 0) (valueOf 1) ∷ delete (keyOf 254 0) ∷ insert (keyOf 255 0) (valueOf 1) ∷ []) ∷ applying 6 (delete (keyOf 96 0) ∷ delete (keyOf 128 0) ∷ []) ∷ applying 7 (insert (keyOf 96 0) (valueOf 1) ∷ delete (keyOf 254 0) ∷ []) ∷ pruning 7 ∷ [])
+      ∷ game (store_of 0 0 (free_slots 24))
+      (applying 1 (delete (key_of 96 0) ∷ delete (key_of 128 0) ∷ []) ∷ applying 3 ([]) ∷ applying 4 (delete (key_of 255 0) ∷ []) ∷ applying 5 (delete (key_of 16 0) ∷ delete (key_of 128 0) ∷ insert (key_of 144 0) (value_of 1) ∷ delete (key_of 254 0) ∷ insert (key_of 255 0) (value_of 1) ∷ []) ∷ applying 6 (delete (key_of 96 0) ∷ delete (key_of 128 0) ∷ []) ∷ applying 7 (insert (key_of 96 0) (value_of 1) ∷ delete (key_of 254 0) ∷ []) ∷ pruning 7 ∷ [])
       (made 1 zeros 0 ∷ made 3 zeros 0 ∷ made 4 zeros 0 ∷ made 5 h86 4 ∷ made 6 h86 1 ∷ made 7 h87 2 ∷ freed 2 ∷ [])
       end21
-      ∷ game (storeOf 4294967293 4294967293 (freeSlots 8))
-      (applying 4294967294 (insert (keyOf 8 0) (valueOf 2) ∷ []) ∷ applying 4294967295 (insert (keyOf 144 0) (valueOf 3) ∷ []) ∷ applying 4294967295 (insert (keyOf 255 0) (valueOf 1) ∷ []) ∷ applying 4294967295 (delete (keyOf 8 0) ∷ []) ∷ pruning 4294967296 ∷ [])
+      ∷ game (store_of 4294967293 4294967293 (free_slots 8))
+      (applying 4294967294 (insert (key_of 8 0) (value_of 2) ∷ []) ∷ applying 4294967295 (insert (key_of 144 0) (value_of 3) ∷ []) ∷ applying 4294967295 (insert (key_of 255 0) (value_of 1) ∷ []) ∷ applying 4294967295 (delete (key_of 8 0) ∷ []) ∷ pruning 4294967296 ∷ [])
       (made 4294967294 h22 1 ∷ made 4294967295 h88 3 ∷ denied 18 ∷ denied 18 ∷ denied 8 ∷ [])
       end22
-      ∷ game (storeOf 4294967293 4294967293 (freeSlots 12))
-      (applying 4294967294 (insert (keyOf 96 0) (valueOf 2) ∷ delete (keyOf 144 0) ∷ []) ∷ applying 4294967295 (insert (keyOf 96 0) (valueOf 4) ∷ delete (keyOf 144 0) ∷ delete (keyOf 255 0) ∷ []) ∷ applying 4294967295 (delete (keyOf 64 0) ∷ []) ∷ applying 4294967295 (delete (keyOf 96 0) ∷ []) ∷ applying 4294967295 (delete (keyOf 144 0) ∷ insert (keyOf 255 0) (valueOf 2) ∷ []) ∷ applying 4294967295 (insert (keyOf 64 0) (valueOf 1) ∷ []) ∷ pruning 4294967295 ∷ applying 4294967295 ([]) ∷ [])
+      ∷ game (store_of 4294967293 4294967293 (free_slots 12))
+      (applying 4294967294 (insert (key_of 96 0) (value_of 2) ∷ delete (key_of 144 0) ∷ []) ∷ applying 4294967295 (insert (key_of 96 0) (value_of 4) ∷ delete (key_of 144 0) ∷ delete (key_of 255 0) ∷ []) ∷ applying 4294967295 (delete (key_of 64 0) ∷ []) ∷ applying 4294967295 (delete (key_of 96 0) ∷ []) ∷ applying 4294967295 (delete (key_of 144 0) ∷ insert (key_of 255 0) (value_of 2) ∷ []) ∷ applying 4294967295 (insert (key_of 64 0) (value_of 1) ∷ []) ∷ pruning 4294967295 ∷ applying 4294967295 ([]) ∷ [])
       (made 4294967294 h89 1 ∷ made 4294967295 h90 1 ∷ denied 18 ∷ denied 18 ∷ denied 18 ∷ denied 18 ∷ freed 1 ∷ denied 18 ∷ [])
       end23
-      ∷ game (storeOf 4294967293 4294967293 (freeSlots 4))
-      (pruning 4294967294 ∷ applying 4294967295 ([]) ∷ applying 4294967295 (delete (keyOf 8 0) ∷ insert (keyOf 64 0) (valueOf 4) ∷ []) ∷ applying 4294967295 ([]) ∷ applying 4294967295 (insert (keyOf 8 0) (valueOf 3) ∷ []) ∷ applying 4294967295 (insert (keyOf 8 0) (valueOf 3) ∷ []) ∷ applying 4294967295 (insert (keyOf 8 0) (valueOf 3) ∷ insert (keyOf 64 0) (valueOf 1) ∷ []) ∷ applying 4294967295 ([]) ∷ pruning 4294967295 ∷ [])
+      ∷ game (store_of 4294967293 4294967293 (free_slots 4))
+      (pruning 4294967294 ∷ applying 4294967295 ([]) ∷ applying 4294967295 (delete (key_of 8 0) ∷ insert (key_of 64 0) (value_of 4) ∷ []) ∷ applying 4294967295 ([]) ∷ applying 4294967295 (insert (key_of 8 0) (value_of 3) ∷ []) ∷ applying 4294967295 (insert (key_of 8 0) (value_of 3) ∷ []) ∷ applying 4294967295 (insert (key_of 8 0) (value_of 3) ∷ insert (key_of 64 0) (value_of 1) ∷ []) ∷ applying 4294967295 ([]) ∷ pruning 4294967295 ∷ [])
       (denied 8 ∷ made 4294967295 zeros 0 ∷ denied 18 ∷ denied 18 ∷ denied 18 ∷ denied 18 ∷ denied 18 ∷ denied 18 ∷ freed 0 ∷ [])
       end24
-      ∷ game (storeOf 0 0 (freeSlots 8))
-      (pruning 0 ∷ applying 1 (insert (keyOf 144 0) (valueOf 1) ∷ []) ∷ applying 2 (insert (keyOf 144 0) (valueOf 1) ∷ []) ∷ applying 3 (insert (keyOf 64 0) (valueOf 4) ∷ insert (keyOf 254 0) (valueOf 3) ∷ []) ∷ applying 4 (insert (keyOf 104 0) (valueOf 2) ∷ []) ∷ applying 4 (delete (keyOf 255 0) ∷ []) ∷ pruning 4 ∷ applying 0 (insert (keyOf 64 0) (valueOf 4) ∷ delete (keyOf 104 0) ∷ []) ∷ applying 5 (insert (keyOf 254 0) (valueOf 4) ∷ insert (keyOf 255 0) (valueOf 1) ∷ []) ∷ [])
+      ∷ game (store_of 0 0 (free_slots 8))
+      (pruning 0 ∷ applying 1 (insert (key_of 144 0) (value_of 1) ∷ []) ∷ applying 2 (insert (key_of 144 0) (value_of 1) ∷ []) ∷ applying 3 (insert (key_of 64 0) (value_of 4) ∷ insert (key_of 254 0) (value_of 3) ∷ []) ∷ applying 4 (insert (key_of 104 0) (value_of 2) ∷ []) ∷ applying 4 (delete (key_of 255 0) ∷ []) ∷ pruning 4 ∷ applying 0 (insert (key_of 64 0) (value_of 4) ∷ delete (key_of 104 0) ∷ []) ∷ applying 5 (insert (key_of 254 0) (value_of 4) ∷ insert (key_of 255 0) (value_of 1) ∷ []) ∷ [])
       (freed 0 ∷ made 1 h82 1 ∷ made 2 h82 1 ∷ made 3 h92 5 ∷ denied 7 ∷ made 4 h92 1 ∷ freed 3 ∷ denied 18 ∷ denied 7 ∷ [])
       end25
-      ∷ game (storeOf 0 0 (freeSlots 24))
-      (applying 4 (insert (keyOf 104 0) (valueOf 4) ∷ delete (keyOf 192 0) ∷ []) ∷ applying 5 (delete (keyOf 96 0) ∷ insert (keyOf 128 0) (valueOf 3) ∷ delete (keyOf 192 0) ∷ []) ∷ applying 6 (insert (keyOf 128 0) (valueOf 3) ∷ []) ∷ pruning 4 ∷ applying 7 (delete (keyOf 96 0) ∷ []) ∷ applying 8 (insert (keyOf 128 0) (valueOf 4) ∷ []) ∷ applying 9 ([]) ∷ [])
+      ∷ game (store_of 0 0 (free_slots 24))
+      (applying 4 (insert (key_of 104 0) (value_of 4) ∷ delete (key_of 192 0) ∷ []) ∷ applying 5 (delete (key_of 96 0) ∷ insert (key_of 128 0) (value_of 3) ∷ delete (key_of 192 0) ∷ []) ∷ applying 6 (insert (key_of 128 0) (value_of 3) ∷ []) ∷ pruning 4 ∷ applying 7 (delete (key_of 96 0) ∷ []) ∷ applying 8 (insert (key_of 128 0) (value_of 4) ∷ []) ∷ applying 9 ([]) ∷ [])
       (made 4 h93 1 ∷ made 5 h95 3 ∷ made 6 h95 1 ∷ freed 0 ∷ made 7 h95 1 ∷ made 8 h96 2 ∷ made 9 h96 1 ∷ [])
       end26
-      ∷ game (storeOf 0 0 (freeSlots 4))
-      (applying 2 (insert (keyOf 16 0) (valueOf 2) ∷ []) ∷ applying 3 (insert (keyOf 16 0) (valueOf 1) ∷ []) ∷ applying 4 (insert (keyOf 104 0) (valueOf 2) ∷ delete (keyOf 144 0) ∷ []) ∷ pruning 0 ∷ applying 4 ([]) ∷ applying 9 (insert (keyOf 16 0) (valueOf 1) ∷ []) ∷ applying 10 (insert (keyOf 16 0) (valueOf 2) ∷ []) ∷ applying 13 (delete (keyOf 104 0) ∷ []) ∷ pruning 2 ∷ [])
+      ∷ game (store_of 0 0 (free_slots 4))
+      (applying 2 (insert (key_of 16 0) (value_of 2) ∷ []) ∷ applying 3 (insert (key_of 16 0) (value_of 1) ∷ []) ∷ applying 4 (insert (key_of 104 0) (value_of 2) ∷ delete (key_of 144 0) ∷ []) ∷ pruning 0 ∷ applying 4 ([]) ∷ applying 9 (insert (key_of 16 0) (value_of 1) ∷ []) ∷ applying 10 (insert (key_of 16 0) (value_of 2) ∷ []) ∷ applying 13 (delete (key_of 104 0) ∷ []) ∷ pruning 2 ∷ [])
       (made 2 h54 1 ∷ made 3 h42 1 ∷ denied 7 ∷ freed 0 ∷ made 4 h42 1 ∷ made 9 h42 1 ∷ denied 7 ∷ denied 7 ∷ freed 0 ∷ [])
       end27
-      ∷ game (storeOf 0 0 (freeSlots 8))
-      (applying 2 (delete (keyOf 96 0) ∷ []) ∷ applying 5 (delete (keyOf 96 0) ∷ []) ∷ applying 10 (delete (keyOf 0 0) ∷ insert (keyOf 96 0) (valueOf 1) ∷ delete (keyOf 128 0) ∷ []) ∷ pruning 9 ∷ applying 11 (delete (keyOf 255 0) ∷ insert (keyOf 128 0) (valueOf 3) ∷ []) ∷ applying 13 (delete (keyOf 0 0) ∷ insert (keyOf 255 0) (valueOf 1) ∷ []) ∷ [])
+      ∷ game (store_of 0 0 (free_slots 8))
+      (applying 2 (delete (key_of 96 0) ∷ []) ∷ applying 5 (delete (key_of 96 0) ∷ []) ∷ applying 10 (delete (key_of 0 0) ∷ insert (key_of 96 0) (value_of 1) ∷ delete (key_of 128 0) ∷ []) ∷ pruning 9 ∷ applying 11 (delete (key_of 255 0) ∷ insert (key_of 128 0) (value_of 3) ∷ []) ∷ applying 13 (delete (key_of 0 0) ∷ insert (key_of 255 0) (value_of 1) ∷ []) ∷ [])
       (made 2 zeros 0 ∷ made 5 zeros 0 ∷ made 10 h24 1 ∷ freed 0 ∷ denied 5 ∷ made 13 h97 3 ∷ [])
       end28
-      ∷ game (storeOf 0 0 (freeSlots 16))
-      (applying 3 (delete (keyOf 8 0) ∷ delete (keyOf 254 0) ∷ []) ∷ applying 4 (insert (keyOf 8 0) (valueOf 3) ∷ []) ∷ applying 6 (insert (keyOf 8 0) (valueOf 4) ∷ insert (keyOf 192 0) (valueOf 3) ∷ []) ∷ applying 4 (insert (keyOf 64 0) (valueOf 1) ∷ insert (keyOf 96 0) (valueOf 2) ∷ []) ∷ applying 7 (delete (keyOf 104 0) ∷ insert (keyOf 192 0) (valueOf 4) ∷ []) ∷ applying 10 (delete (keyOf 64 0) ∷ delete (keyOf 104 0) ∷ insert (keyOf 192 0) (valueOf 1) ∷ []) ∷ [])
+      ∷ game (store_of 0 0 (free_slots 16))
+      (applying 3 (delete (key_of 8 0) ∷ delete (key_of 254 0) ∷ []) ∷ applying 4 (insert (key_of 8 0) (value_of 3) ∷ []) ∷ applying 6 (insert (key_of 8 0) (value_of 4) ∷ insert (key_of 192 0) (value_of 3) ∷ []) ∷ applying 4 (insert (key_of 64 0) (value_of 1) ∷ insert (key_of 96 0) (value_of 2) ∷ []) ∷ applying 7 (delete (key_of 104 0) ∷ insert (key_of 192 0) (value_of 4) ∷ []) ∷ applying 10 (delete (key_of 64 0) ∷ delete (key_of 104 0) ∷ insert (key_of 192 0) (value_of 1) ∷ []) ∷ [])
       (made 3 zeros 0 ∷ made 4 h14 1 ∷ made 6 h98 3 ∷ denied 18 ∷ made 7 h99 2 ∷ made 10 h100 2 ∷ [])
       end29
       ∷ []
 
-  pub histories4 : All (GameHolds leafHash innerHash) rows
+  pub histories4 : All (GameHolds leaf_hash inner_hash) rows
   unfolding computed
   histories4 = ((refl, refl), ((refl, refl), ((refl, refl), ((refl, refl), ((refl, refl), ((refl, refl), ((refl, refl), ((refl, refl), ((refl, refl), ((refl, refl), ((refl, refl), ((refl, refl), ((refl, refl), ((refl, refl), ((refl, refl), ((refl, refl), ((refl, refl), ((refl, refl), ((refl, refl), ((refl, refl), ((refl, refl), ((refl, refl), ((refl, refl), ((refl, refl), ((refl, refl), ((refl, refl), ((refl, refl), ((refl, refl), ((refl, refl), ((refl, refl), tt))))))))))))))))))))))))))))))

@@ -1,290 +1,290 @@
 -- Random histories, part 5. Written by tests/tables/generate.py; compared with a second reading of document 01, 2026-07 and 2026-13. Assumes nothing.
-use mathlib.Core.Path.{_≡_, refl}
+use mathlib.Core.Path.{◌≡◌, refl}
 use mathlib.Core.Bool.{true, false}
-use mathlib.Core.List.{List, [], _∷_}
+use mathlib.Core.List.{List, [], ◌∷◌}
 use mathlib.Core.Option.{none, some}
-use Rattle·terms.specs.Bits.{Bytes, All}
-use Rattle·terms.specs.Records.{insert, delete, free, Store, presence, zeros}
-use Rattle·meaning.specs.Computed.{computed}
-use Rattle·meaning.specs.Calls.{refused, accepted}
-use Rattle·meaning.specs.Desk.{keyOf}
-use Rattle·meaning.specs.Proving.{step, presenceOf, absenceOf}
-use Rattle·meaning.specs.Reading.{present, absent}
-use Rattle·tables·specs.specs.Tables.{Game, game, GameHolds, applying, pruning, made, freed, denied, leafSlot, innerSlot, storeOf, freeSlots, valueOf}
+use Rattle.terms.specs.Bits.{Bytes, All}
+use Rattle.terms.specs.Records.{insert, delete, free, Store, presence, zeros}
+use Rattle.meaning.specs.Computed.{computed}
+use Rattle.meaning.specs.Calls.{refused, accepted}
+use Rattle.meaning.specs.Desk.{key_of}
+use Rattle.meaning.specs.Proving.{step, presence_of, absence_of}
+use Rattle.meaning.specs.Reading.{present, absent}
+use Rattle.tables.specs.Tables.{Game, game, GameHolds, applying, pruning, made, freed, denied, leaf_slot, inner_slot, store_of, free_slots, value_of}
 
-module _ (leafHash innerHash : Bytes → Bytes → Bytes) where
+module _ (leaf_hash inner_hash : Bytes → Bytes → Bytes) where
   abbrev h0 : Bytes
-  h0 = leafHash (keyOf 128 0) (valueOf 4)
+  h0 = leaf_hash (key_of 128 0) (value_of 4)
 
   abbrev h1 : Bytes
-  h1 = leafHash (keyOf 254 0) (valueOf 4)
+  h1 = leaf_hash (key_of 254 0) (value_of 4)
 
   abbrev h2 : Bytes
-  h2 = innerHash h0 h1
+  h2 = inner_hash h0 h1
 
   abbrev h3 : Bytes
-  h3 = innerHash zeros h2
+  h3 = inner_hash zeros h2
 
   abbrev h4 : Bytes
-  h4 = leafHash (keyOf 64 0) (valueOf 2)
+  h4 = leaf_hash (key_of 64 0) (value_of 2)
 
   abbrev h5 : Bytes
-  h5 = leafHash (keyOf 144 0) (valueOf 2)
+  h5 = leaf_hash (key_of 144 0) (value_of 2)
 
   abbrev h6 : Bytes
-  h6 = leafHash (keyOf 192 0) (valueOf 4)
+  h6 = leaf_hash (key_of 192 0) (value_of 4)
 
   abbrev h7 : Bytes
-  h7 = leafHash (keyOf 128 0) (valueOf 1)
+  h7 = leaf_hash (key_of 128 0) (value_of 1)
 
   abbrev h8 : Bytes
-  h8 = leafHash (keyOf 16 0) (valueOf 1)
+  h8 = leaf_hash (key_of 16 0) (value_of 1)
 
   abbrev h9 : Bytes
-  h9 = leafHash (keyOf 192 0) (valueOf 2)
+  h9 = leaf_hash (key_of 192 0) (value_of 2)
 
   abbrev h10 : Bytes
-  h10 = innerHash h8 h9
+  h10 = inner_hash h8 h9
 
   abbrev h11 : Bytes
-  h11 = leafHash (keyOf 64 0) (valueOf 3)
+  h11 = leaf_hash (key_of 64 0) (value_of 3)
 
   abbrev h12 : Bytes
-  h12 = leafHash (keyOf 255 0) (valueOf 4)
+  h12 = leaf_hash (key_of 255 0) (value_of 4)
 
   abbrev h13 : Bytes
-  h13 = leafHash (keyOf 16 0) (valueOf 4)
+  h13 = leaf_hash (key_of 16 0) (value_of 4)
 
   abbrev h14 : Bytes
-  h14 = innerHash h11 h12
+  h14 = inner_hash h11 h12
 
   abbrev h15 : Bytes
-  h15 = leafHash (keyOf 254 0) (valueOf 2)
+  h15 = leaf_hash (key_of 254 0) (value_of 2)
 
   abbrev h16 : Bytes
-  h16 = leafHash (keyOf 255 0) (valueOf 3)
+  h16 = leaf_hash (key_of 255 0) (value_of 3)
 
   abbrev h17 : Bytes
-  h17 = leafHash (keyOf 104 0) (valueOf 4)
+  h17 = leaf_hash (key_of 104 0) (value_of 4)
 
   abbrev h18 : Bytes
-  h18 = innerHash h17 h0
+  h18 = inner_hash h17 h0
 
   abbrev h19 : Bytes
-  h19 = leafHash (keyOf 0 0) (valueOf 2)
+  h19 = leaf_hash (key_of 0 0) (value_of 2)
 
   abbrev h20 : Bytes
-  h20 = leafHash (keyOf 8 0) (valueOf 1)
+  h20 = leaf_hash (key_of 8 0) (value_of 1)
 
   abbrev h21 : Bytes
-  h21 = innerHash h19 h20
+  h21 = inner_hash h19 h20
 
   abbrev h22 : Bytes
-  h22 = innerHash h21 zeros
+  h22 = inner_hash h21 zeros
 
   abbrev h23 : Bytes
-  h23 = innerHash h22 zeros
+  h23 = inner_hash h22 zeros
 
   abbrev h24 : Bytes
-  h24 = leafHash (keyOf 104 0) (valueOf 3)
+  h24 = leaf_hash (key_of 104 0) (value_of 3)
 
   abbrev h25 : Bytes
-  h25 = innerHash h23 h24
+  h25 = inner_hash h23 h24
 
   abbrev h26 : Bytes
-  h26 = innerHash h25 zeros
+  h26 = inner_hash h25 zeros
 
   abbrev h27 : Bytes
-  h27 = leafHash (keyOf 0 0) (valueOf 3)
+  h27 = leaf_hash (key_of 0 0) (value_of 3)
 
   abbrev h28 : Bytes
-  h28 = leafHash (keyOf 64 0) (valueOf 4)
+  h28 = leaf_hash (key_of 64 0) (value_of 4)
 
   abbrev h29 : Bytes
-  h29 = innerHash h27 h28
+  h29 = inner_hash h27 h28
 
   abbrev h30 : Bytes
-  h30 = leafHash (keyOf 8 0) (valueOf 2)
+  h30 = leaf_hash (key_of 8 0) (value_of 2)
 
   abbrev h31 : Bytes
-  h31 = innerHash h29 zeros
+  h31 = inner_hash h29 zeros
 
   abbrev h32 : Bytes
-  h32 = leafHash (keyOf 192 0) (valueOf 3)
+  h32 = leaf_hash (key_of 192 0) (value_of 3)
 
   abbrev h33 : Bytes
-  h33 = leafHash (keyOf 8 0) (valueOf 3)
+  h33 = leaf_hash (key_of 8 0) (value_of 3)
 
   abbrev h34 : Bytes
-  h34 = innerHash h33 h5
+  h34 = inner_hash h33 h5
 
   abbrev h35 : Bytes
-  h35 = leafHash (keyOf 104 0) (valueOf 2)
+  h35 = leaf_hash (key_of 104 0) (value_of 2)
 
   abbrev h36 : Bytes
-  h36 = innerHash h35 h5
+  h36 = inner_hash h35 h5
 
   abbrev h37 : Bytes
-  h37 = leafHash (keyOf 144 0) (valueOf 1)
+  h37 = leaf_hash (key_of 144 0) (value_of 1)
 
   abbrev h38 : Bytes
-  h38 = leafHash (keyOf 128 0) (valueOf 2)
+  h38 = leaf_hash (key_of 128 0) (value_of 2)
 
   abbrev h39 : Bytes
-  h39 = innerHash h38 h37
+  h39 = inner_hash h38 h37
 
   abbrev h40 : Bytes
-  h40 = innerHash h39 zeros
+  h40 = inner_hash h39 zeros
 
   abbrev h41 : Bytes
-  h41 = innerHash h40 zeros
+  h41 = inner_hash h40 zeros
 
   abbrev h42 : Bytes
-  h42 = innerHash h7 h37
+  h42 = inner_hash h7 h37
 
   abbrev h43 : Bytes
-  h43 = innerHash h42 zeros
+  h43 = inner_hash h42 zeros
 
   abbrev h44 : Bytes
-  h44 = innerHash h43 zeros
+  h44 = inner_hash h43 zeros
 
   abbrev h45 : Bytes
-  h45 = leafHash (keyOf 144 0) (valueOf 3)
+  h45 = leaf_hash (key_of 144 0) (value_of 3)
 
   abbrev h46 : Bytes
-  h46 = innerHash h0 h45
+  h46 = inner_hash h0 h45
 
   abbrev h47 : Bytes
-  h47 = innerHash h46 zeros
+  h47 = inner_hash h46 zeros
 
   abbrev h48 : Bytes
-  h48 = innerHash h47 zeros
+  h48 = inner_hash h47 zeros
 
   abbrev h49 : Bytes
-  h49 = innerHash h28 h37
+  h49 = inner_hash h28 h37
 
   abbrev h50 : Bytes
-  h50 = innerHash h28 h41
+  h50 = inner_hash h28 h41
 
   abbrev h51 : Bytes
-  h51 = innerHash zeros h44
+  h51 = inner_hash zeros h44
 
   abbrev h52 : Bytes
-  h52 = innerHash h4 h0
+  h52 = inner_hash h4 h0
 
   abbrev h53 : Bytes
-  h53 = innerHash h4 h48
+  h53 = inner_hash h4 h48
 
   abbrev h54 : Bytes
-  h54 = innerHash zeros h48
+  h54 = inner_hash zeros h48
 
   abbrev h55 : Bytes
-  h55 = leafHash (keyOf 0 0) (valueOf 1)
+  h55 = leaf_hash (key_of 0 0) (value_of 1)
 
   abbrev h56 : Bytes
-  h56 = innerHash h55 h12
+  h56 = inner_hash h55 h12
 
   abbrev h57 : Bytes
-  h57 = leafHash (keyOf 96 0) (valueOf 3)
+  h57 = leaf_hash (key_of 96 0) (value_of 3)
 
   abbrev h58 : Bytes
-  h58 = leafHash (keyOf 192 0) (valueOf 1)
+  h58 = leaf_hash (key_of 192 0) (value_of 1)
 
   abbrev h59 : Bytes
-  h59 = innerHash h57 h58
+  h59 = inner_hash h57 h58
 
   abbrev h60 : Bytes
-  h60 = innerHash h57 h9
+  h60 = inner_hash h57 h9
 
   abbrev h61 : Bytes
-  h61 = leafHash (keyOf 96 0) (valueOf 1)
+  h61 = leaf_hash (key_of 96 0) (value_of 1)
 
   abbrev h62 : Bytes
-  h62 = leafHash (keyOf 255 0) (valueOf 1)
+  h62 = leaf_hash (key_of 255 0) (value_of 1)
 
   abbrev h63 : Bytes
-  h63 = leafHash (keyOf 255 0) (valueOf 2)
+  h63 = leaf_hash (key_of 255 0) (value_of 2)
 
   abbrev h64 : Bytes
-  h64 = innerHash h61 h62
+  h64 = inner_hash h61 h62
 
   abbrev h65 : Bytes
-  h65 = leafHash (keyOf 8 0) (valueOf 4)
+  h65 = leaf_hash (key_of 8 0) (value_of 4)
 
   abbrev h66 : Bytes
-  h66 = leafHash (keyOf 128 0) (valueOf 3)
+  h66 = leaf_hash (key_of 128 0) (value_of 3)
 
   abbrev h67 : Bytes
-  h67 = innerHash h20 h7
+  h67 = inner_hash h20 h7
 
   abbrev h68 : Bytes
-  h68 = innerHash h20 h0
+  h68 = inner_hash h20 h0
 
   abbrev h69 : Bytes
-  h69 = innerHash h65 h66
+  h69 = inner_hash h65 h66
 
   abbrev h70 : Bytes
-  h70 = leafHash (keyOf 144 0) (valueOf 4)
+  h70 = leaf_hash (key_of 144 0) (value_of 4)
 
   abbrev h71 : Bytes
-  h71 = innerHash h70 h32
+  h71 = inner_hash h70 h32
 
   abbrev h72 : Bytes
-  h72 = innerHash h65 h58
+  h72 = inner_hash h65 h58
 
   abbrev h73 : Bytes
-  h73 = innerHash h65 h71
+  h73 = inner_hash h65 h71
 
   abbrev h74 : Bytes
-  h74 = innerHash h20 h37
+  h74 = inner_hash h20 h37
 
   abbrev h75 : Bytes
-  h75 = innerHash h33 h37
+  h75 = inner_hash h33 h37
 
   abbrev h76 : Bytes
-  h76 = leafHash (keyOf 0 0) (valueOf 4)
+  h76 = leaf_hash (key_of 0 0) (value_of 4)
 
   abbrev h77 : Bytes
-  h77 = innerHash h0 h16
+  h77 = inner_hash h0 h16
 
   abbrev h78 : Bytes
-  h78 = innerHash h76 h77
+  h78 = inner_hash h76 h77
 
   abbrev h79 : Bytes
-  h79 = innerHash h76 h0
+  h79 = inner_hash h76 h0
 
   abbrev h80 : Bytes
-  h80 = leafHash (keyOf 16 0) (valueOf 2)
+  h80 = leaf_hash (key_of 16 0) (value_of 2)
 
   abbrev h81 : Bytes
-  h81 = leafHash (keyOf 254 0) (valueOf 3)
+  h81 = leaf_hash (key_of 254 0) (value_of 3)
 
   abbrev h82 : Bytes
-  h82 = innerHash h80 h81
+  h82 = inner_hash h80 h81
 
   abbrev h83 : Bytes
-  h83 = leafHash (keyOf 254 0) (valueOf 1)
+  h83 = leaf_hash (key_of 254 0) (value_of 1)
 
   abbrev h84 : Bytes
-  h84 = innerHash h70 h83
+  h84 = inner_hash h70 h83
 
   abbrev h85 : Bytes
-  h85 = innerHash zeros h84
+  h85 = inner_hash zeros h84
 
   abbrev h86 : Bytes
-  h86 = innerHash h55 h84
+  h86 = inner_hash h55 h84
 
   abbrev h87 : Bytes
-  h87 = innerHash h19 h84
+  h87 = inner_hash h19 h84
 
   abbrev end0 : Store
   end0 =
-      storeOf 1 2
-      (leafSlot ([]) 1 2 (keyOf 254 0) (valueOf 4)
-      ∷ leafSlot (true ∷ false ∷ []) 2 0 (keyOf 128 0) (valueOf 4)
-      ∷ leafSlot (true ∷ true ∷ []) 2 0 (keyOf 254 0) (valueOf 4)
-      ∷ innerSlot (true ∷ []) 2 0 2 h0 2 h1 1 1
-      ∷ innerSlot ([]) 2 0 0 zeros 2 h2 0 2
+      store_of 1 2
+      (leaf_slot ([]) 1 2 (key_of 254 0) (value_of 4)
+      ∷ leaf_slot (true ∷ false ∷ []) 2 0 (key_of 128 0) (value_of 4)
+      ∷ leaf_slot (true ∷ true ∷ []) 2 0 (key_of 254 0) (value_of 4)
+      ∷ inner_slot (true ∷ []) 2 0 2 h0 2 h1 1 1
+      ∷ inner_slot ([]) 2 0 0 zeros 2 h2 0 2
       ∷ free
       ∷ free
       ∷ free
@@ -308,24 +308,24 @@ module _ (leafHash innerHash : Bytes → Bytes → Bytes) where
 
   abbrev end1 : Store
   end1 =
-      storeOf 0 14
-      (leafSlot ([]) 2 3 (keyOf 64 0) (valueOf 2)
-      ∷ leafSlot ([]) 3 6 (keyOf 64 0) (valueOf 2)
-      ∷ leafSlot ([]) 6 11 (keyOf 64 0) (valueOf 2)
-      ∷ leafSlot ([]) 11 12 (keyOf 144 0) (valueOf 2)
-      ∷ leafSlot ([]) 12 13 (keyOf 144 0) (valueOf 2)
-      ∷ leafSlot ([]) 13 14 (keyOf 192 0) (valueOf 4)
-      ∷ leafSlot ([]) 14 0 (keyOf 128 0) (valueOf 1)
+      store_of 0 14
+      (leaf_slot ([]) 2 3 (key_of 64 0) (value_of 2)
+      ∷ leaf_slot ([]) 3 6 (key_of 64 0) (value_of 2)
+      ∷ leaf_slot ([]) 6 11 (key_of 64 0) (value_of 2)
+      ∷ leaf_slot ([]) 11 12 (key_of 144 0) (value_of 2)
+      ∷ leaf_slot ([]) 12 13 (key_of 144 0) (value_of 2)
+      ∷ leaf_slot ([]) 13 14 (key_of 192 0) (value_of 4)
+      ∷ leaf_slot ([]) 14 0 (key_of 128 0) (value_of 1)
       ∷ free
       ∷ [])
 
   abbrev end2 : Store
   end2 =
-      storeOf 4294967294 4294967295
-      (leafSlot ([]) 4294967294 4294967295 (keyOf 16 0) (valueOf 1)
-      ∷ leafSlot (false ∷ []) 4294967295 0 (keyOf 16 0) (valueOf 1)
-      ∷ leafSlot (true ∷ []) 4294967295 0 (keyOf 192 0) (valueOf 2)
-      ∷ innerSlot ([]) 4294967295 0 4294967295 h8 4294967295 h9 1 1
+      store_of 4294967294 4294967295
+      (leaf_slot ([]) 4294967294 4294967295 (key_of 16 0) (value_of 1)
+      ∷ leaf_slot (false ∷ []) 4294967295 0 (key_of 16 0) (value_of 1)
+      ∷ leaf_slot (true ∷ []) 4294967295 0 (key_of 192 0) (value_of 2)
+      ∷ inner_slot ([]) 4294967295 0 4294967295 h8 4294967295 h9 1 1
       ∷ free
       ∷ free
       ∷ free
@@ -338,18 +338,18 @@ module _ (leafHash innerHash : Bytes → Bytes → Bytes) where
 
   abbrev end3 : Store
   end3 =
-      storeOf 6 6
+      store_of 6 6
       (free
-      ∷ leafSlot (false ∷ []) 6 0 (keyOf 64 0) (valueOf 3)
-      ∷ leafSlot (true ∷ []) 6 0 (keyOf 255 0) (valueOf 4)
-      ∷ innerSlot ([]) 6 0 6 h11 6 h12 1 1
+      ∷ leaf_slot (false ∷ []) 6 0 (key_of 64 0) (value_of 3)
+      ∷ leaf_slot (true ∷ []) 6 0 (key_of 255 0) (value_of 4)
+      ∷ inner_slot ([]) 6 0 6 h11 6 h12 1 1
       ∷ [])
 
   abbrev end4 : Store
   end4 =
-      storeOf 0 8
-      (leafSlot ([]) 2 5 (keyOf 254 0) (valueOf 2)
-      ∷ leafSlot ([]) 6 7 (keyOf 255 0) (valueOf 3)
+      store_of 0 8
+      (leaf_slot ([]) 2 5 (key_of 254 0) (value_of 2)
+      ∷ leaf_slot ([]) 6 7 (key_of 255 0) (value_of 3)
       ∷ free
       ∷ free
       ∷ free
@@ -376,11 +376,11 @@ module _ (leafHash innerHash : Bytes → Bytes → Bytes) where
 
   abbrev end5 : Store
   end5 =
-      storeOf 4294967293 4294967295
-      (leafSlot (false ∷ []) 4294967294 0 (keyOf 104 0) (valueOf 4)
-      ∷ leafSlot (true ∷ []) 4294967294 0 (keyOf 128 0) (valueOf 4)
-      ∷ innerSlot ([]) 4294967294 4294967295 4294967294 h17 4294967294 h0 1 1
-      ∷ innerSlot ([]) 4294967295 0 4294967294 h17 4294967294 h0 1 1
+      store_of 4294967293 4294967295
+      (leaf_slot (false ∷ []) 4294967294 0 (key_of 104 0) (value_of 4)
+      ∷ leaf_slot (true ∷ []) 4294967294 0 (key_of 128 0) (value_of 4)
+      ∷ inner_slot ([]) 4294967294 4294967295 4294967294 h17 4294967294 h0 1 1
+      ∷ inner_slot ([]) 4294967295 0 4294967294 h17 4294967294 h0 1 1
       ∷ free
       ∷ free
       ∷ free
@@ -389,7 +389,7 @@ module _ (leafHash innerHash : Bytes → Bytes → Bytes) where
 
   abbrev end6 : Store
   end6 =
-      storeOf 0 1
+      store_of 0 1
       (free
       ∷ free
       ∷ free
@@ -406,27 +406,27 @@ module _ (leafHash innerHash : Bytes → Bytes → Bytes) where
 
   abbrev end7 : Store
   end7 =
-      storeOf 0 1
-      (leafSlot (false ∷ false ∷ false ∷ false ∷ false ∷ []) 1 0 (keyOf 0 0) (valueOf 2)
-      ∷ leafSlot (false ∷ false ∷ false ∷ false ∷ true ∷ []) 1 0 (keyOf 8 0) (valueOf 1)
-      ∷ innerSlot (false ∷ false ∷ false ∷ false ∷ []) 1 0 1 h19 1 h20 1 1
-      ∷ innerSlot (false ∷ false ∷ false ∷ []) 1 0 1 h21 0 zeros 2 0
-      ∷ innerSlot (false ∷ false ∷ []) 1 0 1 h22 0 zeros 2 0
-      ∷ leafSlot (false ∷ true ∷ []) 1 0 (keyOf 104 0) (valueOf 3)
-      ∷ innerSlot (false ∷ []) 1 0 1 h23 1 h24 2 1
-      ∷ innerSlot ([]) 1 0 1 h25 0 zeros 3 0
+      store_of 0 1
+      (leaf_slot (false ∷ false ∷ false ∷ false ∷ false ∷ []) 1 0 (key_of 0 0) (value_of 2)
+      ∷ leaf_slot (false ∷ false ∷ false ∷ false ∷ true ∷ []) 1 0 (key_of 8 0) (value_of 1)
+      ∷ inner_slot (false ∷ false ∷ false ∷ false ∷ []) 1 0 1 h19 1 h20 1 1
+      ∷ inner_slot (false ∷ false ∷ false ∷ []) 1 0 1 h21 0 zeros 2 0
+      ∷ inner_slot (false ∷ false ∷ []) 1 0 1 h22 0 zeros 2 0
+      ∷ leaf_slot (false ∷ true ∷ []) 1 0 (key_of 104 0) (value_of 3)
+      ∷ inner_slot (false ∷ []) 1 0 1 h23 1 h24 2 1
+      ∷ inner_slot ([]) 1 0 1 h25 0 zeros 3 0
       ∷ [])
 
   abbrev end8 : Store
   end8 =
-      storeOf 0 6
-      (leafSlot ([]) 1 3 (keyOf 8 0) (valueOf 2)
-      ∷ leafSlot ([]) 4 5 (keyOf 64 0) (valueOf 4)
-      ∷ leafSlot (false ∷ false ∷ []) 5 0 (keyOf 0 0) (valueOf 3)
-      ∷ leafSlot (false ∷ true ∷ []) 5 0 (keyOf 64 0) (valueOf 4)
-      ∷ innerSlot (false ∷ []) 5 0 5 h27 5 h28 1 1
-      ∷ innerSlot ([]) 5 6 5 h29 0 zeros 2 0
-      ∷ innerSlot ([]) 6 0 5 h29 0 zeros 2 0
+      store_of 0 6
+      (leaf_slot ([]) 1 3 (key_of 8 0) (value_of 2)
+      ∷ leaf_slot ([]) 4 5 (key_of 64 0) (value_of 4)
+      ∷ leaf_slot (false ∷ false ∷ []) 5 0 (key_of 0 0) (value_of 3)
+      ∷ leaf_slot (false ∷ true ∷ []) 5 0 (key_of 64 0) (value_of 4)
+      ∷ inner_slot (false ∷ []) 5 0 5 h27 5 h28 1 1
+      ∷ inner_slot ([]) 5 6 5 h29 0 zeros 2 0
+      ∷ inner_slot ([]) 6 0 5 h29 0 zeros 2 0
       ∷ free
       ∷ free
       ∷ free
@@ -440,11 +440,11 @@ module _ (leafHash innerHash : Bytes → Bytes → Bytes) where
 
   abbrev end9 : Store
   end9 =
-      storeOf 3 10
+      store_of 3 10
       (free
-      ∷ leafSlot ([]) 2 6 (keyOf 192 0) (valueOf 3)
-      ∷ leafSlot ([]) 6 10 (keyOf 192 0) (valueOf 3)
-      ∷ leafSlot ([]) 10 0 (keyOf 192 0) (valueOf 3)
+      ∷ leaf_slot ([]) 2 6 (key_of 192 0) (value_of 3)
+      ∷ leaf_slot ([]) 6 10 (key_of 192 0) (value_of 3)
+      ∷ leaf_slot ([]) 10 0 (key_of 192 0) (value_of 3)
       ∷ free
       ∷ free
       ∷ free
@@ -469,16 +469,16 @@ module _ (leafHash innerHash : Bytes → Bytes → Bytes) where
 
   abbrev end10 : Store
   end10 =
-      storeOf 1 8
-      (leafSlot ([]) 4 8 (keyOf 144 0) (valueOf 2)
-      ∷ leafSlot (false ∷ []) 8 0 (keyOf 8 0) (valueOf 3)
-      ∷ leafSlot (true ∷ []) 8 0 (keyOf 144 0) (valueOf 2)
-      ∷ innerSlot ([]) 8 0 8 h33 8 h5 1 1
+      store_of 1 8
+      (leaf_slot ([]) 4 8 (key_of 144 0) (value_of 2)
+      ∷ leaf_slot (false ∷ []) 8 0 (key_of 8 0) (value_of 3)
+      ∷ leaf_slot (true ∷ []) 8 0 (key_of 144 0) (value_of 2)
+      ∷ inner_slot ([]) 8 0 8 h33 8 h5 1 1
       ∷ [])
 
   abbrev end11 : Store
   end11 =
-      storeOf 4294967293 4294967295
+      store_of 4294967293 4294967295
       (free
       ∷ free
       ∷ free
@@ -491,10 +491,10 @@ module _ (leafHash innerHash : Bytes → Bytes → Bytes) where
 
   abbrev end12 : Store
   end12 =
-      storeOf 0 12
-      (leafSlot ([]) 1 6 (keyOf 8 0) (valueOf 1)
-      ∷ leafSlot ([]) 8 12 (keyOf 8 0) (valueOf 3)
-      ∷ leafSlot ([]) 12 0 (keyOf 8 0) (valueOf 3)
+      store_of 0 12
+      (leaf_slot ([]) 1 6 (key_of 8 0) (value_of 1)
+      ∷ leaf_slot ([]) 8 12 (key_of 8 0) (value_of 3)
+      ∷ leaf_slot ([]) 12 0 (key_of 8 0) (value_of 3)
       ∷ free
       ∷ free
       ∷ free
@@ -520,11 +520,11 @@ module _ (leafHash innerHash : Bytes → Bytes → Bytes) where
 
   abbrev end13 : Store
   end13 =
-      storeOf 4 5
-      (innerSlot ([]) 5 0 4 h35 4 h5 1 1
-      ∷ leafSlot (false ∷ []) 4 0 (keyOf 104 0) (valueOf 2)
-      ∷ leafSlot (true ∷ []) 4 0 (keyOf 144 0) (valueOf 2)
-      ∷ innerSlot ([]) 4 5 4 h35 4 h5 1 1
+      store_of 4 5
+      (inner_slot ([]) 5 0 4 h35 4 h5 1 1
+      ∷ leaf_slot (false ∷ []) 4 0 (key_of 104 0) (value_of 2)
+      ∷ leaf_slot (true ∷ []) 4 0 (key_of 144 0) (value_of 2)
+      ∷ inner_slot ([]) 4 5 4 h35 4 h5 1 1
       ∷ free
       ∷ free
       ∷ free
@@ -541,39 +541,39 @@ module _ (leafHash innerHash : Bytes → Bytes → Bytes) where
 
   abbrev end14 : Store
   end14 =
-      storeOf 0 16
-      (leafSlot (false ∷ []) 1 9 (keyOf 64 0) (valueOf 4)
-      ∷ leafSlot (true ∷ []) 1 4 (keyOf 144 0) (valueOf 1)
-      ∷ innerSlot ([]) 1 4 1 h28 1 h37 1 1
-      ∷ leafSlot (true ∷ false ∷ false ∷ false ∷ []) 4 9 (keyOf 128 0) (valueOf 2)
-      ∷ leafSlot (true ∷ false ∷ false ∷ true ∷ []) 4 11 (keyOf 144 0) (valueOf 1)
-      ∷ innerSlot (true ∷ false ∷ false ∷ []) 4 9 4 h38 4 h37 1 1
-      ∷ innerSlot (true ∷ false ∷ []) 4 9 4 h39 0 zeros 2 0
-      ∷ innerSlot (true ∷ []) 4 9 4 h40 0 zeros 2 0
-      ∷ innerSlot ([]) 4 9 1 h28 4 h41 1 2
-      ∷ leafSlot (true ∷ false ∷ false ∷ false ∷ []) 9 11 (keyOf 128 0) (valueOf 1)
-      ∷ innerSlot (true ∷ false ∷ false ∷ []) 9 11 9 h7 4 h37 1 1
-      ∷ innerSlot (true ∷ false ∷ []) 9 11 9 h42 0 zeros 2 0
-      ∷ innerSlot (true ∷ []) 9 11 9 h43 0 zeros 2 0
-      ∷ innerSlot ([]) 9 11 0 zeros 9 h44 0 2
-      ∷ leafSlot (false ∷ []) 11 16 (keyOf 64 0) (valueOf 2)
-      ∷ leafSlot (true ∷ []) 11 12 (keyOf 128 0) (valueOf 4)
-      ∷ innerSlot ([]) 11 12 11 h4 11 h0 1 1
-      ∷ leafSlot (true ∷ false ∷ false ∷ false ∷ []) 12 0 (keyOf 128 0) (valueOf 4)
-      ∷ leafSlot (true ∷ false ∷ false ∷ true ∷ []) 12 0 (keyOf 144 0) (valueOf 3)
-      ∷ innerSlot (true ∷ false ∷ false ∷ []) 12 0 12 h0 12 h45 1 1
-      ∷ innerSlot (true ∷ false ∷ []) 12 0 12 h46 0 zeros 2 0
-      ∷ innerSlot (true ∷ []) 12 0 12 h47 0 zeros 2 0
-      ∷ innerSlot ([]) 12 16 11 h4 12 h48 1 2
-      ∷ innerSlot ([]) 16 0 0 zeros 12 h48 0 2
+      store_of 0 16
+      (leaf_slot (false ∷ []) 1 9 (key_of 64 0) (value_of 4)
+      ∷ leaf_slot (true ∷ []) 1 4 (key_of 144 0) (value_of 1)
+      ∷ inner_slot ([]) 1 4 1 h28 1 h37 1 1
+      ∷ leaf_slot (true ∷ false ∷ false ∷ false ∷ []) 4 9 (key_of 128 0) (value_of 2)
+      ∷ leaf_slot (true ∷ false ∷ false ∷ true ∷ []) 4 11 (key_of 144 0) (value_of 1)
+      ∷ inner_slot (true ∷ false ∷ false ∷ []) 4 9 4 h38 4 h37 1 1
+      ∷ inner_slot (true ∷ false ∷ []) 4 9 4 h39 0 zeros 2 0
+      ∷ inner_slot (true ∷ []) 4 9 4 h40 0 zeros 2 0
+      ∷ inner_slot ([]) 4 9 1 h28 4 h41 1 2
+      ∷ leaf_slot (true ∷ false ∷ false ∷ false ∷ []) 9 11 (key_of 128 0) (value_of 1)
+      ∷ inner_slot (true ∷ false ∷ false ∷ []) 9 11 9 h7 4 h37 1 1
+      ∷ inner_slot (true ∷ false ∷ []) 9 11 9 h42 0 zeros 2 0
+      ∷ inner_slot (true ∷ []) 9 11 9 h43 0 zeros 2 0
+      ∷ inner_slot ([]) 9 11 0 zeros 9 h44 0 2
+      ∷ leaf_slot (false ∷ []) 11 16 (key_of 64 0) (value_of 2)
+      ∷ leaf_slot (true ∷ []) 11 12 (key_of 128 0) (value_of 4)
+      ∷ inner_slot ([]) 11 12 11 h4 11 h0 1 1
+      ∷ leaf_slot (true ∷ false ∷ false ∷ false ∷ []) 12 0 (key_of 128 0) (value_of 4)
+      ∷ leaf_slot (true ∷ false ∷ false ∷ true ∷ []) 12 0 (key_of 144 0) (value_of 3)
+      ∷ inner_slot (true ∷ false ∷ false ∷ []) 12 0 12 h0 12 h45 1 1
+      ∷ inner_slot (true ∷ false ∷ []) 12 0 12 h46 0 zeros 2 0
+      ∷ inner_slot (true ∷ []) 12 0 12 h47 0 zeros 2 0
+      ∷ inner_slot ([]) 12 16 11 h4 12 h48 1 2
+      ∷ inner_slot ([]) 16 0 0 zeros 12 h48 0 2
       ∷ [])
 
   abbrev end15 : Store
   end15 =
-      storeOf 4 7
-      (leafSlot ([]) 3 6 (keyOf 64 0) (valueOf 3)
-      ∷ leafSlot ([]) 6 7 (keyOf 64 0) (valueOf 3)
-      ∷ leafSlot ([]) 7 0 (keyOf 64 0) (valueOf 3)
+      store_of 4 7
+      (leaf_slot ([]) 3 6 (key_of 64 0) (value_of 3)
+      ∷ leaf_slot ([]) 6 7 (key_of 64 0) (value_of 3)
+      ∷ leaf_slot ([]) 7 0 (key_of 64 0) (value_of 3)
       ∷ free
       ∷ free
       ∷ free
@@ -599,9 +599,9 @@ module _ (leafHash innerHash : Bytes → Bytes → Bytes) where
 
   abbrev end16 : Store
   end16 =
-      storeOf 0 2
-      (leafSlot ([]) 1 2 (keyOf 128 0) (valueOf 2)
-      ∷ leafSlot ([]) 2 0 (keyOf 128 0) (valueOf 2)
+      store_of 0 2
+      (leaf_slot ([]) 1 2 (key_of 128 0) (value_of 2)
+      ∷ leaf_slot ([]) 2 0 (key_of 128 0) (value_of 2)
       ∷ free
       ∷ free
       ∷ free
@@ -628,12 +628,12 @@ module _ (leafHash innerHash : Bytes → Bytes → Bytes) where
 
   abbrev end17 : Store
   end17 =
-      storeOf 0 5
-      (leafSlot ([]) 1 4 (keyOf 0 0) (valueOf 1)
-      ∷ leafSlot (false ∷ []) 4 0 (keyOf 0 0) (valueOf 1)
-      ∷ leafSlot (true ∷ []) 4 0 (keyOf 255 0) (valueOf 4)
-      ∷ innerSlot ([]) 4 5 4 h55 4 h12 1 1
-      ∷ innerSlot ([]) 5 0 4 h55 4 h12 1 1
+      store_of 0 5
+      (leaf_slot ([]) 1 4 (key_of 0 0) (value_of 1)
+      ∷ leaf_slot (false ∷ []) 4 0 (key_of 0 0) (value_of 1)
+      ∷ leaf_slot (true ∷ []) 4 0 (key_of 255 0) (value_of 4)
+      ∷ inner_slot ([]) 4 5 4 h55 4 h12 1 1
+      ∷ inner_slot ([]) 5 0 4 h55 4 h12 1 1
       ∷ free
       ∷ free
       ∷ free
@@ -641,13 +641,13 @@ module _ (leafHash innerHash : Bytes → Bytes → Bytes) where
 
   abbrev end18 : Store
   end18 =
-      storeOf 7 8
-      (leafSlot (true ∷ []) 7 8 (keyOf 192 0) (valueOf 2)
-      ∷ leafSlot (false ∷ []) 6 8 (keyOf 96 0) (valueOf 3)
+      store_of 7 8
+      (leaf_slot (true ∷ []) 7 8 (key_of 192 0) (value_of 2)
+      ∷ leaf_slot (false ∷ []) 6 8 (key_of 96 0) (value_of 3)
       ∷ free
       ∷ free
-      ∷ innerSlot ([]) 7 8 6 h57 7 h9 1 1
-      ∷ leafSlot ([]) 8 0 (keyOf 192 0) (valueOf 2)
+      ∷ inner_slot ([]) 7 8 6 h57 7 h9 1 1
+      ∷ leaf_slot ([]) 8 0 (key_of 192 0) (value_of 2)
       ∷ free
       ∷ free
       ∷ free
@@ -670,11 +670,11 @@ module _ (leafHash innerHash : Bytes → Bytes → Bytes) where
 
   abbrev end19 : Store
   end19 =
-      storeOf 2 9
-      (leafSlot ([]) 6 9 (keyOf 255 0) (valueOf 2)
-      ∷ leafSlot (false ∷ []) 9 0 (keyOf 96 0) (valueOf 1)
-      ∷ leafSlot (true ∷ []) 9 0 (keyOf 255 0) (valueOf 1)
-      ∷ innerSlot ([]) 9 0 9 h61 9 h62 1 1
+      store_of 2 9
+      (leaf_slot ([]) 6 9 (key_of 255 0) (value_of 2)
+      ∷ leaf_slot (false ∷ []) 9 0 (key_of 96 0) (value_of 1)
+      ∷ leaf_slot (true ∷ []) 9 0 (key_of 255 0) (value_of 1)
+      ∷ inner_slot ([]) 9 0 9 h61 9 h62 1 1
       ∷ free
       ∷ free
       ∷ free
@@ -691,16 +691,16 @@ module _ (leafHash innerHash : Bytes → Bytes → Bytes) where
 
   abbrev end20 : Store
   end20 =
-      storeOf 19 21
-      (leafSlot (false ∷ []) 21 0 (keyOf 8 0) (valueOf 4)
-      ∷ leafSlot (true ∷ []) 21 0 (keyOf 128 0) (valueOf 3)
-      ∷ innerSlot ([]) 21 0 21 h65 21 h66 1 1
+      store_of 19 21
+      (leaf_slot (false ∷ []) 21 0 (key_of 8 0) (value_of 4)
+      ∷ leaf_slot (true ∷ []) 21 0 (key_of 128 0) (value_of 3)
+      ∷ inner_slot ([]) 21 0 21 h65 21 h66 1 1
       ∷ free
       ∷ free
-      ∷ leafSlot ([]) 17 20 (keyOf 8 0) (valueOf 1)
-      ∷ leafSlot (false ∷ []) 20 21 (keyOf 8 0) (valueOf 1)
-      ∷ leafSlot (true ∷ []) 20 21 (keyOf 128 0) (valueOf 4)
-      ∷ innerSlot ([]) 20 21 20 h20 20 h0 1 1
+      ∷ leaf_slot ([]) 17 20 (key_of 8 0) (value_of 1)
+      ∷ leaf_slot (false ∷ []) 20 21 (key_of 8 0) (value_of 1)
+      ∷ leaf_slot (true ∷ []) 20 21 (key_of 128 0) (value_of 4)
+      ∷ inner_slot ([]) 20 21 20 h20 20 h0 1 1
       ∷ free
       ∷ free
       ∷ free
@@ -708,15 +708,15 @@ module _ (leafHash innerHash : Bytes → Bytes → Bytes) where
 
   abbrev end21 : Store
   end21 =
-      storeOf 0 6
-      (leafSlot ([]) 4 5 (keyOf 8 0) (valueOf 2)
-      ∷ leafSlot (false ∷ []) 5 0 (keyOf 8 0) (valueOf 4)
-      ∷ leafSlot (true ∷ []) 5 6 (keyOf 192 0) (valueOf 1)
-      ∷ innerSlot ([]) 5 6 5 h65 5 h58 1 1
-      ∷ leafSlot (true ∷ false ∷ []) 6 0 (keyOf 144 0) (valueOf 4)
-      ∷ leafSlot (true ∷ true ∷ []) 6 0 (keyOf 192 0) (valueOf 3)
-      ∷ innerSlot (true ∷ []) 6 0 6 h70 6 h32 1 1
-      ∷ innerSlot ([]) 6 0 5 h65 6 h71 1 2
+      store_of 0 6
+      (leaf_slot ([]) 4 5 (key_of 8 0) (value_of 2)
+      ∷ leaf_slot (false ∷ []) 5 0 (key_of 8 0) (value_of 4)
+      ∷ leaf_slot (true ∷ []) 5 6 (key_of 192 0) (value_of 1)
+      ∷ inner_slot ([]) 5 6 5 h65 5 h58 1 1
+      ∷ leaf_slot (true ∷ false ∷ []) 6 0 (key_of 144 0) (value_of 4)
+      ∷ leaf_slot (true ∷ true ∷ []) 6 0 (key_of 192 0) (value_of 3)
+      ∷ inner_slot (true ∷ []) 6 0 6 h70 6 h32 1 1
+      ∷ inner_slot ([]) 6 0 5 h65 6 h71 1 2
       ∷ free
       ∷ free
       ∷ free
@@ -725,12 +725,12 @@ module _ (leafHash innerHash : Bytes → Bytes → Bytes) where
 
   abbrev end22 : Store
   end22 =
-      storeOf 0 10
-      (leafSlot ([]) 2 3 (keyOf 254 0) (valueOf 2)
-      ∷ leafSlot ([]) 3 4 (keyOf 254 0) (valueOf 2)
-      ∷ leafSlot ([]) 4 9 (keyOf 254 0) (valueOf 2)
-      ∷ leafSlot ([]) 9 10 (keyOf 254 0) (valueOf 2)
-      ∷ leafSlot ([]) 10 0 (keyOf 254 0) (valueOf 2)
+      store_of 0 10
+      (leaf_slot ([]) 2 3 (key_of 254 0) (value_of 2)
+      ∷ leaf_slot ([]) 3 4 (key_of 254 0) (value_of 2)
+      ∷ leaf_slot ([]) 4 9 (key_of 254 0) (value_of 2)
+      ∷ leaf_slot ([]) 9 10 (key_of 254 0) (value_of 2)
+      ∷ leaf_slot ([]) 10 0 (key_of 254 0) (value_of 2)
       ∷ free
       ∷ free
       ∷ free
@@ -742,25 +742,25 @@ module _ (leafHash innerHash : Bytes → Bytes → Bytes) where
 
   abbrev end23 : Store
   end23 =
-      storeOf 0 16
-      (leafSlot ([]) 6 10 (keyOf 8 0) (valueOf 1)
-      ∷ leafSlot ([]) 10 12 (keyOf 8 0) (valueOf 1)
-      ∷ leafSlot ([]) 12 13 (keyOf 8 0) (valueOf 1)
-      ∷ leafSlot (false ∷ []) 13 14 (keyOf 8 0) (valueOf 1)
-      ∷ leafSlot (true ∷ []) 13 16 (keyOf 144 0) (valueOf 1)
-      ∷ innerSlot ([]) 13 14 13 h20 13 h37 1 1
-      ∷ leafSlot (false ∷ []) 14 16 (keyOf 8 0) (valueOf 3)
-      ∷ innerSlot ([]) 14 15 14 h33 13 h37 1 1
-      ∷ innerSlot ([]) 15 16 14 h33 13 h37 1 1
-      ∷ leafSlot ([]) 16 0 (keyOf 8 0) (valueOf 3)
+      store_of 0 16
+      (leaf_slot ([]) 6 10 (key_of 8 0) (value_of 1)
+      ∷ leaf_slot ([]) 10 12 (key_of 8 0) (value_of 1)
+      ∷ leaf_slot ([]) 12 13 (key_of 8 0) (value_of 1)
+      ∷ leaf_slot (false ∷ []) 13 14 (key_of 8 0) (value_of 1)
+      ∷ leaf_slot (true ∷ []) 13 16 (key_of 144 0) (value_of 1)
+      ∷ inner_slot ([]) 13 14 13 h20 13 h37 1 1
+      ∷ leaf_slot (false ∷ []) 14 16 (key_of 8 0) (value_of 3)
+      ∷ inner_slot ([]) 14 15 14 h33 13 h37 1 1
+      ∷ inner_slot ([]) 15 16 14 h33 13 h37 1 1
+      ∷ leaf_slot ([]) 16 0 (key_of 8 0) (value_of 3)
       ∷ free
       ∷ free
       ∷ [])
 
   abbrev end24 : Store
   end24 =
-      storeOf 4294967295 4294967295
-      (leafSlot ([]) 4294967295 0 (keyOf 192 0) (valueOf 2)
+      store_of 4294967295 4294967295
+      (leaf_slot ([]) 4294967295 0 (key_of 192 0) (value_of 2)
       ∷ free
       ∷ free
       ∷ free
@@ -772,7 +772,7 @@ module _ (leafHash innerHash : Bytes → Bytes → Bytes) where
 
   abbrev end25 : Store
   end25 =
-      storeOf 1 3
+      store_of 1 3
       (free
       ∷ free
       ∷ free
@@ -789,9 +789,9 @@ module _ (leafHash innerHash : Bytes → Bytes → Bytes) where
 
   abbrev end26 : Store
   end26 =
-      storeOf 0 3
-      (leafSlot ([]) 2 3 (keyOf 128 0) (valueOf 4)
-      ∷ leafSlot ([]) 3 0 (keyOf 8 0) (valueOf 1)
+      store_of 0 3
+      (leaf_slot ([]) 2 3 (key_of 128 0) (value_of 4)
+      ∷ leaf_slot ([]) 3 0 (key_of 8 0) (value_of 1)
       ∷ free
       ∷ free
       ∷ free
@@ -810,15 +810,15 @@ module _ (leafHash innerHash : Bytes → Bytes → Bytes) where
 
   abbrev end27 : Store
   end27 =
-      storeOf 0 5
-      (leafSlot (true ∷ false ∷ []) 3 4 (keyOf 128 0) (valueOf 4)
-      ∷ leafSlot (true ∷ true ∷ []) 3 4 (keyOf 255 0) (valueOf 3)
-      ∷ leafSlot (false ∷ []) 3 0 (keyOf 0 0) (valueOf 4)
-      ∷ innerSlot (true ∷ []) 3 4 3 h0 3 h16 1 1
-      ∷ innerSlot ([]) 3 4 3 h76 3 h77 1 2
-      ∷ leafSlot (true ∷ []) 4 0 (keyOf 128 0) (valueOf 4)
-      ∷ innerSlot ([]) 4 5 3 h76 4 h0 1 1
-      ∷ innerSlot ([]) 5 0 3 h76 4 h0 1 1
+      store_of 0 5
+      (leaf_slot (true ∷ false ∷ []) 3 4 (key_of 128 0) (value_of 4)
+      ∷ leaf_slot (true ∷ true ∷ []) 3 4 (key_of 255 0) (value_of 3)
+      ∷ leaf_slot (false ∷ []) 3 0 (key_of 0 0) (value_of 4)
+      ∷ inner_slot (true ∷ []) 3 4 3 h0 3 h16 1 1
+      ∷ inner_slot ([]) 3 4 3 h76 3 h77 1 2
+      ∷ leaf_slot (true ∷ []) 4 0 (key_of 128 0) (value_of 4)
+      ∷ inner_slot ([]) 4 5 3 h76 4 h0 1 1
+      ∷ inner_slot ([]) 5 0 3 h76 4 h0 1 1
       ∷ free
       ∷ free
       ∷ free
@@ -827,24 +827,24 @@ module _ (leafHash innerHash : Bytes → Bytes → Bytes) where
 
   abbrev end28 : Store
   end28 =
-      storeOf 3 12
-      (leafSlot (false ∷ []) 7 0 (keyOf 16 0) (valueOf 2)
-      ∷ leafSlot (true ∷ []) 7 0 (keyOf 254 0) (valueOf 3)
-      ∷ innerSlot ([]) 7 12 7 h80 7 h81 1 1
-      ∷ innerSlot ([]) 12 0 7 h80 7 h81 1 1
+      store_of 3 12
+      (leaf_slot (false ∷ []) 7 0 (key_of 16 0) (value_of 2)
+      ∷ leaf_slot (true ∷ []) 7 0 (key_of 254 0) (value_of 3)
+      ∷ inner_slot ([]) 7 12 7 h80 7 h81 1 1
+      ∷ inner_slot ([]) 12 0 7 h80 7 h81 1 1
       ∷ [])
 
   abbrev end29 : Store
   end29 =
-      storeOf 4 5
-      (leafSlot (true ∷ false ∷ []) 1 0 (keyOf 144 0) (valueOf 4)
-      ∷ leafSlot (true ∷ true ∷ []) 1 0 (keyOf 254 0) (valueOf 1)
-      ∷ innerSlot (true ∷ []) 1 0 1 h70 1 h83 1 1
+      store_of 4 5
+      (leaf_slot (true ∷ false ∷ []) 1 0 (key_of 144 0) (value_of 4)
+      ∷ leaf_slot (true ∷ true ∷ []) 1 0 (key_of 254 0) (value_of 1)
+      ∷ inner_slot (true ∷ []) 1 0 1 h70 1 h83 1 1
       ∷ free
-      ∷ leafSlot (false ∷ []) 2 5 (keyOf 0 0) (valueOf 1)
-      ∷ innerSlot ([]) 2 5 2 h55 1 h84 1 2
-      ∷ leafSlot (false ∷ []) 5 0 (keyOf 0 0) (valueOf 2)
-      ∷ innerSlot ([]) 5 0 5 h19 1 h84 1 2
+      ∷ leaf_slot (false ∷ []) 2 5 (key_of 0 0) (value_of 1)
+      ∷ inner_slot ([]) 2 5 2 h55 1 h84 1 2
+      ∷ leaf_slot (false ∷ []) 5 0 (key_of 0 0) (value_of 2)
+      ∷ inner_slot ([]) 5 0 5 h19 1 h84 1 2
       ∷ free
       ∷ free
       ∷ free
@@ -857,128 +857,128 @@ module _ (leafHash innerHash : Bytes → Bytes → Bytes) where
 
   abbrev rows : List Game
   rows =
-      game (storeOf 0 0 (freeSlots 24))
-      (applying 1 (insert (keyOf 254 0) (valueOf 4) ∷ []) ∷ applying 2 (insert (keyOf 128 0) (valueOf 4) ∷ insert (keyOf 254 0) (valueOf 4) ∷ []) ∷ pruning 1 ∷ pruning 0 ∷ [])
+      game (store_of 0 0 (free_slots 24))
+      (applying 1 (insert (key_of 254 0) (value_of 4) ∷ []) ∷ applying 2 (insert (key_of 128 0) (value_of 4) ∷ insert (key_of 254 0) (value_of 4) ∷ []) ∷ pruning 1 ∷ pruning 0 ∷ [])
       (made 1 h1 1 ∷ made 2 h3 4 ∷ freed 0 ∷ denied 8 ∷ [])
       end0
-      ∷ game (storeOf 0 0 (freeSlots 8))
-      (applying 2 (insert (keyOf 64 0) (valueOf 2) ∷ delete (keyOf 128 0) ∷ delete (keyOf 192 0) ∷ delete (keyOf 254 0) ∷ []) ∷ applying 3 ([]) ∷ applying 6 (delete (keyOf 144 0) ∷ []) ∷ applying 11 (delete (keyOf 64 0) ∷ insert (keyOf 144 0) (valueOf 2) ∷ delete (keyOf 254 0) ∷ []) ∷ applying 12 (delete (keyOf 254 0) ∷ []) ∷ applying 13 (insert (keyOf 254 0) (valueOf 2) ∷ []) ∷ applying 13 (delete (keyOf 144 0) ∷ insert (keyOf 192 0) (valueOf 4) ∷ delete (keyOf 254 0) ∷ []) ∷ applying 14 (insert (keyOf 128 0) (valueOf 1) ∷ delete (keyOf 192 0) ∷ []) ∷ [])
+      ∷ game (store_of 0 0 (free_slots 8))
+      (applying 2 (insert (key_of 64 0) (value_of 2) ∷ delete (key_of 128 0) ∷ delete (key_of 192 0) ∷ delete (key_of 254 0) ∷ []) ∷ applying 3 ([]) ∷ applying 6 (delete (key_of 144 0) ∷ []) ∷ applying 11 (delete (key_of 64 0) ∷ insert (key_of 144 0) (value_of 2) ∷ delete (key_of 254 0) ∷ []) ∷ applying 12 (delete (key_of 254 0) ∷ []) ∷ applying 13 (insert (key_of 254 0) (value_of 2) ∷ []) ∷ applying 13 (delete (key_of 144 0) ∷ insert (key_of 192 0) (value_of 4) ∷ delete (key_of 254 0) ∷ []) ∷ applying 14 (insert (key_of 128 0) (value_of 1) ∷ delete (key_of 192 0) ∷ []) ∷ [])
       (made 2 h4 1 ∷ made 3 h4 1 ∷ made 6 h4 1 ∷ made 11 h5 1 ∷ made 12 h5 1 ∷ denied 7 ∷ made 13 h6 1 ∷ made 14 h7 1 ∷ [])
       end1
-      ∷ game (storeOf 4294967293 4294967293 (freeSlots 12))
-      (pruning 4294967293 ∷ applying 4294967294 (insert (keyOf 16 0) (valueOf 1) ∷ []) ∷ applying 4294967295 (insert (keyOf 192 0) (valueOf 2) ∷ []) ∷ pruning 4294967294 ∷ applying 1428507252 (insert (keyOf 96 0) (valueOf 1) ∷ []) ∷ applying 4294967295 (delete (keyOf 144 0) ∷ insert (keyOf 192 0) (valueOf 2) ∷ []) ∷ applying 4294967295 (insert (keyOf 192 0) (valueOf 3) ∷ []) ∷ [])
+      ∷ game (store_of 4294967293 4294967293 (free_slots 12))
+      (pruning 4294967293 ∷ applying 4294967294 (insert (key_of 16 0) (value_of 1) ∷ []) ∷ applying 4294967295 (insert (key_of 192 0) (value_of 2) ∷ []) ∷ pruning 4294967294 ∷ applying 1428507252 (insert (key_of 96 0) (value_of 1) ∷ []) ∷ applying 4294967295 (delete (key_of 144 0) ∷ insert (key_of 192 0) (value_of 2) ∷ []) ∷ applying 4294967295 (insert (key_of 192 0) (value_of 3) ∷ []) ∷ [])
       (freed 0 ∷ made 4294967294 h8 1 ∷ made 4294967295 h10 3 ∷ freed 0 ∷ denied 18 ∷ denied 18 ∷ denied 18 ∷ [])
       end2
-      ∷ game (storeOf 0 0 (freeSlots 4))
-      (pruning 1 ∷ applying 3 (delete (keyOf 64 0) ∷ delete (keyOf 128 0) ∷ []) ∷ applying 4 (insert (keyOf 16 0) (valueOf 4) ∷ []) ∷ applying 5 (delete (keyOf 16 0) ∷ delete (keyOf 104 0) ∷ delete (keyOf 128 0) ∷ []) ∷ applying 4 (delete (keyOf 128 0) ∷ delete (keyOf 254 0) ∷ delete (keyOf 255 0) ∷ []) ∷ applying 6 (insert (keyOf 254 0) (valueOf 2) ∷ insert (keyOf 255 0) (valueOf 1) ∷ []) ∷ applying 6 (insert (keyOf 64 0) (valueOf 3) ∷ delete (keyOf 128 0) ∷ insert (keyOf 255 0) (valueOf 4) ∷ []) ∷ applying 7 ([]) ∷ applying 7 (insert (keyOf 104 0) (valueOf 1) ∷ []) ∷ pruning 6 ∷ [])
+      ∷ game (store_of 0 0 (free_slots 4))
+      (pruning 1 ∷ applying 3 (delete (key_of 64 0) ∷ delete (key_of 128 0) ∷ []) ∷ applying 4 (insert (key_of 16 0) (value_of 4) ∷ []) ∷ applying 5 (delete (key_of 16 0) ∷ delete (key_of 104 0) ∷ delete (key_of 128 0) ∷ []) ∷ applying 4 (delete (key_of 128 0) ∷ delete (key_of 254 0) ∷ delete (key_of 255 0) ∷ []) ∷ applying 6 (insert (key_of 254 0) (value_of 2) ∷ insert (key_of 255 0) (value_of 1) ∷ []) ∷ applying 6 (insert (key_of 64 0) (value_of 3) ∷ delete (key_of 128 0) ∷ insert (key_of 255 0) (value_of 4) ∷ []) ∷ applying 7 ([]) ∷ applying 7 (insert (key_of 104 0) (value_of 1) ∷ []) ∷ pruning 6 ∷ [])
       (denied 8 ∷ made 3 zeros 0 ∷ made 4 h13 1 ∷ made 5 zeros 0 ∷ denied 18 ∷ denied 7 ∷ made 6 h14 3 ∷ denied 7 ∷ denied 7 ∷ freed 1 ∷ [])
       end3
-      ∷ game (storeOf 0 0 (freeSlots 24))
-      (applying 1 (delete (keyOf 254 0) ∷ delete (keyOf 255 0) ∷ []) ∷ applying 2 (insert (keyOf 254 0) (valueOf 2) ∷ []) ∷ applying 5 (delete (keyOf 254 0) ∷ []) ∷ applying 6 (insert (keyOf 255 0) (valueOf 3) ∷ []) ∷ applying 7 (delete (keyOf 254 0) ∷ delete (keyOf 255 0) ∷ []) ∷ applying 8 (delete (keyOf 255 0) ∷ []) ∷ [])
+      ∷ game (store_of 0 0 (free_slots 24))
+      (applying 1 (delete (key_of 254 0) ∷ delete (key_of 255 0) ∷ []) ∷ applying 2 (insert (key_of 254 0) (value_of 2) ∷ []) ∷ applying 5 (delete (key_of 254 0) ∷ []) ∷ applying 6 (insert (key_of 255 0) (value_of 3) ∷ []) ∷ applying 7 (delete (key_of 254 0) ∷ delete (key_of 255 0) ∷ []) ∷ applying 8 (delete (key_of 255 0) ∷ []) ∷ [])
       (made 1 zeros 0 ∷ made 2 h15 1 ∷ made 5 zeros 0 ∷ made 6 h16 1 ∷ made 7 zeros 0 ∷ made 8 zeros 0 ∷ [])
       end4
-      ∷ game (storeOf 4294967293 4294967293 (freeSlots 8))
-      (applying 4294967294 (insert (keyOf 104 0) (valueOf 4) ∷ insert (keyOf 128 0) (valueOf 4) ∷ []) ∷ applying 4294967295 ([]) ∷ applying 4294967295 (delete (keyOf 96 0) ∷ insert (keyOf 104 0) (valueOf 2) ∷ delete (keyOf 128 0) ∷ insert (keyOf 254 0) (valueOf 1) ∷ []) ∷ applying 2296369008 (insert (keyOf 128 0) (valueOf 3) ∷ delete (keyOf 254 0) ∷ []) ∷ applying 4294967295 (delete (keyOf 96 0) ∷ insert (keyOf 254 0) (valueOf 2) ∷ []) ∷ [])
+      ∷ game (store_of 4294967293 4294967293 (free_slots 8))
+      (applying 4294967294 (insert (key_of 104 0) (value_of 4) ∷ insert (key_of 128 0) (value_of 4) ∷ []) ∷ applying 4294967295 ([]) ∷ applying 4294967295 (delete (key_of 96 0) ∷ insert (key_of 104 0) (value_of 2) ∷ delete (key_of 128 0) ∷ insert (key_of 254 0) (value_of 1) ∷ []) ∷ applying 2296369008 (insert (key_of 128 0) (value_of 3) ∷ delete (key_of 254 0) ∷ []) ∷ applying 4294967295 (delete (key_of 96 0) ∷ insert (key_of 254 0) (value_of 2) ∷ []) ∷ [])
       (made 4294967294 h18 3 ∷ made 4294967295 h18 1 ∷ denied 18 ∷ denied 18 ∷ denied 18 ∷ [])
       end5
-      ∷ game (storeOf 0 0 (freeSlots 12))
-      (pruning 0 ∷ applying 0 (insert (keyOf 144 0) (valueOf 2) ∷ delete (keyOf 255 0) ∷ []) ∷ applying 1 (delete (keyOf 144 0) ∷ []) ∷ applying 1 (delete (keyOf 64 0) ∷ []) ∷ [])
+      ∷ game (store_of 0 0 (free_slots 12))
+      (pruning 0 ∷ applying 0 (insert (key_of 144 0) (value_of 2) ∷ delete (key_of 255 0) ∷ []) ∷ applying 1 (delete (key_of 144 0) ∷ []) ∷ applying 1 (delete (key_of 64 0) ∷ []) ∷ [])
       (freed 0 ∷ denied 18 ∷ made 1 zeros 0 ∷ denied 18 ∷ [])
       end6
-      ∷ game (storeOf 0 0 (freeSlots 8))
-      (applying 0 (delete (keyOf 64 0) ∷ []) ∷ applying 1 (insert (keyOf 0 0) (valueOf 2) ∷ insert (keyOf 8 0) (valueOf 1) ∷ insert (keyOf 104 0) (valueOf 3) ∷ []) ∷ applying 1 (insert (keyOf 0 0) (valueOf 2) ∷ delete (keyOf 64 0) ∷ []) ∷ applying 4 (insert (keyOf 128 0) (valueOf 3) ∷ []) ∷ applying 3 (insert (keyOf 8 0) (valueOf 3) ∷ delete (keyOf 64 0) ∷ insert (keyOf 96 0) (valueOf 4) ∷ []) ∷ [])
+      ∷ game (store_of 0 0 (free_slots 8))
+      (applying 0 (delete (key_of 64 0) ∷ []) ∷ applying 1 (insert (key_of 0 0) (value_of 2) ∷ insert (key_of 8 0) (value_of 1) ∷ insert (key_of 104 0) (value_of 3) ∷ []) ∷ applying 1 (insert (key_of 0 0) (value_of 2) ∷ delete (key_of 64 0) ∷ []) ∷ applying 4 (insert (key_of 128 0) (value_of 3) ∷ []) ∷ applying 3 (insert (key_of 8 0) (value_of 3) ∷ delete (key_of 64 0) ∷ insert (key_of 96 0) (value_of 4) ∷ []) ∷ [])
       (denied 18 ∷ made 1 h26 8 ∷ denied 18 ∷ denied 7 ∷ denied 7 ∷ [])
       end7
-      ∷ game (storeOf 0 0 (freeSlots 16))
-      (pruning 1 ∷ pruning 0 ∷ applying 1 (insert (keyOf 8 0) (valueOf 2) ∷ []) ∷ applying 3 (delete (keyOf 8 0) ∷ delete (keyOf 64 0) ∷ []) ∷ pruning 0 ∷ applying 4 (insert (keyOf 64 0) (valueOf 4) ∷ []) ∷ applying 5 (insert (keyOf 0 0) (valueOf 3) ∷ []) ∷ applying 6 (delete (keyOf 254 0) ∷ []) ∷ [])
+      ∷ game (store_of 0 0 (free_slots 16))
+      (pruning 1 ∷ pruning 0 ∷ applying 1 (insert (key_of 8 0) (value_of 2) ∷ []) ∷ applying 3 (delete (key_of 8 0) ∷ delete (key_of 64 0) ∷ []) ∷ pruning 0 ∷ applying 4 (insert (key_of 64 0) (value_of 4) ∷ []) ∷ applying 5 (insert (key_of 0 0) (value_of 3) ∷ []) ∷ applying 6 (delete (key_of 254 0) ∷ []) ∷ [])
       (denied 8 ∷ freed 0 ∷ made 1 h30 1 ∷ made 3 zeros 0 ∷ freed 0 ∷ made 4 h28 1 ∷ made 5 h31 4 ∷ made 6 h31 1 ∷ [])
       end8
-      ∷ game (storeOf 0 0 (freeSlots 24))
-      (applying 1 (insert (keyOf 192 0) (valueOf 3) ∷ []) ∷ applying 2 (delete (keyOf 254 0) ∷ []) ∷ applying 6 (delete (keyOf 254 0) ∷ []) ∷ applying 10 ([]) ∷ pruning 0 ∷ pruning 3 ∷ [])
+      ∷ game (store_of 0 0 (free_slots 24))
+      (applying 1 (insert (key_of 192 0) (value_of 3) ∷ []) ∷ applying 2 (delete (key_of 254 0) ∷ []) ∷ applying 6 (delete (key_of 254 0) ∷ []) ∷ applying 10 ([]) ∷ pruning 0 ∷ pruning 3 ∷ [])
       (made 1 h32 1 ∷ made 2 h32 1 ∷ made 6 h32 1 ∷ made 10 h32 1 ∷ freed 0 ∷ freed 1 ∷ [])
       end9
-      ∷ game (storeOf 0 0 (freeSlots 4))
-      (applying 4 (delete (keyOf 8 0) ∷ insert (keyOf 144 0) (valueOf 2) ∷ []) ∷ applying 8 (insert (keyOf 8 0) (valueOf 3) ∷ []) ∷ pruning 0 ∷ applying 4 (insert (keyOf 144 0) (valueOf 3) ∷ insert (keyOf 192 0) (valueOf 3) ∷ []) ∷ applying 9 (delete (keyOf 96 0) ∷ []) ∷ applying 9 (insert (keyOf 8 0) (valueOf 4) ∷ delete (keyOf 144 0) ∷ []) ∷ pruning 1 ∷ applying 12 ([]) ∷ pruning 9 ∷ applying 9 (insert (keyOf 192 0) (valueOf 3) ∷ []) ∷ [])
+      ∷ game (store_of 0 0 (free_slots 4))
+      (applying 4 (delete (key_of 8 0) ∷ insert (key_of 144 0) (value_of 2) ∷ []) ∷ applying 8 (insert (key_of 8 0) (value_of 3) ∷ []) ∷ pruning 0 ∷ applying 4 (insert (key_of 144 0) (value_of 3) ∷ insert (key_of 192 0) (value_of 3) ∷ []) ∷ applying 9 (delete (key_of 96 0) ∷ []) ∷ applying 9 (insert (key_of 8 0) (value_of 4) ∷ delete (key_of 144 0) ∷ []) ∷ pruning 1 ∷ applying 12 ([]) ∷ pruning 9 ∷ applying 9 (insert (key_of 192 0) (value_of 3) ∷ []) ∷ [])
       (made 4 h5 1 ∷ made 8 h34 3 ∷ freed 0 ∷ denied 18 ∷ denied 7 ∷ denied 7 ∷ freed 0 ∷ denied 7 ∷ denied 8 ∷ denied 7 ∷ [])
       end10
-      ∷ game (storeOf 4294967293 4294967293 (freeSlots 8))
-      (pruning 4294967293 ∷ pruning 4294967293 ∷ pruning 4294967292 ∷ applying 4294967294 ([]) ∷ applying 4294967295 ([]) ∷ applying 4294967295 ([]) ∷ applying 4294967295 (insert (keyOf 254 0) (valueOf 2) ∷ []) ∷ applying 4294967295 (insert (keyOf 96 0) (valueOf 1) ∷ insert (keyOf 255 0) (valueOf 4) ∷ []) ∷ [])
+      ∷ game (store_of 4294967293 4294967293 (free_slots 8))
+      (pruning 4294967293 ∷ pruning 4294967293 ∷ pruning 4294967292 ∷ applying 4294967294 ([]) ∷ applying 4294967295 ([]) ∷ applying 4294967295 ([]) ∷ applying 4294967295 (insert (key_of 254 0) (value_of 2) ∷ []) ∷ applying 4294967295 (insert (key_of 96 0) (value_of 1) ∷ insert (key_of 255 0) (value_of 4) ∷ []) ∷ [])
       (freed 0 ∷ freed 0 ∷ denied 8 ∷ made 4294967294 zeros 0 ∷ made 4294967295 zeros 0 ∷ denied 18 ∷ denied 18 ∷ denied 18 ∷ [])
       end11
-      ∷ game (storeOf 0 0 (freeSlots 24))
-      (applying 1 (insert (keyOf 8 0) (valueOf 1) ∷ delete (keyOf 254 0) ∷ []) ∷ applying 6 (delete (keyOf 8 0) ∷ delete (keyOf 254 0) ∷ []) ∷ applying 8 (insert (keyOf 8 0) (valueOf 3) ∷ []) ∷ pruning 9 ∷ applying 12 (insert (keyOf 8 0) (valueOf 3) ∷ []) ∷ [])
+      ∷ game (store_of 0 0 (free_slots 24))
+      (applying 1 (insert (key_of 8 0) (value_of 1) ∷ delete (key_of 254 0) ∷ []) ∷ applying 6 (delete (key_of 8 0) ∷ delete (key_of 254 0) ∷ []) ∷ applying 8 (insert (key_of 8 0) (value_of 3) ∷ []) ∷ pruning 9 ∷ applying 12 (insert (key_of 8 0) (value_of 3) ∷ []) ∷ [])
       (made 1 h20 1 ∷ made 6 zeros 0 ∷ made 8 h33 1 ∷ denied 8 ∷ made 12 h33 1 ∷ [])
       end12
-      ∷ game (storeOf 0 0 (freeSlots 16))
-      (applying 1 (delete (keyOf 8 0) ∷ delete (keyOf 104 0) ∷ insert (keyOf 144 0) (valueOf 2) ∷ []) ∷ pruning 0 ∷ applying 4 (insert (keyOf 104 0) (valueOf 2) ∷ []) ∷ pruning 4 ∷ applying 5 (insert (keyOf 144 0) (valueOf 2) ∷ []) ∷ pruning 3 ∷ [])
+      ∷ game (store_of 0 0 (free_slots 16))
+      (applying 1 (delete (key_of 8 0) ∷ delete (key_of 104 0) ∷ insert (key_of 144 0) (value_of 2) ∷ []) ∷ pruning 0 ∷ applying 4 (insert (key_of 104 0) (value_of 2) ∷ []) ∷ pruning 4 ∷ applying 5 (insert (key_of 144 0) (value_of 2) ∷ []) ∷ pruning 3 ∷ [])
       (made 1 h5 1 ∷ freed 0 ∷ made 4 h36 3 ∷ freed 1 ∷ made 5 h36 1 ∷ denied 8 ∷ [])
       end13
-      ∷ game (storeOf 0 0 (freeSlots 24))
-      (applying 1 (insert (keyOf 64 0) (valueOf 4) ∷ insert (keyOf 144 0) (valueOf 1) ∷ []) ∷ applying 4 (insert (keyOf 64 0) (valueOf 4) ∷ insert (keyOf 128 0) (valueOf 2) ∷ []) ∷ applying 9 (delete (keyOf 64 0) ∷ insert (keyOf 128 0) (valueOf 1) ∷ []) ∷ applying 11 (insert (keyOf 64 0) (valueOf 2) ∷ insert (keyOf 128 0) (valueOf 4) ∷ delete (keyOf 144 0) ∷ []) ∷ applying 12 (insert (keyOf 128 0) (valueOf 4) ∷ insert (keyOf 144 0) (valueOf 3) ∷ []) ∷ applying 16 (delete (keyOf 64 0) ∷ insert (keyOf 144 0) (valueOf 3) ∷ []) ∷ [])
+      ∷ game (store_of 0 0 (free_slots 24))
+      (applying 1 (insert (key_of 64 0) (value_of 4) ∷ insert (key_of 144 0) (value_of 1) ∷ []) ∷ applying 4 (insert (key_of 64 0) (value_of 4) ∷ insert (key_of 128 0) (value_of 2) ∷ []) ∷ applying 9 (delete (key_of 64 0) ∷ insert (key_of 128 0) (value_of 1) ∷ []) ∷ applying 11 (insert (key_of 64 0) (value_of 2) ∷ insert (key_of 128 0) (value_of 4) ∷ delete (key_of 144 0) ∷ []) ∷ applying 12 (insert (key_of 128 0) (value_of 4) ∷ insert (key_of 144 0) (value_of 3) ∷ []) ∷ applying 16 (delete (key_of 64 0) ∷ insert (key_of 144 0) (value_of 3) ∷ []) ∷ [])
       (made 1 h49 3 ∷ made 4 h50 6 ∷ made 9 h51 5 ∷ made 11 h52 3 ∷ made 12 h53 6 ∷ made 16 h54 1 ∷ [])
       end14
-      ∷ game (storeOf 0 0 (freeSlots 24))
-      (pruning 0 ∷ applying 3 (delete (keyOf 16 0) ∷ insert (keyOf 64 0) (valueOf 3) ∷ delete (keyOf 192 0) ∷ []) ∷ applying 6 ([]) ∷ pruning 4 ∷ applying 7 (delete (keyOf 16 0) ∷ []) ∷ pruning 3 ∷ [])
+      ∷ game (store_of 0 0 (free_slots 24))
+      (pruning 0 ∷ applying 3 (delete (key_of 16 0) ∷ insert (key_of 64 0) (value_of 3) ∷ delete (key_of 192 0) ∷ []) ∷ applying 6 ([]) ∷ pruning 4 ∷ applying 7 (delete (key_of 16 0) ∷ []) ∷ pruning 3 ∷ [])
       (freed 0 ∷ made 3 h11 1 ∷ made 6 h11 1 ∷ freed 0 ∷ made 7 h11 1 ∷ denied 8 ∷ [])
       end15
-      ∷ game (storeOf 0 0 (freeSlots 24))
-      (pruning 0 ∷ applying 1 (delete (keyOf 64 0) ∷ insert (keyOf 128 0) (valueOf 2) ∷ []) ∷ pruning 2 ∷ applying 2 (delete (keyOf 192 0) ∷ []) ∷ [])
+      ∷ game (store_of 0 0 (free_slots 24))
+      (pruning 0 ∷ applying 1 (delete (key_of 64 0) ∷ insert (key_of 128 0) (value_of 2) ∷ []) ∷ pruning 2 ∷ applying 2 (delete (key_of 192 0) ∷ []) ∷ [])
       (freed 0 ∷ made 1 h38 1 ∷ denied 8 ∷ made 2 h38 1 ∷ [])
       end16
-      ∷ game (storeOf 0 0 (freeSlots 8))
-      (applying 1 (insert (keyOf 0 0) (valueOf 1) ∷ delete (keyOf 104 0) ∷ []) ∷ applying 4 (insert (keyOf 255 0) (valueOf 4) ∷ []) ∷ applying 5 (insert (keyOf 0 0) (valueOf 1) ∷ []) ∷ applying 6 (delete (keyOf 192 0) ∷ insert (keyOf 254 0) (valueOf 4) ∷ []) ∷ applying 6 (insert (keyOf 104 0) (valueOf 2) ∷ []) ∷ [])
+      ∷ game (store_of 0 0 (free_slots 8))
+      (applying 1 (insert (key_of 0 0) (value_of 1) ∷ delete (key_of 104 0) ∷ []) ∷ applying 4 (insert (key_of 255 0) (value_of 4) ∷ []) ∷ applying 5 (insert (key_of 0 0) (value_of 1) ∷ []) ∷ applying 6 (delete (key_of 192 0) ∷ insert (key_of 254 0) (value_of 4) ∷ []) ∷ applying 6 (insert (key_of 104 0) (value_of 2) ∷ []) ∷ [])
       (made 1 h55 1 ∷ made 4 h56 3 ∷ made 5 h56 1 ∷ denied 7 ∷ denied 7 ∷ [])
       end17
-      ∷ game (storeOf 0 0 (freeSlots 24))
-      (applying 5 (insert (keyOf 96 0) (valueOf 3) ∷ []) ∷ applying 6 (insert (keyOf 192 0) (valueOf 1) ∷ []) ∷ pruning 6 ∷ applying 7 (insert (keyOf 192 0) (valueOf 2) ∷ []) ∷ applying 8 (delete (keyOf 96 0) ∷ []) ∷ pruning 7 ∷ pruning 9 ∷ [])
+      ∷ game (store_of 0 0 (free_slots 24))
+      (applying 5 (insert (key_of 96 0) (value_of 3) ∷ []) ∷ applying 6 (insert (key_of 192 0) (value_of 1) ∷ []) ∷ pruning 6 ∷ applying 7 (insert (key_of 192 0) (value_of 2) ∷ []) ∷ applying 8 (delete (key_of 96 0) ∷ []) ∷ pruning 7 ∷ pruning 9 ∷ [])
       (made 5 h57 1 ∷ made 6 h59 3 ∷ freed 1 ∷ made 7 h60 2 ∷ made 8 h9 1 ∷ freed 2 ∷ denied 8 ∷ [])
       end18
-      ∷ game (storeOf 0 0 (freeSlots 16))
-      (applying 4 (delete (keyOf 96 0) ∷ []) ∷ applying 0 (insert (keyOf 255 0) (valueOf 2) ∷ []) ∷ applying 6 (delete (keyOf 96 0) ∷ insert (keyOf 255 0) (valueOf 2) ∷ []) ∷ pruning 2 ∷ applying 9 (insert (keyOf 96 0) (valueOf 1) ∷ delete (keyOf 104 0) ∷ insert (keyOf 255 0) (valueOf 1) ∷ []) ∷ [])
+      ∷ game (store_of 0 0 (free_slots 16))
+      (applying 4 (delete (key_of 96 0) ∷ []) ∷ applying 0 (insert (key_of 255 0) (value_of 2) ∷ []) ∷ applying 6 (delete (key_of 96 0) ∷ insert (key_of 255 0) (value_of 2) ∷ []) ∷ pruning 2 ∷ applying 9 (insert (key_of 96 0) (value_of 1) ∷ delete (key_of 104 0) ∷ insert (key_of 255 0) (value_of 1) ∷ []) ∷ [])
       (made 4 zeros 0 ∷ denied 18 ∷ made 6 h63 1 ∷ freed 0 ∷ made 9 h64 3 ∷ [])
       end19
-      ∷ game (storeOf 0 0 (freeSlots 12))
-      (applying 2 (delete (keyOf 8 0) ∷ delete (keyOf 128 0) ∷ []) ∷ applying 4 (insert (keyOf 8 0) (valueOf 1) ∷ []) ∷ applying 9 (insert (keyOf 128 0) (valueOf 1) ∷ []) ∷ applying 12 (insert (keyOf 8 0) (valueOf 1) ∷ insert (keyOf 128 0) (valueOf 1) ∷ []) ∷ applying 17 (insert (keyOf 8 0) (valueOf 1) ∷ delete (keyOf 128 0) ∷ []) ∷ applying 20 (insert (keyOf 128 0) (valueOf 4) ∷ []) ∷ pruning 17 ∷ applying 21 (insert (keyOf 8 0) (valueOf 4) ∷ insert (keyOf 128 0) (valueOf 3) ∷ []) ∷ pruning 19 ∷ [])
+      ∷ game (store_of 0 0 (free_slots 12))
+      (applying 2 (delete (key_of 8 0) ∷ delete (key_of 128 0) ∷ []) ∷ applying 4 (insert (key_of 8 0) (value_of 1) ∷ []) ∷ applying 9 (insert (key_of 128 0) (value_of 1) ∷ []) ∷ applying 12 (insert (key_of 8 0) (value_of 1) ∷ insert (key_of 128 0) (value_of 1) ∷ []) ∷ applying 17 (insert (key_of 8 0) (value_of 1) ∷ delete (key_of 128 0) ∷ []) ∷ applying 20 (insert (key_of 128 0) (value_of 4) ∷ []) ∷ pruning 17 ∷ applying 21 (insert (key_of 8 0) (value_of 4) ∷ insert (key_of 128 0) (value_of 3) ∷ []) ∷ pruning 19 ∷ [])
       (made 2 zeros 0 ∷ made 4 h20 1 ∷ made 9 h67 3 ∷ made 12 h67 1 ∷ made 17 h20 1 ∷ made 20 h68 3 ∷ freed 5 ∷ made 21 h69 3 ∷ freed 0 ∷ [])
       end20
-      ∷ game (storeOf 0 0 (freeSlots 12))
-      (pruning 0 ∷ applying 4 (insert (keyOf 8 0) (valueOf 2) ∷ []) ∷ applying 5 (insert (keyOf 8 0) (valueOf 4) ∷ delete (keyOf 144 0) ∷ insert (keyOf 192 0) (valueOf 1) ∷ []) ∷ applying 6 (insert (keyOf 144 0) (valueOf 4) ∷ insert (keyOf 192 0) (valueOf 3) ∷ []) ∷ [])
+      ∷ game (store_of 0 0 (free_slots 12))
+      (pruning 0 ∷ applying 4 (insert (key_of 8 0) (value_of 2) ∷ []) ∷ applying 5 (insert (key_of 8 0) (value_of 4) ∷ delete (key_of 144 0) ∷ insert (key_of 192 0) (value_of 1) ∷ []) ∷ applying 6 (insert (key_of 144 0) (value_of 4) ∷ insert (key_of 192 0) (value_of 3) ∷ []) ∷ [])
       (freed 0 ∷ made 4 h30 1 ∷ made 5 h72 3 ∷ made 6 h73 4 ∷ [])
       end21
-      ∷ game (storeOf 0 0 (freeSlots 12))
-      (pruning 1 ∷ applying 1 ([]) ∷ pruning 0 ∷ applying 2 (delete (keyOf 104 0) ∷ delete (keyOf 128 0) ∷ insert (keyOf 254 0) (valueOf 2) ∷ []) ∷ applying 3 ([]) ∷ applying 4 (delete (keyOf 104 0) ∷ []) ∷ applying 9 (delete (keyOf 104 0) ∷ []) ∷ applying 10 (delete (keyOf 128 0) ∷ []) ∷ [])
+      ∷ game (store_of 0 0 (free_slots 12))
+      (pruning 1 ∷ applying 1 ([]) ∷ pruning 0 ∷ applying 2 (delete (key_of 104 0) ∷ delete (key_of 128 0) ∷ insert (key_of 254 0) (value_of 2) ∷ []) ∷ applying 3 ([]) ∷ applying 4 (delete (key_of 104 0) ∷ []) ∷ applying 9 (delete (key_of 104 0) ∷ []) ∷ applying 10 (delete (key_of 128 0) ∷ []) ∷ [])
       (denied 8 ∷ made 1 zeros 0 ∷ freed 0 ∷ made 2 h15 1 ∷ made 3 h15 1 ∷ made 4 h15 1 ∷ made 9 h15 1 ∷ made 10 h15 1 ∷ [])
       end22
-      ∷ game (storeOf 0 0 (freeSlots 12))
-      (applying 5 (delete (keyOf 144 0) ∷ delete (keyOf 192 0) ∷ []) ∷ applying 6 (insert (keyOf 8 0) (valueOf 1) ∷ delete (keyOf 192 0) ∷ []) ∷ applying 10 (delete (keyOf 192 0) ∷ []) ∷ applying 12 (delete (keyOf 96 0) ∷ []) ∷ applying 13 (insert (keyOf 144 0) (valueOf 1) ∷ []) ∷ applying 14 (insert (keyOf 8 0) (valueOf 3) ∷ insert (keyOf 144 0) (valueOf 1) ∷ []) ∷ applying 15 (delete (keyOf 96 0) ∷ []) ∷ applying 16 (delete (keyOf 144 0) ∷ []) ∷ [])
+      ∷ game (store_of 0 0 (free_slots 12))
+      (applying 5 (delete (key_of 144 0) ∷ delete (key_of 192 0) ∷ []) ∷ applying 6 (insert (key_of 8 0) (value_of 1) ∷ delete (key_of 192 0) ∷ []) ∷ applying 10 (delete (key_of 192 0) ∷ []) ∷ applying 12 (delete (key_of 96 0) ∷ []) ∷ applying 13 (insert (key_of 144 0) (value_of 1) ∷ []) ∷ applying 14 (insert (key_of 8 0) (value_of 3) ∷ insert (key_of 144 0) (value_of 1) ∷ []) ∷ applying 15 (delete (key_of 96 0) ∷ []) ∷ applying 16 (delete (key_of 144 0) ∷ []) ∷ [])
       (made 5 zeros 0 ∷ made 6 h20 1 ∷ made 10 h20 1 ∷ made 12 h20 1 ∷ made 13 h74 3 ∷ made 14 h75 2 ∷ made 15 h75 1 ∷ made 16 h33 1 ∷ [])
       end23
-      ∷ game (storeOf 4294967293 4294967293 (freeSlots 8))
-      (applying 4294967294 ([]) ∷ pruning 4294967292 ∷ pruning 4294967294 ∷ applying 2616371386 (delete (keyOf 16 0) ∷ delete (keyOf 104 0) ∷ []) ∷ applying 4294967295 (insert (keyOf 192 0) (valueOf 2) ∷ []) ∷ pruning 4294967296 ∷ applying 4294967295 ([]) ∷ pruning 4294967295 ∷ [])
+      ∷ game (store_of 4294967293 4294967293 (free_slots 8))
+      (applying 4294967294 ([]) ∷ pruning 4294967292 ∷ pruning 4294967294 ∷ applying 2616371386 (delete (key_of 16 0) ∷ delete (key_of 104 0) ∷ []) ∷ applying 4294967295 (insert (key_of 192 0) (value_of 2) ∷ []) ∷ pruning 4294967296 ∷ applying 4294967295 ([]) ∷ pruning 4294967295 ∷ [])
       (made 4294967294 zeros 0 ∷ denied 8 ∷ freed 0 ∷ denied 18 ∷ made 4294967295 h9 1 ∷ denied 8 ∷ denied 18 ∷ freed 0 ∷ [])
       end24
-      ∷ game (storeOf 0 0 (freeSlots 12))
-      (applying 0 (insert (keyOf 8 0) (valueOf 3) ∷ delete (keyOf 16 0) ∷ insert (keyOf 96 0) (valueOf 4) ∷ []) ∷ applying 3 ([]) ∷ pruning 1 ∷ applying 0 (insert (keyOf 254 0) (valueOf 4) ∷ []) ∷ [])
+      ∷ game (store_of 0 0 (free_slots 12))
+      (applying 0 (insert (key_of 8 0) (value_of 3) ∷ delete (key_of 16 0) ∷ insert (key_of 96 0) (value_of 4) ∷ []) ∷ applying 3 ([]) ∷ pruning 1 ∷ applying 0 (insert (key_of 254 0) (value_of 4) ∷ []) ∷ [])
       (denied 18 ∷ made 3 zeros 0 ∷ freed 0 ∷ denied 18 ∷ [])
       end25
-      ∷ game (storeOf 0 0 (freeSlots 16))
-      (applying 1 ([]) ∷ applying 2 (insert (keyOf 128 0) (valueOf 4) ∷ []) ∷ applying 3 (insert (keyOf 8 0) (valueOf 1) ∷ delete (keyOf 128 0) ∷ []) ∷ pruning 0 ∷ [])
+      ∷ game (store_of 0 0 (free_slots 16))
+      (applying 1 ([]) ∷ applying 2 (insert (key_of 128 0) (value_of 4) ∷ []) ∷ applying 3 (insert (key_of 8 0) (value_of 1) ∷ delete (key_of 128 0) ∷ []) ∷ pruning 0 ∷ [])
       (made 1 zeros 0 ∷ made 2 h0 1 ∷ made 3 h20 1 ∷ freed 0 ∷ [])
       end26
-      ∷ game (storeOf 0 0 (freeSlots 12))
-      (applying 1 ([]) ∷ applying 2 ([]) ∷ applying 3 (insert (keyOf 0 0) (valueOf 4) ∷ insert (keyOf 128 0) (valueOf 4) ∷ insert (keyOf 255 0) (valueOf 3) ∷ []) ∷ applying 4 (insert (keyOf 128 0) (valueOf 4) ∷ delete (keyOf 255 0) ∷ []) ∷ applying 5 (delete (keyOf 255 0) ∷ []) ∷ [])
+      ∷ game (store_of 0 0 (free_slots 12))
+      (applying 1 ([]) ∷ applying 2 ([]) ∷ applying 3 (insert (key_of 0 0) (value_of 4) ∷ insert (key_of 128 0) (value_of 4) ∷ insert (key_of 255 0) (value_of 3) ∷ []) ∷ applying 4 (insert (key_of 128 0) (value_of 4) ∷ delete (key_of 255 0) ∷ []) ∷ applying 5 (delete (key_of 255 0) ∷ []) ∷ [])
       (made 1 zeros 0 ∷ made 2 zeros 0 ∷ made 3 h78 5 ∷ made 4 h79 2 ∷ made 5 h79 1 ∷ [])
       end27
-      ∷ game (storeOf 0 0 (freeSlots 4))
-      (applying 1 ([]) ∷ applying 2 (delete (keyOf 254 0) ∷ delete (keyOf 255 0) ∷ []) ∷ pruning 2 ∷ applying 7 (insert (keyOf 16 0) (valueOf 2) ∷ insert (keyOf 254 0) (valueOf 3) ∷ delete (keyOf 255 0) ∷ []) ∷ applying 12 (insert (keyOf 16 0) (valueOf 2) ∷ []) ∷ applying 17 ([]) ∷ pruning 2 ∷ applying 13 (insert (keyOf 254 0) (valueOf 3) ∷ []) ∷ pruning 3 ∷ applying 17 (delete (keyOf 16 0) ∷ insert (keyOf 254 0) (valueOf 3) ∷ delete (keyOf 255 0) ∷ []) ∷ [])
+      ∷ game (store_of 0 0 (free_slots 4))
+      (applying 1 ([]) ∷ applying 2 (delete (key_of 254 0) ∷ delete (key_of 255 0) ∷ []) ∷ pruning 2 ∷ applying 7 (insert (key_of 16 0) (value_of 2) ∷ insert (key_of 254 0) (value_of 3) ∷ delete (key_of 255 0) ∷ []) ∷ applying 12 (insert (key_of 16 0) (value_of 2) ∷ []) ∷ applying 17 ([]) ∷ pruning 2 ∷ applying 13 (insert (key_of 254 0) (value_of 3) ∷ []) ∷ pruning 3 ∷ applying 17 (delete (key_of 16 0) ∷ insert (key_of 254 0) (value_of 3) ∷ delete (key_of 255 0) ∷ []) ∷ [])
       (made 1 zeros 0 ∷ made 2 zeros 0 ∷ freed 0 ∷ made 7 h82 3 ∷ made 12 h82 1 ∷ denied 7 ∷ freed 0 ∷ denied 7 ∷ freed 0 ∷ denied 7 ∷ [])
       end28
-      ∷ game (storeOf 0 0 (freeSlots 16))
-      (applying 1 (insert (keyOf 144 0) (valueOf 4) ∷ insert (keyOf 254 0) (valueOf 1) ∷ []) ∷ applying 2 (insert (keyOf 0 0) (valueOf 1) ∷ []) ∷ applying 5 (insert (keyOf 0 0) (valueOf 2) ∷ []) ∷ pruning 4 ∷ [])
+      ∷ game (store_of 0 0 (free_slots 16))
+      (applying 1 (insert (key_of 144 0) (value_of 4) ∷ insert (key_of 254 0) (value_of 1) ∷ []) ∷ applying 2 (insert (key_of 0 0) (value_of 1) ∷ []) ∷ applying 5 (insert (key_of 0 0) (value_of 2) ∷ []) ∷ pruning 4 ∷ [])
       (made 1 h85 4 ∷ made 2 h86 2 ∷ made 5 h87 2 ∷ freed 1 ∷ [])
       end29
       ∷ []
 
-  pub histories5 : All (GameHolds leafHash innerHash) rows
+  pub histories5 : All (GameHolds leaf_hash inner_hash) rows
   unfolding computed
   histories5 = ((refl, refl), ((refl, refl), ((refl, refl), ((refl, refl), ((refl, refl), ((refl, refl), ((refl, refl), ((refl, refl), ((refl, refl), ((refl, refl), ((refl, refl), ((refl, refl), ((refl, refl), ((refl, refl), ((refl, refl), ((refl, refl), ((refl, refl), ((refl, refl), ((refl, refl), ((refl, refl), ((refl, refl), ((refl, refl), ((refl, refl), ((refl, refl), ((refl, refl), ((refl, refl), ((refl, refl), ((refl, refl), ((refl, refl), ((refl, refl), tt))))))))))))))))))))))))))))))

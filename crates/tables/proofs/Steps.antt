@@ -1,24 +1,24 @@
 -- The steps give the answers and stores of the desk's tables, and of some more batches, by computing each row. Assumes nothing.
 use mathlib.Core.Path.{refl}
-use Rattle·terms.specs.Bits.{Bytes, All}
-use Rattle·meaning.specs.Computed.{computed}
-use Rattle·meaning.specs.Desk.{table}
-use Rattle·meaning.specs.DeskGaps.{gaps}
-use Rattle·steps.specs.Step.{grow, stepLeaf, innerBy, stepInner, stepNode, stepRoot}
-use Rattle·steps.specs.Writing.{markIn}
-use Rattle·steps.specs.Apply.{stepped, applySteps}
-use Rattle·tables·specs.specs.Steps.{RowSteps, StepsAgree, more}
+use Rattle.terms.specs.Bits.{Bytes, All}
+use Rattle.meaning.specs.Computed.{computed}
+use Rattle.meaning.specs.Desk.{table}
+use Rattle.meaning.specs.DeskGaps.{gaps}
+use Rattle.steps.specs.Step.{grow, step_leaf, inner_by, step_inner, step_node, step_root}
+use Rattle.steps.specs.Writing.{mark_in}
+use Rattle.steps.specs.Apply.{stepped, apply_steps}
+use Rattle.tables.specs.Steps.{RowSteps, StepsAgree, more}
 
-pub desk-by-steps : (leafHash innerHash : Bytes → Bytes → Bytes) → All (RowSteps leafHash innerHash) (table leafHash innerHash)
-unfolding computed grow stepLeaf innerBy stepInner stepNode stepRoot markIn stepped applySteps
-desk-by-steps leafHash innerHash =
+pub desk_by_steps : (leaf_hash inner_hash : Bytes → Bytes → Bytes) → All (RowSteps leaf_hash inner_hash) (table leaf_hash inner_hash)
+unfolding computed grow step_leaf inner_by step_inner step_node step_root mark_in stepped apply_steps
+desk_by_steps leaf_hash inner_hash =
     (refl, (refl, (refl, (refl, (refl, (refl, (tt, (refl, (refl, (refl, (tt, (tt, (refl, (refl, (refl, tt)))))))))))))))
 
-pub desk-gaps-by-steps : (leafHash innerHash : Bytes → Bytes → Bytes) → All (RowSteps leafHash innerHash) (gaps leafHash innerHash)
-unfolding computed grow stepLeaf innerBy stepInner stepNode stepRoot markIn stepped applySteps
-desk-gaps-by-steps leafHash innerHash =
+pub desk_gaps_by_steps : (leaf_hash inner_hash : Bytes → Bytes → Bytes) → All (RowSteps leaf_hash inner_hash) (gaps leaf_hash inner_hash)
+unfolding computed grow step_leaf inner_by step_inner step_node step_root mark_in stepped apply_steps
+desk_gaps_by_steps leaf_hash inner_hash =
     (refl, (tt, (refl, (tt, (tt, (tt, (tt, (refl, (refl, (tt, (tt, (tt, (tt, (refl, tt))))))))))))))
 
-pub more-by-steps : (leafHash innerHash : Bytes → Bytes → Bytes) → All (StepsAgree leafHash innerHash) (more leafHash innerHash)
-unfolding computed grow stepLeaf innerBy stepInner stepNode stepRoot markIn stepped applySteps
-more-by-steps leafHash innerHash = (refl, (refl, (refl, (refl, tt))))
+pub more_by_steps : (leaf_hash inner_hash : Bytes → Bytes → Bytes) → All (StepsAgree leaf_hash inner_hash) (more leaf_hash inner_hash)
+unfolding computed grow step_leaf inner_by step_inner step_node step_root mark_in stepped apply_steps
+more_by_steps leaf_hash inner_hash = (refl, (refl, (refl, (refl, tt))))

@@ -1,10 +1,6 @@
 -- Document 01, 'Bytes', 'The tree of a set of grants': byte strings, keys, places, the order of keys. Assumes nothing.
-use Prim.Native.Nat.{ℕ, zero, suc, _+_, _*_, _<_, _/_, _%_}
-use mathlib.Core.Path.{_≡_}
-use mathlib.Core.Bool.{Bool, true, false, cond, not, _&&_, _||_, Bool·beq}
-use mathlib.Core.List.{List, [], _∷_, _++_}
-use lib.ListN.{length, getD, drop}
-use lib.Dec.{ltb, eqb}
+use Rattle.std.specs.Prelude.{ℕ, zero, suc, ◌+◌, ◌*◌, ◌<◌, ◌/◌, ◌%◌, ◌≡◌, Bool, true, false, cond, not, ◌&&◌, ◌||◌, List, [], ◌∷◌, ◌++◌, length, get_or, drop, ltb, eqb}
+use Rattle.std.specs.Bool.{beq}
 
 -- The entries that pass a test, in their order.
 abbrev pub filter {ℓ} : {A : Type ℓ} → (A → Bool) → List A → List A
@@ -49,17 +45,17 @@ unfoldable pub odd : ℕ → Bool
 odd n = eqb (n % 2) 1
 
 -- The bits of a byte, the top bit first.
-unfoldable pub byteBits : ℕ → List Side
-byteBits x =
+unfoldable pub byte_bits : ℕ → List Side
+byte_bits x =
     odd (x / 128) ∷ odd (x / 64) ∷ odd (x / 32) ∷ odd (x / 16) ∷ odd (x / 8) ∷ odd (x / 4) ∷ odd (x / 2) ∷ odd x ∷ []
 
 -- The bits of a byte string: bit 0 of a key is the top bit of byte 0.
 abbrev pub bits : Bytes → List Side
 bits [] = []
-bits (x ∷ xs) = byteBits x ++ bits xs
+bits (x ∷ xs) = byte_bits x ++ bits xs
 
 unfoldable pub bit : ℕ → Bytes → Side
-bit i k = getD (bits k) i left
+bit i k = get_or (bits k) i left
 
 abbrev pub digit : Side → ℕ
 digit false = 0
@@ -68,7 +64,7 @@ digit true = 1
 -- The byte of eight bits, the top bit first; missing ones are 0.
 unfoldable pub packed : List Side → ℕ
 packed b =
-    let d : ℕ → ℕ = λ i. digit (getD b i left) in
+    let d : ℕ → ℕ = λ i. digit (get_or b i left) in
     128 * d 0 + 64 * d 1 + 32 * d 2 + 16 * d 3 + 8 * d 4 + 4 * d 5 + 2 * d 6 + d 7
 
 -- A string of bits in n bytes, unused bits zero.
@@ -77,15 +73,15 @@ pack zero b = []
 pack (suc n) b = packed b ∷ pack n (drop 8 b)
 
 -- No bit is set.
-abbrev pub noneSet : List Side → Bool
-noneSet [] = true
-noneSet (b ∷ bs) = not b && noneSet bs
+abbrev pub none_set : List Side → Bool
+none_set [] = true
+none_set (b ∷ bs) = not b && none_set bs
 
 -- A string of bits begins with a place.
 abbrev pub prefix : Place → List Side → Bool
 prefix [] bs = true
 prefix (b ∷ p) [] = false
-prefix (b ∷ p) (c ∷ bs) = Bool·beq b c && prefix p bs
+prefix (b ∷ p) (c ∷ bs) = beq b c && prefix p bs
 
 -- A key begins with a place.
 unfoldable pub begins : Place → Bytes → Bool
@@ -98,14 +94,14 @@ before [] (y ∷ ys) = true
 before (x ∷ xs) [] = false
 before (x ∷ xs) (y ∷ ys) = ltb x y || (eqb x y && before xs ys)
 
-abbrev pub sameBytes : Bytes → Bytes → Bool
-sameBytes [] [] = true
-sameBytes [] (y ∷ ys) = false
-sameBytes (x ∷ xs) [] = false
-sameBytes (x ∷ xs) (y ∷ ys) = eqb x y && sameBytes xs ys
+abbrev pub same_bytes : Bytes → Bytes → Bool
+same_bytes [] [] = true
+same_bytes [] (y ∷ ys) = false
+same_bytes (x ∷ xs) [] = false
+same_bytes (x ∷ xs) (y ∷ ys) = eqb x y && same_bytes xs ys
 
-abbrev pub samePlace : Place → Place → Bool
-samePlace [] [] = true
-samePlace [] (c ∷ q) = false
-samePlace (b ∷ p) [] = false
-samePlace (b ∷ p) (c ∷ q) = Bool·beq b c && samePlace p q
+abbrev pub same_place : Place → Place → Bool
+same_place [] [] = true
+same_place [] (c ∷ q) = false
+same_place (b ∷ p) [] = false
+same_place (b ∷ p) (c ∷ q) = beq b c && same_place p q

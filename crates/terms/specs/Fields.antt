@@ -1,10 +1,6 @@
 -- Document 01, 'Bytes': the fields of a record. All numbers little-endian; "zero" bytes must be zero. Assumes nothing.
-use Prim.Native.Nat.{ℕ, zero, suc, _+_, _*_, _/_, _%_}
-use mathlib.Core.Bool.{Bool, true, _&&_}
-use mathlib.Core.List.{List, [], _∷_, _++_}
-use lib.ListN.{take, drop, replicate}
-use lib.Dec.{eqb}
-use Rattle·terms·specs.specs.Bits.{Bytes}
+use Rattle.std.specs.Prelude.{ℕ, zero, suc, ◌+◌, ◌*◌, ◌/◌, ◌%◌, Bool, true, ◌&&◌, List, [], ◌∷◌, ◌++◌, take, drop, replicate, eqb}
+use Rattle.terms.specs.Bits.{Bytes}
 
 -- A number in n bytes, the lowest first.
 unfoldable pub le : ℕ → ℕ → Bytes
@@ -24,12 +20,12 @@ slice i n s = take n (drop i s)
 unfoldable pub field : ℕ → ℕ → Bytes → ℕ
 field i n s = num (slice i n s)
 
-unfoldable pub zeroBytes : ℕ → Bytes
-zeroBytes n = replicate n 0
+unfoldable pub zero_bytes : ℕ → Bytes
+zero_bytes n = replicate n 0
 
-abbrev pub allZero : Bytes → Bool
-allZero [] = true
-allZero (x ∷ xs) = eqb x 0 && allZero xs
+abbrev pub all_zero : Bytes → Bool
+all_zero [] = true
+all_zero (x ∷ xs) = eqb x 0 && all_zero xs
 
 -- Fields one after the other.
 abbrev pub flat : List Bytes → Bytes
@@ -37,6 +33,6 @@ flat [] = []
 flat (x ∷ xs) = x ++ flat xs
 
 -- Each test of a list passes.
-unfoldable pub allOf : List Bool → Bool
-allOf [] = true
-allOf (t ∷ ts) = t && allOf ts
+unfoldable pub all_of : List Bool → Bool
+all_of [] = true
+all_of (t ∷ ts) = t && all_of ts

@@ -1,13 +1,10 @@
 -- Document 01, 'Bytes': what grants, batches, slots, stores and proofs say, apart from their bytes. Assumes nothing.
-use Prim.Native.Nat.{ℕ}
-use mathlib.Core.Bool.{true, false}
-use mathlib.Core.List.{List}
-use mathlib.Core.Option.{Option}
-use lib.ListN.{replicate}
-use Rattle·terms·specs.specs.Bits.{Bytes, Side, Place}
+use Rattle.std.specs.Prelude.{ℕ, true, false, List, replicate}
+use Rattle.std.proofs.Math.Option.{Option}
+use Rattle.terms.specs.Bits.{Bytes, Side, Place}
 -- The form of a store: the plain one of document 01, whose records hold no counts, or the counted one of 2026-09.
-pub use Rattle·terms·specs.specs.declared.Form.{Form}
-pub use Rattle·terms·specs.specs.declared.Form.the-variants.{Plain as plain, Counted as counted}
+pub use Rattle.terms.specs.declared.Form.{Form}
+pub use Rattle.terms.specs.declared.Form.TheVariants.{Plain as plain, Counted as counted}
 
 -- A grant is a key with its value.
 pub record Grant : Type 0 where
@@ -22,9 +19,9 @@ pub data Ask : Type 0 where
   insert : Bytes → Bytes → Ask
   delete : Bytes → Ask
 
-abbrev pub askKey : Ask → Bytes
-askKey (insert k x) = k
-askKey (delete k) = k
+abbrev pub ask_key : Ask → Bytes
+ask_key (insert k x) = k
+ask_key (delete k) = k
 
 -- 32 zero bytes: the hash of a missing child, and the root of no grants.
 unfoldable pub zeros : Bytes
@@ -40,8 +37,8 @@ child v h = record { version = v; hash = h }
 
 -- What a record holds beside its node (version, place): a leaf its key and value, an inner node its children.
 pub data Body : Type 0 where
-  leafBody : Bytes → Bytes → Body
-  innerBody : Child → Child → Body
+  leaf_body : Bytes → Bytes → Body
+  inner_body : Child → Child → Body
 
 -- The numbers of leaves below a left and a right child (2026-09): no hash covers them, and no tree is read by them.
 pub record Tally : Type 0 where
@@ -52,13 +49,13 @@ abbrev pub tally : ℕ → ℕ → Tally
 tally l r = record { leftward = l; rightward = r }
 
 -- A leaf's, and those of the plain form.
-abbrev pub noTally : Tally
-noTally = tally 0 0
+abbrev pub no_tally : Tally
+no_tally = tally 0 0
 
 -- The count on a side.
-abbrev pub countOn : Side → Tally → ℕ
-countOn false c = c .leftward
-countOn true c = c .rightward
+abbrev pub count_on : Side → Tally → ℕ
+count_on false c = c.leftward
+count_on true c = c.rightward
 
 -- A record; retired since 0 means that it is not retired.
 pub record Record : Type 0 where
@@ -68,8 +65,8 @@ pub record Record : Type 0 where
   pub body : Body
   pub counts : Tally
 
-abbrev pub recordOf : Place → ℕ → ℕ → Body → Tally → Record
-recordOf p v n b c = record { place = p; version = v; retired = n; body = b; counts = c }
+abbrev pub record_of : Place → ℕ → ℕ → Body → Tally → Record
+record_of p v n b c = record { place = p; version = v; retired = n; body = b; counts = c }
 
 -- A slot is free, or a record in form, or neither: then its bytes are all that can be said of it.
 pub data Slot : Type 0 where
@@ -84,8 +81,8 @@ pub record Store : Type 0 where
   pub latest : ℕ
   pub slots : List Slot
 
-abbrev pub storeFrom : Form → ℕ → ℕ → List Slot → Store
-storeFrom f old new s = record { form = f; oldest = old; latest = new; slots = s }
+abbrev pub store_from : Form → ℕ → ℕ → List Slot → Store
+store_from f old new s = record { form = f; oldest = old; latest = new; slots = s }
 
 -- A step of a proof: on which side the node stands, and its sibling's hash.
 pub record Step : Type 0 where

@@ -1,23 +1,19 @@
 // The check of presence and absence proofs over hostile bytes, document 01, 'Checking'.
-ghost use mathlib.Core.Path.{_≡_};
-ghost use mathlib.Core.Bool.{cond};
-ghost use Rattle·meaning.specs.Calls.{refused};
-ghost use Rattle·verify_rules.specs.Reading.{verified};
-ghost use Rattle·verify·specs.specs.Says.{says};
-use hash::Hash;
-use hash::hash_at;
+#![tactic(auto)]
+
+ghost use Rattle.std.specs.Prelude.{◌≡◌, cond};
+ghost use Rattle.meaning.specs.Calls.{refused};
+ghost use Rattle.verify_rules.specs.Reading.{verified};
+ghost use Rattle.verify.specs.Says.{says};
+
+use hash::{Hash, hash_at};
 use proofrecords::VALUE_AT;
-use refusal_numbers::NOT_32_BYTES;
-use refusal_numbers::NOT_HOLDING;
-use refusal_numbers::NOT_IN_FORM;
-use verify_form::is_absence;
-use verify_form::is_presence;
-use verify_holds::absence_holds;
-use verify_holds::presence_holds;
-use verify_holds::walk_absence;
-use verify_holds::walk_presence;
+use refusal_numbers::{NOT_32_BYTES, NOT_HOLDING, NOT_IN_FORM};
+use verify_form::{is_absence, is_presence};
+use verify_holds::{absence_holds, presence_holds, walk_absence, walk_presence};
 
 // The answer of the check: a number of refusal, "present" with the value, or "absent".
+#[derive(Clone, Copy)]
 pub enum Checked {
     Refused(u32),
     Present(Hash),
@@ -26,7 +22,7 @@ pub enum Checked {
 
 // The answer of a proof in form that holds, else 11.
 pub fn held(holds: bool, answer: Checked) -> Checked
-    ensures { λ r. ⌜ says r ≡ cond holds (says answer) (refused 11) ⌝ }
+    ensures { says result ≡ cond holds (says answer) (refused 11) }
 {
     if holds {
         return answer;
@@ -36,7 +32,7 @@ pub fn held(holds: bool, answer: Checked) -> Checked
 
 // What a proof says of a key under a root: any bytes may be handed in.
 pub fn verify(root: &[u8], key: &[u8], proof: &[u8]) -> Checked
-    ensures { λ r. ⌜ says r ≡ verified (now (root .entry)) (now (key .entry)) (now (proof .entry)) ⌝ }
+    ensures { says result ≡ verified root.now key.now proof.now }
 {
     if root.len() != 32 {
         return Checked::Refused(NOT_32_BYTES);

@@ -1,20 +1,20 @@
 // The proof check for callers in other languages, document 01, 'Forms to follow': an editor needs this alone.
-ghost use mathlib.Core.Path.{_≡_};
-ghost use lib.ListN.{length};
-ghost use Rattle·meaning.specs.Reading.{present};
-ghost use Rattle·meaning.specs.Answers.{foundBytes};
-ghost use Rattle·hash.specs.Hash.{hashBytes};
-ghost use Rattle·verify_rules.specs.Verify.{Verifies};
+#![tactic(auto)]
+
+ghost use Rattle.std.specs.Prelude.{◌≡◌, length};
+ghost use Rattle.meaning.specs.Reading.{present};
+ghost use Rattle.meaning.specs.Answers.{found_bytes};
+ghost use Rattle.hash.specs.Hash.{hash_bytes};
+ghost use Rattle.verify_rules.specs.Verify.{Verifies};
+
 use fields::clear;
-use hash::Hash;
-use hash::put_hash;
-use verify::Checked;
-use verify::verify;
+use hash::{Hash, put_hash};
+use verify::{Checked, verify};
 
 // Writes 1 and the value.
 fn put_present(found: &mut [u8], hash: Hash)
-    requires { ⌜ length (now found) ≡ 33 ⌝ }
-    ensures { λ _. ⌜ now (found .exit) ≡ foundBytes (present (hashBytes hash)) ⌝ }
+    requires { length found.old ≡ 33 }
+    ensures { found.new ≡ found_bytes (present (hash_bytes hash)) }
 {
     found[0] = 1;
     put_hash(&mut found[1..33], hash);
@@ -22,9 +22,8 @@ fn put_present(found: &mut [u8], hash: Hash)
 
 // The check for callers in other languages: 0 where a proof is accepted, with 1 and the value or 0 and zero bytes in `found`; else the
 // number of refusal, with `found` as it was.
-#[no_mangle]
-pub extern "C" fn grants_verify(root: &[u8], key: &[u8], proof: &[u8], found: &mut [u8; 33]) -> u32
-    ensures { λ r. ⌜ Verifies (now (root .entry)) (now (key .entry)) (now (proof .entry)) (now (found .entry)) r (now (found .exit)) ⌝ }
+pub fn grants_verify(root: &[u8], key: &[u8], proof: &[u8], found: &mut [u8; 33]) -> u32
+    ensures { Verifies root.now key.now proof.now found.old result found.new }
 {
     let answer = verify(root, key, proof);
     match answer {

@@ -1,18 +1,17 @@
 // A row of records cut by their own lengths, where the paths of each begin, and an answer of one in bytes.
-ghost use mathlib.Core.Path.{_≡_};
-ghost use mathlib.Core.List.{_∷_};
-ghost use Prim.Native.Nat.{_<_, _≤_};
-ghost use lib.ListN.{length};
-ghost use Rattle·hash.specs.Hash.{hashBytes};
-ghost use Rattle·terms.specs.Fields.{zeroBytes};
-ghost use Rattle·verify_cut·specs.specs.Row.{PieceEnd, GatheredAs};
-use fields::clear;
-use fields::get_u32;
-use hash::Hash;
-use hash::put_hash;
+#![tactic(auto)]
+
+ghost use Rattle.std.specs.Prelude.{◌≡◌, ◌∷◌, ◌<◌, ◌≤◌, length};
+ghost use Rattle.hash.specs.Hash.{hash_bytes};
+ghost use Rattle.terms.specs.Fields.{zero_bytes};
+ghost use Rattle.verify_cut.specs.Row.{PieceEnd, GatheredAs};
+
+use fields::{clear, get_u32};
+use hash::{Hash, put_hash};
 use verify_plan::paths_of;
 
 // What came of the cut: whether the bytes are as many records as keys, and how many paths these have.
+#[derive(Clone, Copy)]
 pub struct Gathered {
     pub whole: bool,
     pub many: usize,
@@ -20,8 +19,8 @@ pub struct Gathered {
 
 // Where the record at a ends, by its own length; 0 where no record begins there.
 pub fn piece_end(p: &[u8], a: usize) -> usize
-    requires { ⌜ a ≤ length (now p) ⌝ }
-    ensures { λ r. ⌜ PieceEnd (now (p .entry)) a r ⌝ }
+    requires { a ≤ length p.now }
+    ensures { PieceEnd p.now a result }
 {
     let rest = p.len() - a;
     if rest < 4 {
@@ -39,8 +38,8 @@ pub fn piece_end(p: &[u8], a: usize) -> usize
 
 // Cuts the bytes into n records, and gathers where the paths of each begin; the index of its first path stands in `index`.
 pub fn gather(p: &[u8], n: usize, at: &mut [usize; 512], index: &mut [usize; 256]) -> Gathered
-    requires { ⌜ (n ≤ 256) × (length (now at) ≡ 512) × (length (now index) ≡ 256) ⌝ }
-    ensures { λ r. ⌜ GatheredAs (now (p .entry)) n (now (at .exit)) (now (index .exit)) r ⌝ }
+    requires { (n ≤ 256) × (length at.old ≡ 512) × (length index.old ≡ 256) }
+    ensures { GatheredAs p.now n at.new index.new result }
 {
     let mut i = 0;
     let mut m = 0;
@@ -69,8 +68,8 @@ pub fn gather(p: &[u8], n: usize, at: &mut [usize; 512], index: &mut [usize; 256
 
 // Writes a number of refusal, and 33 zero bytes.
 pub fn put_refusal(out: &mut [u8], number: u32)
-    requires { ⌜ (length (now out) ≡ 34) × (number < 256) ⌝ }
-    ensures { λ _. ⌜ now (out .exit) ≡ number ∷ zeroBytes 33 ⌝ }
+    requires { (length out.old ≡ 34) × (number < 256) }
+    ensures { out.new ≡ number ∷ zero_bytes 33 }
 {
     clear(out);
     out[0] = number as u8;
@@ -78,8 +77,8 @@ pub fn put_refusal(out: &mut [u8], number: u32)
 
 // Writes 0, then 1 and the value.
 pub fn put_value(out: &mut [u8], hash: Hash)
-    requires { ⌜ length (now out) ≡ 34 ⌝ }
-    ensures { λ _. ⌜ now (out .exit) ≡ 0 ∷ (1 ∷ hashBytes hash) ⌝ }
+    requires { length out.old ≡ 34 }
+    ensures { out.new ≡ 0 ∷ (1 ∷ hash_bytes hash) }
 {
     out[0] = 0;
     out[1] = 1;

@@ -2,30 +2,25 @@
 //
 //     presence proof   0 length, 4 kind, 6 step count, 8 key, 40 value, 72 steps of 33 bytes (side, sibling's hash)
 //     absence proof    0 length, 4 kind, 6 flags, 8 key, 40 the neighbours' presence proofs
-ghost use mathlib.Core.Path.{_≡_};
-ghost use Prim.Native.Nat.{_≤_};
-ghost use lib.ListN.{length, drop};
-ghost use Rattle·proofrecords.specs.ProofBytes.{sidesRight, isPresence, neighboursFit, isAbsence};
-ghost use Rattle·proofrecords.specs.Steps.{Room};
-use fields::get_u16;
-use fields::get_u32;
-use proofrecords::ABSENCE_HEAD;
-use proofrecords::ABSENCE_KIND;
-use proofrecords::FLAGS_AT;
-use proofrecords::KIND_AT;
-use proofrecords::MOST_STEPS;
-use proofrecords::PRESENCE_HEAD;
-use proofrecords::PRESENCE_KIND;
-use proofrecords::STEP_SIZE;
-use proofrecords::STEPS_AT;
+#![tactic(auto)]
+
+ghost use Rattle.std.specs.Prelude.{◌≡◌, ◌≤◌, length, drop};
+ghost use Rattle.proofrecords.specs.ProofBytes.{sides_right, is_presence, neighbours_fit, is_absence};
+ghost use Rattle.proofrecords.specs.Steps.{Room};
+
+use fields::{get_u16, get_u32};
+use proofrecords::{
+    ABSENCE_HEAD, ABSENCE_KIND, FLAGS_AT, KIND_AT, MOST_STEPS, PRESENCE_HEAD, PRESENCE_KIND,
+    STEP_SIZE, STEPS_AT,
+};
 
 // Where the length of the left of two neighbours ends.
 const LEFT_LENGTH_END: usize = ABSENCE_HEAD + 4;
 
 // Whether each of the first n steps has side 0 or 1.
 fn sides_right(p: &[u8], n: usize) -> bool
-    requires { ⌜ Room n (now p) ⌝ }
-    ensures { λ r. ⌜ r ≡ sidesRight n (drop 72 (now (p .entry))) ⌝ }
+    requires { Room n p.now }
+    ensures { result ≡ sides_right n (drop 72 p.now) }
 {
     let mut i = 0;
     while i < n {
@@ -40,7 +35,7 @@ fn sides_right(p: &[u8], n: usize) -> bool
 
 // Whether the bytes are a presence proof.
 pub fn is_presence(p: &[u8]) -> bool
-    ensures { λ r. ⌜ r ≡ isPresence (now (p .entry)) ⌝ }
+    ensures { result ≡ is_presence p.now }
 {
     let n = p.len();
     if n < PRESENCE_HEAD {
@@ -64,8 +59,8 @@ pub fn is_presence(p: &[u8]) -> bool
 
 // Whether what follows the head of an absence proof are the neighbours that its flags say. Each is read where it lies.
 fn neighbours_fit(p: &[u8]) -> bool
-    requires { ⌜ 40 ≤ length (now p) ⌝ }
-    ensures { λ r. ⌜ r ≡ neighboursFit (now (p .entry)) ⌝ }
+    requires { 40 ≤ length p.now }
+    ensures { result ≡ neighbours_fit p.now }
 {
     let n = p.len();
     if get_u16(p, FLAGS_AT) <= 2 {
@@ -86,7 +81,7 @@ fn neighbours_fit(p: &[u8]) -> bool
 
 // Whether the bytes are an absence proof.
 pub fn is_absence(p: &[u8]) -> bool
-    ensures { λ r. ⌜ r ≡ isAbsence (now (p .entry)) ⌝ }
+    ensures { result ≡ is_absence p.now }
 {
     let n = p.len();
     if n < ABSENCE_HEAD {

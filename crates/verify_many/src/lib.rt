@@ -1,31 +1,23 @@
 // Many proofs checked in one call: each by its form, then all their paths side by side, then the answers of the single calls in a row.
-ghost use mathlib.Core.Path.{_≡_};
-ghost use mathlib.Core.Bool.{true};
-ghost use mathlib.Core.List.{_++_};
-ghost use Prim.Native.Nat.{_*_, _<_, _≤_};
-ghost use lib.ListN.{length, drop};
-ghost use Rattle·meaning.specs.Answers.{numberOf};
-ghost use Rattle·palette_rules.specs.Palette.{keysFrom};
-ghost use Rattle·hash.specs.Hash.{hashBytes};
-ghost use Rattle·verify_rules.specs.Reading.{verified};
-ghost use Rattle·verify.specs.Says.{says};
-ghost use Rattle·verify_given.specs.Given.{Leading};
-ghost use Rattle·verify_rows.specs.Rows.{answerBytes, VerifiesMany};
-ghost use Rattle·verify_rows.specs.Reading.{cutsInto, pieces, answersOf};
-ghost use Rattle·verify_cut.specs.Row.{Known};
+#![tactic(auto)]
+
+ghost use Rattle.std.specs.Prelude.{◌≡◌, true, ◌++◌, ◌*◌, ◌<◌, ◌≤◌, length, drop};
+ghost use Rattle.meaning.specs.Answers.{number_of};
+ghost use Rattle.palette_rules.specs.Palette.{keys_from};
+ghost use Rattle.hash.specs.Hash.{hash_bytes};
+ghost use Rattle.verify_rules.specs.Reading.{verified};
+ghost use Rattle.verify.specs.Says.{says};
+ghost use Rattle.verify_given.specs.Given.{Leading};
+ghost use Rattle.verify_rows.specs.Rows.{answer_bytes, VerifiesMany};
+ghost use Rattle.verify_rows.specs.Reading.{cuts_into, pieces, answers_of};
+ghost use Rattle.verify_cut.specs.Row.{Known};
+
 use fields::clear;
-use hash::Hash;
-use hash::hash_at;
-use key_list::KEY_SIZE;
-use key_list::whole_keys;
-use refusal_numbers::NO_ROOM;
-use refusal_numbers::NOT_32_BYTES;
-use refusal_numbers::NOT_IN_FORM;
+use hash::{Hash, hash_at};
+use key_list::{KEY_SIZE, whole_keys};
+use refusal_numbers::{NO_ROOM, NOT_32_BYTES, NOT_IN_FORM};
 use verify::Checked;
-use verify_cut::gather;
-use verify_cut::piece_end;
-use verify_cut::put_refusal;
-use verify_cut::put_value;
+use verify_cut::{gather, piece_end, put_refusal, put_value};
 use verify_given::verify_given;
 use verify_lanes::lead_many;
 
@@ -34,8 +26,8 @@ const ANSWER_SIZE: usize = 34;
 
 // Writes an answer in 34 bytes.
 fn put_answer(out: &mut [u8], answer: Checked)
-    requires { ⌜ (length (now out) ≡ 34) × (numberOf (says answer) < 256) ⌝ }
-    ensures { λ _. ⌜ now (out .exit) ≡ answerBytes (says answer) ⌝ }
+    requires { (length out.old ≡ 34) × (number_of (says answer) < 256) }
+    ensures { out.new ≡ answer_bytes (says answer) }
 {
     match answer {
         Checked::Refused(number) => {
@@ -52,8 +44,8 @@ fn put_answer(out: &mut [u8], answer: Checked)
 
 // Writes the answer of one key and its proof, where it is known which paths lead to the root.
 fn answer_one(root: Hash, g: bool, h: bool, key: &[u8], x: &[u8], out: &mut [u8])
-    requires { ⌜ (length (now key) ≡ 32) × (length (now out) ≡ 34) × Leading (hashBytes root) (now x) g h ⌝ }
-    ensures { λ _. ⌜ now (out .exit) ≡ answerBytes (verified (hashBytes root) (now (key .entry)) (now (x .entry))) ⌝ }
+    requires { (length key.now ≡ 32) × (length out.old ≡ 34) × Leading (hash_bytes root) x.now g h }
+    ensures { out.new ≡ answer_bytes (verified (hash_bytes root) key.now x.now) }
 {
     put_answer(out, verify_given(root, g, h, key, x));
 }
@@ -68,8 +60,8 @@ fn put_answers(
     good: &[bool; 512],
     out: &mut [u8],
 )
-    requires { ⌜ (n ≤ 256) × (length (now keys) ≡ 32 * n) × (34 * n ≤ length (now out)) × (cutsInto n (now p) ≡ true) × Known (hashBytes root) (now p) n (now index) (now good) ⌝ }
-    ensures { λ _. ⌜ now (out .exit) ≡ answersOf (hashBytes root) (keysFrom n (now (keys .entry))) (pieces n (now (p .entry))) ++ drop (34 * n) (now (out .entry)) ⌝ }
+    requires { (n ≤ 256) × (length keys.now ≡ 32 * n) × (34 * n ≤ length out.old) × (cuts_into n p.now ≡ true) × Known (hash_bytes root) p.now n index.now good.now }
+    ensures { out.new ≡ answers_of (hash_bytes root) (keys_from n keys.now) (pieces n p.now) ++ drop (34 * n) out.old }
 {
     let mut a = 0;
     let mut i = 0;
@@ -95,14 +87,8 @@ fn put_answers(
 
 // The check of many proofs for callers in other languages: 0 where it is accepted, with 34 bytes for each key at the front of `answers`; else
 // the number of refusal, with `answers` as it was.
-#[no_mangle]
-pub extern "C" fn grants_verify_many(
-    root: &[u8],
-    keys: &[u8],
-    proofs: &[u8],
-    answers: &mut [u8],
-) -> u32
-    ensures { λ r. ⌜ VerifiesMany (now (root .entry)) (now (keys .entry)) (now (proofs .entry)) (now (answers .entry)) r (now (answers .exit)) ⌝ }
+pub fn grants_verify_many(root: &[u8], keys: &[u8], proofs: &[u8], answers: &mut [u8]) -> u32
+    ensures { VerifiesMany root.now keys.now proofs.now answers.old result answers.new }
 {
     if root.len() != 32 {
         return NOT_32_BYTES;

@@ -2,49 +2,49 @@
 -- Assumes nothing.
 use Prim.Native.Nat.{ℕ}
 use native.Mathlib.Omega.{arith}
-use mathlib.Core.Path.{_≡_}
+use mathlib.Core.Path.{◌≡◌}
 use mathlib.Core.Bool.{Bool, true, false}
 use lib.ListN.{drop}
-use Rattle·terms.specs.Bits.{Bytes, Side, left, right, sameBytes}
-use Rattle·terms.specs.Fields.{field}
-use Rattle·terms.proofs.Tests.{and-left}
-use Rattle·meaning.specs.Proving.{beyond}
-use Rattle·meaning.specs.Checking.{leadsTo, neighbourHolds}
-use Rattle·proofrecords.specs.ProofBytes.{stepCount, presenceIn, leftPart, rightPart, flags, absenceIn}
-use Rattle·proofrecords.specs.Steps.{firstSteps}
-use Rattle·verify_path.specs.Paths.{topAfter}
-use Rattle·verify_neighbours·specs.specs.Neighbours.{leads, neighbour, loneNeighbour, bothNeighbours, neighbours}
+use Rattle.terms.specs.Bits.{Bytes, Side, left, right, same_bytes}
+use Rattle.terms.specs.Fields.{field}
+use Rattle.terms.proofs.Tests.{and_left}
+use Rattle.meaning.specs.Proving.{beyond}
+use Rattle.meaning.specs.Checking.{leads_to, neighbour_holds}
+use Rattle.proofrecords.specs.ProofBytes.{step_count, presence_in, left_part, right_part, flags, absence_in}
+use Rattle.proofrecords.specs.Steps.{first_steps}
+use Rattle.verify_path.specs.Paths.{top_after}
+use Rattle.verify_neighbours.specs.Neighbours.{leads, neighbour, lone_neighbour, both_neighbours, neighbours}
 
 -- no test says both
 pub never : {b : Bool} → b ≡ false → b ≡ true → ⊥
-never e d = let z : _≡_ {A = ℕ} 0 1 = cc in omega arith
+never e d = let z : ◌≡◌ {A = ℕ} 0 1 = cc in omega arith
 
 -- the steps of the count in the head are all steps
-pub all-steps : (n : ℕ) (x : Bytes) → n ≡ field 6 2 x → firstSteps n x ≡ presenceIn x .steps
-unfolding presenceIn stepCount
-all-steps n x e = rw e
+pub all_steps : (n : ℕ) (x : Bytes) → n ≡ field 6 2 x → first_steps n x ≡ (presence_in x).steps
+unfolding presence_in step_count
+all_steps n x e = rw e
 
 -- the hash that n steps lead to is compared with the root
-pub top-leads : (n : ℕ) (h root x : Bytes) → n ≡ field 6 2 x → h ≡ topAfter n x →
-    sameBytes h root ≡ leads root x
-unfolding leadsTo presenceIn
-top-leads n h root x e d = rw (d, all-steps n x e)
+pub top_leads : (n : ℕ) (h root x : Bytes) → n ≡ field 6 2 x → h ≡ top_after n x →
+    same_bytes h root ≡ leads root x
+unfolding leads_to presence_in
+top_leads n h root x e d = rw (d, all_steps n x e)
 
 module _ (root k x : Bytes) where
   -- a neighbour that holds leads to the root
-  pub neighbour-leads : (b : Side) → neighbour b root k x ≡ true → leads root x ≡ true
-  unfolding neighbourHolds
-  neighbour-leads b h = and-left (leads root x) (beyond b (presenceIn x .key) k) h
+  pub neighbour_leads : (b : Side) → neighbour b root k x ≡ true → leads root x ≡ true
+  unfolding neighbour_holds
+  neighbour_leads b h = and_left (leads root x) (beyond b (presence_in x).key k) h
 
   -- the neighbours by the flags
-  pub left-shown : flags x ≡ 1 → neighbours root k x ≡ loneNeighbour left root k (drop 40 x)
-  unfolding absenceIn
-  left-shown f = rw f
+  pub left_shown : flags x ≡ 1 → neighbours root k x ≡ lone_neighbour left root k (drop 40 x)
+  unfolding absence_in
+  left_shown f = rw f
 
-  pub right-shown : flags x ≡ 2 → neighbours root k x ≡ loneNeighbour right root k (drop 40 x)
-  unfolding absenceIn
-  right-shown f = rw f
+  pub right_shown : flags x ≡ 2 → neighbours root k x ≡ lone_neighbour right root k (drop 40 x)
+  unfolding absence_in
+  right_shown f = rw f
 
-  pub both-shown : flags x ≡ 3 → neighbours root k x ≡ bothNeighbours root k (leftPart x) (rightPart x)
-  unfolding absenceIn
-  both-shown f = rw f
+  pub both_shown : flags x ≡ 3 → neighbours root k x ≡ both_neighbours root k (left_part x) (right_part x)
+  unfolding absence_in
+  both_shown f = rw f

@@ -1,37 +1,32 @@
 // Whether the neighbours of an absence proof show that its key is absent, document 01, 'Checking'. Each is read where it lies in the proof. Who judges
 // them is told whether their paths lead to the root, and hashes nothing: the root is handed on for the contracts alone. So one path after the other may
 // be walked here, or many side by side elsewhere.
-ghost use mathlib.Core.Path.{_≡_};
-ghost use mathlib.Core.Bool.{true};
-ghost use Rattle·meaning.specs.Proving.{beyond};
-ghost use Rattle·hash.specs.Hash.{hashBytes};
-ghost use Rattle·proofrecords.specs.ProofBytes.{isPresence, isAbsence};
-ghost use Rattle·verify_neighbours·specs.specs.Neighbours.{leads, neighbour, loneNeighbour, bothNeighbours, neighbours};
-ghost use Rattle·verify_neighbours·specs.specs.Around.{Around};
-use fields::get_u16;
-use fields::get_u32;
-use hash::Hash;
-use hash::same_hash;
+#![tactic(auto)]
+
+ghost use Rattle.std.specs.Prelude.{◌≡◌, true};
+ghost use Rattle.meaning.specs.Proving.{beyond};
+ghost use Rattle.hash.specs.Hash.{hash_bytes};
+ghost use Rattle.proofrecords.specs.ProofBytes.{is_presence, is_absence};
+ghost use Rattle.verify_neighbours.specs.Neighbours.{leads, neighbour, lone_neighbour, both_neighbours, neighbours};
+ghost use Rattle.verify_neighbours.specs.Around.{Around};
+
+use fields::{get_u16, get_u32};
+use hash::{Hash, same_hash};
 use place::before;
-use proofrecords::ABSENCE_HEAD;
-use proofrecords::FLAGS_AT;
-use proofrecords::KEY_AT;
-use proofrecords::STEPS_AT;
-use proofrecords::VALUE_AT;
-use verify_path::outermost;
-use verify_path::paths_part;
-use verify_path::top;
+use proofrecords::{ABSENCE_HEAD, FLAGS_AT, KEY_AT, STEPS_AT, VALUE_AT};
+use verify_path::{outermost, paths_part, top};
 
 // Whether the steps of a presence proof lead from the leaf hash to the root.
 pub fn leads_to(root: Hash, p: &[u8]) -> bool
-    requires { ⌜ isPresence (now p) ≡ true ⌝ }
-    ensures { λ r. ⌜ r ≡ leads (hashBytes root) (now (p .entry)) ⌝ }
+    requires { is_presence p.now ≡ true }
+    ensures { result ≡ leads (hash_bytes root) p.now }
 {
     let n = get_u16(p, STEPS_AT) as usize;
     same_hash(top(p, n), root)
 }
 
 // Whether the paths of the neighbours lead to the root: the only one, or the left one and the right one.
+#[derive(Clone, Copy)]
 pub struct Led {
     pub first: bool,
     pub second: bool,
@@ -39,8 +34,8 @@ pub struct Led {
 
 // The second path is walked only where the first leads to the root.
 pub fn lead_around(root: Hash, proof: &[u8]) -> Led
-    requires { ⌜ isAbsence (now proof) ≡ true ⌝ }
-    ensures { λ r. ⌜ Around (hashBytes root) (now (proof .entry)) (r .first) (r .second) ⌝ }
+    requires { is_absence proof.now ≡ true }
+    ensures { Around (hash_bytes root) proof.now result.first result.second }
 {
     let n = proof.len();
     if get_u16(proof, FLAGS_AT) <= 2 {
@@ -66,7 +61,7 @@ pub fn lead_around(root: Hash, proof: &[u8]) -> Led
 
 // Whether a key is on a side of another: smaller on the left, greater on the right.
 fn beyond(side: bool, x: &[u8], key: &[u8]) -> bool
-    ensures { λ r. ⌜ r ≡ beyond side (now (x .entry)) (now (key .entry)) ⌝ }
+    ensures { result ≡ beyond side x.now key.now }
 {
     if side {
         return before(key, x);
@@ -76,9 +71,9 @@ fn beyond(side: bool, x: &[u8], key: &[u8]) -> bool
 
 // Whether a neighbour's proof leads to the root and its key is on its side of the key.
 fn neighbour_holds(side: bool, root: Hash, good: bool, key: &[u8], p: &[u8]) -> bool
-    requires { ⌜ isPresence (now p) ≡ true ⌝ }
-    requires { ⌜ good ≡ leads (hashBytes root) (now p) ⌝ }
-    ensures { λ r. ⌜ r ≡ neighbour side (hashBytes root) (now (key .entry)) (now (p .entry)) ⌝ }
+    requires p_value { is_presence p.now ≡ true }
+    requires good_value { good ≡ leads (hash_bytes root) p.now }
+    ensures { result ≡ neighbour side (hash_bytes root) key.now p.now }
 {
     if !good {
         return false;
@@ -88,9 +83,9 @@ fn neighbour_holds(side: bool, root: Hash, good: bool, key: &[u8], p: &[u8]) -> 
 
 // Whether a neighbour that is the only one holds: its path is outermost on the key's side.
 fn lone_holds(side: bool, root: Hash, good: bool, key: &[u8], p: &[u8]) -> bool
-    requires { ⌜ isPresence (now p) ≡ true ⌝ }
-    requires { ⌜ good ≡ leads (hashBytes root) (now p) ⌝ }
-    ensures { λ r. ⌜ r ≡ loneNeighbour side (hashBytes root) (now (key .entry)) (now (p .entry)) ⌝ }
+    requires p_value { is_presence p.now ≡ true }
+    requires good_value { good ≡ leads (hash_bytes root) p.now }
+    ensures { result ≡ lone_neighbour side (hash_bytes root) key.now p.now }
 {
     if !neighbour_holds(side, root, good, key, p) {
         return false;
@@ -101,11 +96,11 @@ fn lone_holds(side: bool, root: Hash, good: bool, key: &[u8], p: &[u8]) -> bool
 
 // Whether two neighbours hold: each by itself, and their paths part around the key.
 fn both_hold(root: Hash, g: bool, h: bool, key: &[u8], l: &[u8], r: &[u8]) -> bool
-    requires { ⌜ isPresence (now l) ≡ true ⌝ }
-    requires { ⌜ isPresence (now r) ≡ true ⌝ }
-    requires { ⌜ g ≡ leads (hashBytes root) (now l) ⌝ }
-    requires { ⌜ (g ≡ true → h ≡ leads (hashBytes root) (now r)) ⌝ }
-    ensures { λ b. ⌜ b ≡ bothNeighbours (hashBytes root) (now (key .entry)) (now (l .entry)) (now (r .entry)) ⌝ }
+    requires l_value { is_presence l.now ≡ true }
+    requires r_value { is_presence r.now ≡ true }
+    requires g_value { g ≡ leads (hash_bytes root) l.now }
+    requires h_value { g ≡ true → h ≡ leads (hash_bytes root) r.now }
+    ensures { result ≡ both_neighbours (hash_bytes root) key.now l.now r.now }
 {
     if !neighbour_holds(false, root, g, key, l) {
         return false;
@@ -120,9 +115,9 @@ fn both_hold(root: Hash, g: bool, h: bool, key: &[u8], l: &[u8], r: &[u8]) -> bo
 
 // Whether the neighbours of an absence proof show that the key is absent. Each is read where it lies in the proof.
 pub fn neighbours_hold(root: Hash, g: bool, h: bool, key: &[u8], proof: &[u8]) -> bool
-    requires { ⌜ isAbsence (now proof) ≡ true ⌝ }
-    requires { ⌜ Around (hashBytes root) (now proof) g h ⌝ }
-    ensures { λ r. ⌜ r ≡ neighbours (hashBytes root) (now (key .entry)) (now (proof .entry)) ⌝ }
+    requires proof_value { is_absence proof.now ≡ true }
+    requires around { Around (hash_bytes root) proof.now g h }
+    ensures { result ≡ neighbours (hash_bytes root) key.now proof.now }
 {
     let n = proof.len();
     let flags = get_u16(proof, FLAGS_AT);

@@ -1,114 +1,114 @@
 -- The steps of a path as loops take them: from the leaf upwards, and off the tops. A step's bytes lie 33 apart after the head.
 -- Assumes nothing.
-use Prim.Native.Nat.{ℕ, zero, suc, _+_, _*_, _-_, _<_, _≤_}
+use Prim.Native.Nat.{ℕ, zero, suc, ◌+◌, ◌*◌, ◌-◌, ◌<◌, ◌≤◌}
 use native.Mathlib.Omega.{arith}
-use mathlib.Core.Path.{_≡_, refl, ap, ap₂, _∙_}
-use mathlib.Core.Bool.{Bool, true, false, cond, Bool·beq}
-use mathlib.Core.List.{List, [], _∷_, _++_, reverse}
-use lib.ListN.{length, getD, take, drop, length-take, length-drop}
-use lib.Seq.{drop-drop, take-take, take-add, drop-at}
+use mathlib.Core.Path.{◌≡◌, refl, ap, ap₂, ◌∙◌}
+use mathlib.Core.Bool.{Bool, true, false, cond, beq}
+use mathlib.Core.List.{List, [], ◌∷◌, ◌++◌, reverse}
+use lib.ListN.{length, get_or, take, drop, length-take, length-drop}
+use lib.Seq.{drop-drop, take-take, take-add, drop_at}
 use lib.Dec.{eqb}
-use Rattle·terms.specs.Bits.{Bytes, Side, sameBytes}
-use Rattle·terms.specs.Fields.{slice}
-use Rattle·terms.specs.Records.{Step, zeros}
-use Rattle·meaning.specs.Checking.{keepsTo, outermost, sameStep, partFromTop, pathsPart}
-use Rattle·shown.proofs.Paths.{part-by-tops}
-use Rattle·proofrecords.specs.ProofBytes.{stepsIn}
-use Rattle·proofrecords.specs.Steps.{stepAt, firstSteps}
-use Rattle·proofrecords.proofs.Lying.{first-at, fromStep, next-step, one-less, none-left}
-use Rattle·verify_path·specs.specs.Paths.{apartAt}
+use Rattle.terms.specs.Bits.{Bytes, Side, same_bytes}
+use Rattle.terms.specs.Fields.{slice}
+use Rattle.terms.specs.Records.{Step, zeros}
+use Rattle.meaning.specs.Checking.{keeps_to, outermost, same_step, part_from_top, paths_part}
+use Rattle.shown.proofs.Paths.{part_by_tops}
+use Rattle.proofrecords.specs.ProofBytes.{steps_in}
+use Rattle.proofrecords.specs.Steps.{step_at, first_steps}
+use Rattle.proofrecords.proofs.Lying.{first_at, from_step, next_step, one_less, none_left}
+use Rattle.verify_path.specs.Paths.{apart_at}
 
 -- the step at the front of bytes
-abbrev frontStep : Bytes → Step
-frontStep y = record { side = eqb (getD y 0 0) 1; sibling = slice 1 32 y }
+abbrev front_step : Bytes → Step
+front_step y = record { side = eqb (get_or y 0 0) 1; sibling = slice 1 32 y }
 
-step-there : (i : ℕ) (x : Bytes) → frontStep (drop (72 + 33 * i) x) ≡ stepAt i x
-unfolding stepAt slice
-step-there i x =
-    ap₂ (λ (b : ℕ) (y : Bytes). record { side = eqb b 1; sibling = take 32 y }) (first-at (72 + 33 * i) x) (drop-drop 1 (72 + 33 * i) x)
+step_there : (i : ℕ) (x : Bytes) → front_step (drop (72 + 33 * i) x) ≡ step_at i x
+unfolding step_at slice
+step_there i x =
+    ap₂ (λ (b : ℕ) (y : Bytes). record { side = eqb b 1; sibling = take 32 y }) (first_at (72 + 33 * i) x) (drop-drop 1 (72 + 33 * i) x)
 
 -- the steps that are left at step i
-pub steps-left : (i n : ℕ) (x : Bytes) → i < n → stepsIn (n - i) (fromStep i x) ≡ stepAt i x ∷ stepsIn (n - (i + 1)) (fromStep (i + 1) x)
-steps-left i n x h = rw (one-less i n h) (ap₂ _∷_ (step-there i x) (ap (stepsIn (n - (i + 1))) (next-step i x)))
+pub steps_left : (i n : ℕ) (x : Bytes) → i < n → steps_in (n - i) (from_step i x) ≡ step_at i x ∷ steps_in (n - (i + 1)) (from_step (i + 1) x)
+steps_left i n x h = rw (one_less i n h) (ap₂ ◌∷◌ (step_there i x) (ap (steps_in (n - (i + 1))) (next_step i x)))
 
-pub no-steps-left : (i n : ℕ) (x : Bytes) → n ≤ i → stepsIn (n - i) (fromStep i x) ≡ []
-no-steps-left i n x h = rw (none-left i n h)
+pub no_steps_left : (i n : ℕ) (x : Bytes) → n ≤ i → steps_in (n - i) (from_step i x) ≡ []
+no_steps_left i n x h = rw (none_left i n h)
 
-pub outermost-off : (b : Side) (i n : ℕ) (x : Bytes) → i < n → keepsTo b (stepAt i x) ≡ false → outermost b (stepsIn (n - i) (fromStep i x)) ≡ false
-outermost-off b i n x h e = ap (outermost b) (steps-left i n x h) ∙ rw e
+pub outermost_off : (b : Side) (i n : ℕ) (x : Bytes) → i < n → keeps_to b (step_at i x) ≡ false → outermost b (steps_in (n - i) (from_step i x)) ≡ false
+outermost_off b i n x h e = ap (outermost b) (steps_left i n x h) ∙ rw e
 
-pub outermost-on : (b : Side) (i n : ℕ) (x : Bytes) → i < n → keepsTo b (stepAt i x) ≡ true →
-    outermost b (stepsIn (n - i) (fromStep i x)) ≡ outermost b (stepsIn (n - (i + 1)) (fromStep (i + 1) x))
-outermost-on b i n x h e = ap (outermost b) (steps-left i n x h) ∙ rw e
+pub outermost_on : (b : Side) (i n : ℕ) (x : Bytes) → i < n → keeps_to b (step_at i x) ≡ true →
+    outermost b (steps_in (n - i) (from_step i x)) ≡ outermost b (steps_in (n - (i + 1)) (from_step (i + 1) x))
+outermost_on b i n x h e = ap (outermost b) (steps_left i n x h) ∙ rw e
 
 -- a step from what the code reads of it
-pub keeps-side : (b : Bool) {r : Bool} (s : Step) → r ≡ s .side → Bool·beq r b ≡ true → keepsTo b s ≡ true
-unfolding keepsTo
-keeps-side b s e h = rw (← e, h)
+pub keeps_side : (b : Bool) {r : Bool} (s : Step) → r ≡ s.side → beq r b ≡ true → keeps_to b s ≡ true
+unfolding keeps_to
+keeps_side b s e h = rw (← e, h)
 
-pub keeps-zero : (b : Bool) {r : Bool} (s : Step) → r ≡ s .side → Bool·beq r b ≡ false → keepsTo b s ≡ sameBytes (s .sibling) zeros
-unfolding keepsTo
-keeps-zero b s e h = rw (← e, h)
+pub keeps_zero : (b : Bool) {r : Bool} (s : Step) → r ≡ s.side → beq r b ≡ false → keeps_to b s ≡ same_bytes s.sibling zeros
+unfolding keeps_to
+keeps_zero b s e h = rw (← e, h)
 
-pub other-side : {p q : Bool} (s t : Step) → p ≡ s .side → q ≡ t .side → Bool·beq p q ≡ false → sameStep s t ≡ false
-unfolding sameStep
-other-side s t e d h = rw (← e, ← d, h)
+pub other_side : {p q : Bool} (s t : Step) → p ≡ s.side → q ≡ t.side → beq p q ≡ false → same_step s t ≡ false
+unfolding same_step
+other_side s t e d h = rw (← e, ← d, h)
 
-pub same-side : {p q : Bool} (s t : Step) → p ≡ s .side → q ≡ t .side → Bool·beq p q ≡ true → sameStep s t ≡ sameBytes (s .sibling) (t .sibling)
-unfolding sameStep
-same-side s t e d h = rw (← e, ← d, h)
+pub same_side : {p q : Bool} (s t : Step) → p ≡ s.side → q ≡ t.side → beq p q ≡ true → same_step s t ≡ same_bytes s.sibling t.sibling
+unfolding same_step
+same_side s t e d h = rw (← e, ← d, h)
 
 -- the last of the steps in bytes
-last-step : (n : ℕ) (y : Bytes) → stepsIn (suc n) y ≡ stepsIn n y ++ (frontStep (drop (33 * n) y) ∷ [])
-last-step zero y = refl
-last-step (suc n) y =
+last_step : (n : ℕ) (y : Bytes) → steps_in (suc n) y ≡ steps_in n y ++ (front_step (drop (33 * n) y) ∷ [])
+last_step zero y = refl
+last_step (suc n) y =
     let e : 33 + 33 * n ≡ 33 * suc n = omega arith in
     let d : drop (33 * n) (drop 33 y) ≡ drop (33 * suc n) y = rw (← e) (drop-drop (33 * n) 33 y) in
-    ap (frontStep y ∷_) (last-step n (drop 33 y) ∙ ap (λ (z : Bytes). stepsIn n (drop 33 y) ++ (frontStep z ∷ [])) d)
+    ap (front_step y ∷◌) (last_step n (drop 33 y) ∙ ap (λ (z : Bytes). steps_in n (drop 33 y) ++ (front_step z ∷ [])) d)
 
-top-step : (n : ℕ) (x : Bytes) → firstSteps (suc n) x ≡ firstSteps n x ++ (stepAt n x ∷ [])
-top-step n x =
-    last-step n (drop 72 x) ∙ ap (λ (s : Step). firstSteps n x ++ (s ∷ [])) (ap frontStep (drop-drop (33 * n) 72 x) ∙ step-there n x)
+top_step : (n : ℕ) (x : Bytes) → first_steps (suc n) x ≡ first_steps n x ++ (step_at n x ∷ [])
+top_step n x =
+    last_step n (drop 72 x) ∙ ap (λ (s : Step). first_steps n x ++ (s ∷ [])) (ap front_step (drop-drop (33 * n) 72 x) ∙ step_there n x)
 
-tops-part : (i j : ℕ) (x y : Bytes) → (i ≡ 0 → ⊥) → (j ≡ 0 → ⊥) →
-    pathsPart (firstSteps i x) (firstSteps j y)
-    ≡ cond (sameStep (stepAt (i - 1) x) (stepAt (j - 1) y)) (pathsPart (firstSteps (i - 1) x) (firstSteps (j - 1) y)) (apartAt (i - 1) x (j - 1) y)
-tops-part zero j x y p q = absurd (p refl)
-tops-part (suc i) zero x y p q = absurd (q refl)
-tops-part (suc i) (suc j) x y p q =
-    rw (suc-less i, suc-less j) (ap₂ pathsPart (top-step i x) (top-step j y) ∙ part-by-tops (stepAt i x) (stepAt j y) (firstSteps i x) (firstSteps j y))
+tops_part : (i j : ℕ) (x y : Bytes) → (i ≡ 0 → ⊥) → (j ≡ 0 → ⊥) →
+    paths_part (first_steps i x) (first_steps j y)
+    ≡ cond (same_step (step_at (i - 1) x) (step_at (j - 1) y)) (paths_part (first_steps (i - 1) x) (first_steps (j - 1) y)) (apart_at (i - 1) x (j - 1) y)
+tops_part zero j x y p q = absurd (p refl)
+tops_part (suc i) zero x y p q = absurd (q refl)
+tops_part (suc i) (suc j) x y p q =
+    rw (suc_less i, suc_less j) (ap₂ paths_part (top_step i x) (top_step j y) ∙ part_by_tops (step_at i x) (step_at j y) (first_steps i x) (first_steps j y))
   where
-    suc-less : (n : ℕ) → suc n - 1 ≡ n
-    suc-less n = omega arith
+    suc_less : (n : ℕ) → suc n - 1 ≡ n
+    suc_less n = omega arith
 
 -- the loop of the comparison: i steps of one path and j of the other are left
-pub equal-tops : (i j : ℕ) (x y : Bytes) → (i ≡ 0 → ⊥) → (j ≡ 0 → ⊥) → sameStep (stepAt (i - 1) x) (stepAt (j - 1) y) ≡ true →
-    pathsPart (firstSteps i x) (firstSteps j y) ≡ pathsPart (firstSteps (i - 1) x) (firstSteps (j - 1) y)
-equal-tops i j x y p q e = tops-part i j x y p q ∙ rw e
+pub equal_tops : (i j : ℕ) (x y : Bytes) → (i ≡ 0 → ⊥) → (j ≡ 0 → ⊥) → same_step (step_at (i - 1) x) (step_at (j - 1) y) ≡ true →
+    paths_part (first_steps i x) (first_steps j y) ≡ paths_part (first_steps (i - 1) x) (first_steps (j - 1) y)
+equal_tops i j x y p q e = tops_part i j x y p q ∙ rw e
 
-pub other-tops : (i j : ℕ) (x y : Bytes) → (i ≡ 0 → ⊥) → (j ≡ 0 → ⊥) → sameStep (stepAt (i - 1) x) (stepAt (j - 1) y) ≡ false →
-    pathsPart (firstSteps i x) (firstSteps j y) ≡ apartAt (i - 1) x (j - 1) y
-other-tops i j x y p q e = tops-part i j x y p q ∙ rw e
+pub other_tops : (i j : ℕ) (x y : Bytes) → (i ≡ 0 → ⊥) → (j ≡ 0 → ⊥) → same_step (step_at (i - 1) x) (step_at (j - 1) y) ≡ false →
+    paths_part (first_steps i x) (first_steps j y) ≡ apart_at (i - 1) x (j - 1) y
+other_tops i j x y p q e = tops_part i j x y p q ∙ rw e
 
-pub left-done : (i j : ℕ) (x y : Bytes) → i ≡ 0 → pathsPart (firstSteps i x) (firstSteps j y) ≡ false
-unfolding pathsPart
-left-done i j x y e = rw e
+pub left_done : (i j : ℕ) (x y : Bytes) → i ≡ 0 → paths_part (first_steps i x) (first_steps j y) ≡ false
+unfolding paths_part
+left_done i j x y e = rw e
 
-none-from : (xs : List Step) → partFromTop xs [] ≡ false
-none-from [] = refl
-none-from (x ∷ xs) = refl
+none_from : (xs : List Step) → part_from_top xs [] ≡ false
+none_from [] = refl
+none_from (x ∷ xs) = refl
 
-pub right-done : (i j : ℕ) (x y : Bytes) → j ≡ 0 → pathsPart (firstSteps i x) (firstSteps j y) ≡ false
-unfolding pathsPart
-right-done i j x y e = rw e (none-from (reverse (firstSteps i x)))
+pub right_done : (i j : ℕ) (x y : Bytes) → j ≡ 0 → paths_part (first_steps i x) (first_steps j y) ≡ false
+unfolding paths_part
+right_done i j x y e = rw e (none_from (reverse (first_steps i x)))
 
 -- the key and the value of a presence proof, as the 64 bytes of a grant
-pub grant-at : (x : Bytes) → 72 ≤ length x → (take 32 (take 64 (drop 8 x)) ≡ slice 8 32 x) × (drop 32 (take 64 (drop 8 x)) ≡ slice 40 32 x)
+pub grant_at_lem : (x : Bytes) → 72 ≤ length x → (take 32 (take 64 (drop 8 x)) ≡ slice 8 32 x) × (drop 32 (take 64 (drop 8 x)) ≡ slice 40 32 x)
 unfolding slice
-grant-at x h =
+grant_at_lem x h =
     let y : Bytes = drop 8 x in (
       take-take 32 64 y (omega arith),
       ap (drop 32) (take-add 32 32 y)
-          ∙ drop-at (take 32 y) (take 32 (drop 32 y)) 32 (simp (length-take, length-drop) (omega arith))
+          ∙ drop_at (take 32 y) (take 32 (drop 32 y)) 32 (simp (length-take, length-drop) (omega arith))
           ∙ ap (take 32) (drop-drop 32 8 x),
     )

@@ -1,26 +1,22 @@
 // The path of a presence proof: its steps, read where they lie in its bytes; where they lead, whether they are outermost, and whether two paths
 // part around a gap.
-ghost use mathlib.Core.Path.{_≡_};
-ghost use Prim.Native.Nat.{suc};
-ghost use Rattle·meaning.specs.Checking.{keepsTo, outermost, sameStep, pathsPart, parentHash};
-ghost use Rattle·hash.specs.Hash.{hashBytes};
-ghost use Rattle·nodehash.specs.Node.{leafHash, innerHash};
-ghost use Rattle·proofrecords.specs.Steps.{Room, stepAt, firstSteps};
-ghost use Rattle·verify_path·specs.specs.Paths.{topAfter, apartAt};
-use hash::Hash;
-use hash::hash_at;
-use hash::is_zero;
-use hash::same_hash;
-use nodehash::inner_hash;
-use nodehash::leaf_hash;
-use proofrecords::KEY_AT;
-use proofrecords::PRESENCE_HEAD;
-use proofrecords::STEP_SIZE;
+#![tactic(auto)]
+
+ghost use Rattle.std.specs.Prelude.{◌≡◌, suc};
+ghost use Rattle.meaning.specs.Checking.{keeps_to, outermost, same_step, paths_part, parent_hash};
+ghost use Rattle.hash.specs.Hash.{hash_bytes};
+ghost use Rattle.nodehash.specs.Node.{leaf_hash, inner_hash};
+ghost use Rattle.proofrecords.specs.Steps.{Room, step_at, first_steps};
+ghost use Rattle.verify_path.specs.Paths.{top_after, apart_at};
+
+use hash::{Hash, hash_at, is_zero, same_hash};
+use nodehash::{inner_hash, leaf_hash};
+use proofrecords::{KEY_AT, PRESENCE_HEAD, STEP_SIZE};
 
 // Whether the node of step i is the right child.
 pub fn is_right(p: &[u8], i: usize) -> bool
-    requires { ⌜ Room (suc i) (now p) ⌝ }
-    ensures { λ r. ⌜ r ≡ stepAt i (now (p .entry)) .side ⌝ }
+    requires { Room (suc i) p.now }
+    ensures { result ≡ (step_at i p.now).side }
 {
     let at = PRESENCE_HEAD + STEP_SIZE * i;
     p[at] == 1
@@ -28,16 +24,16 @@ pub fn is_right(p: &[u8], i: usize) -> bool
 
 // The sibling's hash in step i.
 pub fn sibling(p: &[u8], i: usize) -> Hash
-    requires { ⌜ Room (suc i) (now p) ⌝ }
-    ensures { λ r. ⌜ hashBytes r ≡ stepAt i (now (p .entry)) .sibling ⌝ }
+    requires { Room (suc i) p.now }
+    ensures { hash_bytes result ≡ (step_at i p.now).sibling }
 {
     hash_at(p, PRESENCE_HEAD + STEP_SIZE * i + 1)
 }
 
 // The hash of the parent that step i leads to, from a node with hash h.
 fn parent(p: &[u8], i: usize, h: Hash) -> Hash
-    requires { ⌜ Room (suc i) (now p) ⌝ }
-    ensures { λ r. ⌜ hashBytes r ≡ parentHash leafHash innerHash (hashBytes h) (stepAt i (now (p .entry))) ⌝ }
+    requires { Room (suc i) p.now }
+    ensures { hash_bytes result ≡ parent_hash leaf_hash inner_hash (hash_bytes h) (step_at i p.now) }
 {
     let s = sibling(p, i);
     if is_right(p, i) {
@@ -48,8 +44,8 @@ fn parent(p: &[u8], i: usize, h: Hash) -> Hash
 
 // The hash that the first n steps lead to from the leaf.
 pub fn top(p: &[u8], n: usize) -> Hash
-    requires { ⌜ Room n (now p) ⌝ }
-    ensures { λ r. ⌜ hashBytes r ≡ topAfter n (now (p .entry)) ⌝ }
+    requires { Room n p.now }
+    ensures { hash_bytes result ≡ top_after n p.now }
 {
     let mut h = leaf_hash(&p[KEY_AT..PRESENCE_HEAD]);
     let mut i = 0;
@@ -62,8 +58,8 @@ pub fn top(p: &[u8], n: usize) -> Hash
 
 // Whether step i keeps to a side: it has that side, or a zero sibling.
 fn keeps_to(side: bool, p: &[u8], i: usize) -> bool
-    requires { ⌜ Room (suc i) (now p) ⌝ }
-    ensures { λ r. ⌜ r ≡ keepsTo side (stepAt i (now (p .entry))) ⌝ }
+    requires { Room (suc i) p.now }
+    ensures { result ≡ keeps_to side (step_at i p.now) }
 {
     if is_right(p, i) == side {
         return true;
@@ -73,8 +69,8 @@ fn keeps_to(side: bool, p: &[u8], i: usize) -> bool
 
 // Whether each of the first n steps keeps to a side.
 pub fn outermost(side: bool, p: &[u8], n: usize) -> bool
-    requires { ⌜ Room n (now p) ⌝ }
-    ensures { λ r. ⌜ r ≡ outermost side (firstSteps n (now (p .entry))) ⌝ }
+    requires { Room n p.now }
+    ensures { result ≡ outermost side (first_steps n p.now) }
 {
     let mut i = 0;
     while i < n {
@@ -88,9 +84,9 @@ pub fn outermost(side: bool, p: &[u8], n: usize) -> bool
 
 // Whether step i of one proof and step j of another are equal in side and sibling.
 fn same_step(l: &[u8], i: usize, r: &[u8], j: usize) -> bool
-    requires { ⌜ Room (suc i) (now l) ⌝ }
-    requires { ⌜ Room (suc j) (now r) ⌝ }
-    ensures { λ b. ⌜ b ≡ sameStep (stepAt i (now (l .entry))) (stepAt j (now (r .entry))) ⌝ }
+    requires room { Room (suc i) l.now }
+    requires room_2 { Room (suc j) r.now }
+    ensures { result ≡ same_step (step_at i l.now) (step_at j r.now) }
 {
     if is_right(l, i) != is_right(r, j) {
         return false;
@@ -100,9 +96,9 @@ fn same_step(l: &[u8], i: usize, r: &[u8], j: usize) -> bool
 
 // Whether the two paths go apart at steps i and j, to the left and to the right, and keep to the gap below.
 fn apart(l: &[u8], i: usize, r: &[u8], j: usize) -> bool
-    requires { ⌜ Room (suc i) (now l) ⌝ }
-    requires { ⌜ Room (suc j) (now r) ⌝ }
-    ensures { λ b. ⌜ b ≡ apartAt i (now (l .entry)) j (now (r .entry)) ⌝ }
+    requires room { Room (suc i) l.now }
+    requires room_2 { Room (suc j) r.now }
+    ensures { result ≡ apart_at i l.now j r.now }
 {
     if is_right(l, i) {
         return false;
@@ -118,9 +114,9 @@ fn apart(l: &[u8], i: usize, r: &[u8], j: usize) -> bool
 
 // Whether the first m steps of the left neighbour's path and the first n of the right one's part around a gap. The tops are the last steps.
 pub fn paths_part(l: &[u8], m: usize, r: &[u8], n: usize) -> bool
-    requires { ⌜ Room m (now l) ⌝ }
-    requires { ⌜ Room n (now r) ⌝ }
-    ensures { λ b. ⌜ b ≡ pathsPart (firstSteps m (now (l .entry))) (firstSteps n (now (r .entry))) ⌝ }
+    requires room { Room m l.now }
+    requires room_2 { Room n r.now }
+    ensures { result ≡ paths_part (first_steps m l.now) (first_steps n r.now) }
 {
     let mut i = m;
     let mut j = n;

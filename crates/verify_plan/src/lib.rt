@@ -1,13 +1,14 @@
 // The paths of a proof, by its form alone: none where it is off form, one, or two around a gap. Nothing is hashed.
-ghost use Rattle·verify_plan·specs.specs.Plan.{PathsIn};
-use fields::get_u16;
-use fields::get_u32;
-use proofrecords::ABSENCE_HEAD;
-use proofrecords::FLAGS_AT;
-use verify_form::is_absence;
-use verify_form::is_presence;
+#![tactic(auto)]
+
+ghost use Rattle.verify_plan.specs.Plan.{PathsIn};
+
+use fields::{get_u16, get_u32};
+use proofrecords::{ABSENCE_HEAD, FLAGS_AT};
+use verify_form::{is_absence, is_presence};
 
 // How many, and where their records begin.
+#[derive(Clone, Copy)]
 pub struct Paths {
     pub many: usize,
     pub first: usize,
@@ -15,7 +16,7 @@ pub struct Paths {
 }
 
 pub fn paths_of(x: &[u8]) -> Paths
-    ensures { λ r. ⌜ PathsIn (now (x .entry)) r ⌝ }
+    ensures { PathsIn x.now result }
 {
     if is_presence(x) {
         return Paths {

@@ -1,3 +1,0 @@
-pub mod Rooted
-pub mod Judging
-pub mod Answering

@@ -1,0 +1,57 @@
+-- `forged_partner::partner` meets its contract: no slot passed is such a node. Assumes nothing.
+use Prim.Native.Nat.{◌-◌}
+use native.Mathlib.Omega.{arith}
+use mathlib.Core.Path.{ap, sym, ◌∙◌}
+use Rattle.terms.specs.declared.Form.TheVariants.{Counted as counted}
+use Rattle.store.proofs.Slots.{slot_within}
+use Rattle.store.proofs.Scans.{scan_slot}
+use Rattle.forged_message.specs.Parts.{message_bytes}
+use Rattle.forged_slot.specs.Slot.{message_in}
+use Rattle.forged_nodes.proofs.Words.{noted_inside, word_of}
+use Rattle.forged_partner.proofs.Scanning.{partner_start, partner_next, partner_found, no_partner}
+use Rattle.forged_partner.proofs.partner.Goals as goal
+
+pub slot_count-n-requires : goal.slot_count-n-requires
+slot_count-n-requires c = c.requires.size
+
+pub hash_word-word-requires : goal.hash_word-word-requires
+hash_word-word-requires c = tt
+
+pub loop-i-init : goal.loop-i-init
+loop-i-init c = partner_start c.args.store.now c.args.version (message_bytes c.args.m) c.requires.size c.slot_count-n.ensures
+
+pub offset_bounds-words-i : goal.offset_bounds-words-i
+offset_bounds-words-i c = omega (arith, noted_inside c.requires c.slot_count-n.ensures c.loop-i-test.true)
+
+pub bounds-words-i : goal.bounds-words-i
+bounds-words-i c = omega (arith, noted_inside c.requires c.slot_count-n.ensures c.loop-i-test.true)
+
+pub partner_here-requires : goal.partner_here-requires
+partner_here-requires c =
+    let counted = c.slot_count-n.ensures in
+    (scan_slot c.loop-i.invariant c.loop-i-test.true, word_of c.requires counted c.loop-i-test.true, c.hash_word-word.ensures)
+
+pub slot_of-requires : goal.slot_of-requires
+slot_of-requires c = slot_within (scan_slot c.loop-i.invariant c.loop-i-test.true)
+
+pub returns-then-partner_here : goal.returns-then-partner_here
+returns-then-partner_here c =
+    let a = c.args in
+    partner_found a.version a.m c.loop-i.invariant c.loop-i-test.true (sym c.partner_here.ensures ∙ c.if-partner_here.true)
+    c.record_message-node.result (c.record_message-node.ensures ∙ ap message_in c.slot_of.ensures.0)
+
+pub overflow_add-i : goal.overflow_add-i
+overflow_add-i c = omega (arith, c.loop-i.invariant.small)
+
+pub loop-i-smaller : goal.loop-i-smaller
+loop-i-smaller c = omega (arith, c.loop-i-test.true)
+
+pub loop-i-preserved : goal.loop-i-preserved
+loop-i-preserved c =
+    let a = c.args in
+    partner_next a.version a.m c.loop-i.invariant c.loop-i-test.true (sym c.partner_here.ensures ∙ c.if-partner_here.false)
+
+pub returns : goal.returns
+returns c =
+    let a = c.args in
+    no_partner a.version a.m c.loop-i.invariant c.loop-i-test.false

@@ -1,0 +1,44 @@
+-- `message_leaf::walk` meets its contract: a step a turn, to the end. The measure is what is left of the bytes. Assumes nothing.
+use Prim.Native.Nat.{◌-◌}
+use borrow.Author.Tests.{not-true, not-false}
+use Rattle.terms.specs.Fields.{slice}
+use Rattle.message_leaf.proofs.Walking.{walk_start, walk_next, path_too_long, path_no_field, path_no_step, walks_none, walks_all}
+use native.Mathlib.Omega.{arith}
+use Rattle.message_leaf.proofs.walk.Goals as goal
+
+pub loop-at-init : goal.loop-at-init
+loop-at-init c = walk_start c.args.x.now c.args.from c.requires
+
+pub returns-then-count-ge-MOST_STEPS : goal.returns-then-count-ge-MOST_STEPS
+returns-then-count-ge-MOST_STEPS c = walks_none (path_too_long c.loop-at.invariant c.loop-at-test.true c.if-count-ge-MOST_STEPS.true) c.no_steps.ensures
+
+pub field-part-requires : goal.field-part-requires
+field-part-requires c = (c.loop-at.invariant.within, omega arith)
+
+pub returns-then-not-part : goal.returns-then-not-part
+returns-then-not-part c = walks_none (path_no_field c.loop-at.invariant c.loop-at-test.true c.field-part.ensures (not-true _ c.if-not-part.true)) c.no_steps-then-not-part.ensures
+
+pub slice_bounds-is_step-count : goal.slice_bounds-is_step-count
+slice_bounds-is_step-count c = omega (arith, (c.field-part.ensures.inside (not-false _ c.if-not-part.false)).1)
+
+pub slice_bounds-is_step-start : goal.slice_bounds-is_step-start
+slice_bounds-is_step-start c = omega (arith, (c.field-part.ensures.inside (not-false _ c.if-not-part.false)).1, (c.field-part.ensures.inside (not-false _ c.if-not-part.false)).2)
+
+pub slice_bounds-is_step-end : goal.slice_bounds-is_step-end
+slice_bounds-is_step-end c = omega (arith, (c.field-part.ensures.inside (not-false _ c.if-not-part.false)).2)
+
+pub returns-then-not-is_step : goal.returns-then-not-is_step
+unfolding slice
+returns-then-not-is_step c = walks_none (path_no_step c.loop-at.invariant c.loop-at-test.true c.field-part.ensures (not-false _ c.if-not-part.false) (c.is_step.ensures.no c.if-not-is_step.true)) c.no_steps-then-not-is_step.ensures
+
+pub loop-at-smaller : goal.loop-at-smaller
+loop-at-smaller c = let i = c.field-part.ensures.inside (not-false _ c.if-not-part.false) in omega (arith, i.0, i.1, i.2)
+
+pub loop-at-preserved : goal.loop-at-preserved
+unfolding slice
+loop-at-preserved c =
+    let s = c.is_step.ensures.yes c.if-not-is_step.false in
+    walk_next c.loop-at.invariant c.loop-at-test.true (omega arith) c.field-part.ensures (not-false _ c.if-not-part.false) s.1
+
+pub returns : goal.returns
+returns c = walks_all c.loop-at.invariant c.loop-at-test.false

@@ -1,0 +1,42 @@
+-- `order_find::find_first` meets its contract: what `find` finds. Assumes nothing.
+use native.Mathlib.Omega.{arith}
+use mathlib.Core.Path.{sym, subst}
+use Rattle.terms.specs.declared.Form.TheVariants.{Counted as counted}
+use Rattle.terms.specs.Bits.{Byte}
+use Rattle.terms.proofs.Lists.{all_of}
+use Rattle.place.specs.Place.{place_of}
+use Rattle.layout.specs.Stores.{Has}
+use Rattle.order_halves.proofs.Looked.{entry_has}
+use Rattle.order_find.proofs.Found.{found_here, none_before, none_after, none_left}
+use borrow.Author.Rules.{rules}
+use Rattle.order_find.proofs.find_first.Goals as goal
+
+pub returns-then-many-k : goal.returns-then-many-k
+returns-then-many-k c =
+    let a = c.args in
+    none_left a.store.now c.requires.0 c.requires.2 a.version (place_of a.place) a.k (omega (arith, c.if-many-k.true)) c.requires.4
+
+pub compared-stands-requires : goal.compared-stands-requires
+compared-stands-requires c = (
+  subst (Has counted c.args.store.now) (sym c.wide-i.ensures.0)
+      (entry_has c.args.store.now c.requires.0 c.requires.2 c.args.k (omega (arith, c.if-many-k.false))),
+  search rules,
+)
+
+pub returns-in-Before : goal.returns-in-Before
+returns-in-Before c =
+    let a = c.args in
+    none_before a.store.now c.requires.0 c.requires.2 (all_of Byte a.store.now 0 (λ i _. omega (arith, c.shared_slice_known-1.given i))) a.version a.place c.requires.3
+    a.k (omega (arith, c.if-many-k.false)) c.wide-i.ensures.0 _ c.compared-stands.ensures c.requires.4 c.in-Before.is
+
+pub returns-in-After : goal.returns-in-After
+returns-in-After c =
+    let a = c.args in
+    none_after a.store.now c.requires.0 c.requires.2 (all_of Byte a.store.now 0 (λ i _. omega (arith, c.shared_slice_known-1.given i))) a.version a.place c.requires.3
+    a.k (omega (arith, c.if-many-k.false)) c.wide-i.ensures.0 _ c.compared-stands.ensures c.requires.4 c.in-After.is
+
+pub returns-in-Same : goal.returns-in-Same
+returns-in-Same c =
+    let a = c.args in
+    found_here a.store.now c.requires.0 c.requires.2 (all_of Byte a.store.now 0 (λ i _. omega (arith, c.shared_slice_known-1.given i))) a.version a.place c.requires.3
+    a.k (omega (arith, c.if-many-k.false)) c.wide-i.ensures.0 _ c.compared-stands.ensures c.requires.4 c.in-Same.is

@@ -1,3 +1,0 @@
-pub mod Planned
-pub mod Answering
-pub mod Exported

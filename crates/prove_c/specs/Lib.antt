@@ -1,2 +1,0 @@
-pub mod Export
-pub mod Within

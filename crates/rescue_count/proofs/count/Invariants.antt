@@ -1,0 +1,9 @@
+-- `rescue_count::count` meets its contract: the slots from i on are counted. Assumes nothing.
+use Rattle.rescue_count.proofs.Counting.{Counted}
+use Rattle.rescue_count.proofs.count.Given as goal
+
+abbrev pub invariant-loop-i : goal.invariant-loop-i
+invariant-loop-i l = Counted l.source l.target l.n l.c l.i
+
+abbrev pub decreases-loop-i : goal.decreases-loop-i
+decreases-loop-i l = l.i

@@ -1,0 +1,33 @@
+// The hashes for C and Rust to link: those of `sha256_c`, under their own names and the same contracts.
+#![tactic(auto)]
+
+ghost use Rattle.std.specs.Prelude.{◌≡◌, take, drop};
+ghost use Rattle.sha256.specs.Sha256.{sha256};
+ghost use Rattle.nodehash.specs.Node.{leaf_hash, inner_hash};
+
+// SHA-256 of the bytes. It always answers 0.
+#[unsafe(no_mangle)]
+pub extern "C" fn grants_sha256(bytes: &[u8], digest: &mut [u8; 32]) -> u32
+    ensures value { result ≡ 0 }
+    ensures digest_after { digest.new ≡ sha256 bytes.now }
+{
+    sha256_c::grants_sha256(bytes, digest)
+}
+
+// The hash of a leaf, from its key and its value one after the other. It always answers 0.
+#[unsafe(no_mangle)]
+pub extern "C" fn grants_leaf_hash(grant: &[u8; 64], digest: &mut [u8; 32]) -> u32
+    ensures value { result ≡ 0 }
+    ensures digest_after { digest.new ≡ leaf_hash (take 32 grant.now) (drop 32 grant.now) }
+{
+    sha256_c::grants_leaf_hash(grant, digest)
+}
+
+// The hash of an inner node, from its children's hashes. It always answers 0.
+#[unsafe(no_mangle)]
+pub extern "C" fn grants_inner_hash(left: &[u8; 32], right: &[u8; 32], digest: &mut [u8; 32]) -> u32
+    ensures value { result ≡ 0 }
+    ensures digest_after { digest.new ≡ inner_hash left.now right.now }
+{
+    sha256_c::grants_inner_hash(left, right, digest)
+}

@@ -1,0 +1,28 @@
+-- Each turn compresses one block and leaves the others. Assumes nothing.
+use Prim.Native.Nat.{◌-◌}
+use mathlib.Core.Path.{◌≡◌, ap₂, ◌∙◌}
+use native.Mathlib.Omega.{arith}
+use borrow.Author.Rules.{rules}
+use Rattle.sha256.specs.Rolling.{folded}
+use Rattle.sha256_eight.specs.Lanes.{value_inside, words_in, value_list}
+use Rattle.sha256_eight.proofs.Spread.{spread_long, value_more}
+use Rattle.sha256_eight.proofs.compress_eight.Goals as goal
+
+pub loop-l-init : goal.loop-l-init
+loop-l-init c = (omega arith, search rules, λ i h. absurd (omega arith))
+
+pub loop-l-preserved : goal.loop-l-preserved
+loop-l-preserved c =
+    let w = c.compress_lane-v in
+    let a = c.args in
+    let e = c.put_value.ensures in (
+      omega arith,
+      rw (e, spread_long c.loop-l.r c.loop-l.l 0 (value_list w.result)) c.loop-l.invariant.1,
+      rw e (value_more (λ i v. v ≡ folded (value_inside a.s.now i) (words_in a.x.now i)) c.loop-l.r c.loop-l.l w.result (omega arith) c.loop-l.invariant.1 c.loop-l.invariant.2
+          (w.ensures ∙ ap₂ folded c.value_in.ensures c.words_in.ensures)),
+    )
+
+pub returns : goal.returns
+returns c =
+    let e : c.loop-l.l ≡ 8 = omega arith in
+    λ i h. c.loop-l.invariant.2 i (omega arith)

@@ -1,0 +1,11 @@
+-- The 64 rounds, added to the hash value before them.
+-- Assumes nothing.
+use mathlib.Core.Path.{ap, ◌∙◌}
+use Rattle.sha256.specs.declared.State.{State}
+use Rattle.sha256.specs.Sha256.{added}
+use Rattle.sha256.specs.Rolling.{folded}
+use Rattle.sha256_eight.proofs.compress_lane.Goals as goal
+
+pub returns : goal.returns
+unfolding folded
+returns c = c.add_state.ensures ∙ ap (λ (x : State). added x c.args.s) c.lane_rounds.ensures

@@ -1,0 +1,25 @@
+-- `sights::look` meets its contract: a match is looked for first, and a spoilt slot where there is none. Assumes nothing.
+use Rattle.place.specs.Place.{place_of}
+use Rattle.meaning.specs.Store.{find}
+use Rattle.meaning.specs.Sight.{agrees, node_sight}
+use Rattle.layout.specs.Stores.{store_of}
+use Rattle.sights.proofs.Spoilt.{matched, spoilt_sighted, nothing_sighted}
+use Rattle.sights.proofs.look.Goals as goal
+
+pub returns-in-At : goal.returns-in-At
+unfolding node_sight
+returns-in-At c =
+    let st = store_of c.args.store.now in
+    matched st.slots (find c.args.version (place_of c.args.place) st.slots) (agrees c.args.version (place_of c.args.place)) c.find-found.ensures c.in-At.is
+
+pub returns-in-At-spoilt : goal.returns-in-At-spoilt
+unfolding node_sight
+returns-in-At-spoilt c =
+    let st = store_of c.args.store.now in
+    spoilt_sighted st.slots (find c.args.version (place_of c.args.place) st.slots) (agrees c.args.version (place_of c.args.place)) c.find-found.ensures c.in_default.is c.find_spoilt-spoilt.ensures c.in-At-spoilt.is
+
+pub returns : goal.returns
+unfolding node_sight
+returns c =
+    let st = store_of c.args.store.now in
+    nothing_sighted st.slots (find c.args.version (place_of c.args.place) st.slots) (agrees c.args.version (place_of c.args.place)) c.find-found.ensures c.in_default.is c.find_spoilt-spoilt.ensures c.in_default-spoilt.is

@@ -1,0 +1,9 @@
+-- `store::put_leaf_at` meets its contract: the part of slot i comes back as the leaf. Assumes nothing.
+use Rattle.store.proofs.Slots.{part_put, part_long}
+use Rattle.store_put.proofs.put_leaf_at.Goals as goal
+
+pub returns : goal.returns
+returns c =
+    let a = c.args in
+    part_put a.form a.i a.store.now c.slot_start-start.ensures.0 c.slot_size.ensures.0 c.requires.0 _
+    (c.put_leaf.ensures a.form (part_long a.form a.i a.store.now c.slot_start-start.ensures.0 c.slot_size.ensures.0 c.requires.0)) c.put_leaf.auto.s
