@@ -55,15 +55,24 @@ fn native() -> PathBuf {
     let changed = |path: PathBuf| println!("cargo:rerun-if-changed={}", path.display());
     changed(checkout.join("crates.txt"));
     // What the kit makes of a crate, in its out/, is no source.
-    for room in fs::read_dir(checkout.join("crates"))
-        .into_iter()
-        .flatten()
-        .flatten()
-    {
-        for part in ["src", "specs", "proofs"] {
-            let part = room.path().join(part);
-            if part.is_dir() {
-                changed(part);
+    let rooms = checkout.join("crates");
+    match fs::read_dir(&rooms) {
+        // An error isn't taken for a folder that isn't there: what can't be read is looked at anew each time.
+        Err(error) if error.kind() != std::io::ErrorKind::NotFound => changed(rooms),
+        Err(_) => {}
+        Ok(found) => {
+            for room in found {
+                let Ok(room) = room else {
+                    changed(rooms.clone());
+                    continue;
+                };
+                for part in ["src", "specs", "proofs"] {
+                    let part = room.path().join(part);
+                    match fs::metadata(&part) {
+                        Err(error) if error.kind() == std::io::ErrorKind::NotFound => {}
+                        _ => changed(part),
+                    }
+                }
             }
         }
     }
