@@ -1,6 +1,8 @@
 // The program of vectors: it reads a script, whose lines are the rows of documents 01 and 02 and the calls that show them, and writes what came of each
 // through the public calls. The script is the crate's file stdin and says its own form; all that is written is held to the file stdout. For a
 // new call: a function of `calls`, its words in `script_says`, a line of `call` below, and a line of the script's head that says its form.
+#![tactic(auto)]
+
 mod calls;
 mod compared;
 mod counted;
