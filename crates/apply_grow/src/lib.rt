@@ -1,11 +1,13 @@
 // Growing a subtree, document 01: a run of inserts with no node there; at a leaf, with the leaf if it stays.
 #![tactic(auto)]
 
-ghost use Rattle.std.specs.Prelude.{◌-◌};
+ghost use Rattle.std.specs.Prelude.{◌-◌, ◌≡◌};
 ghost use Rattle.nodehash.specs.Node.{leaf_hash, inner_hash};
 ghost use Rattle.place.specs.Place.{place_of};
 ghost use Rattle.batch.specs.Batch.{asks};
 ghost use Rattle.steps.specs.Step as step;
+ghost use Rattle.apply_place.specs.declared.Node.TheVariants.{Leaf, Nothing};
+ghost use Rattle.apply_outcome.specs.declared.Change.TheVariants.{Updated, Unchanged};
 ghost use Rattle.apply_outcome.specs.Outcomes.{Did};
 ghost use Rattle.apply_inserts.specs.Inserts.{stays_says, stays_at};
 ghost use Rattle.apply_grow.specs.Growing.{Grows};
@@ -15,7 +17,36 @@ use apply_inserts::{Few, Stays, stays_at, to_grow};
 use apply_outcome::{Change, Outcome, child_of};
 use apply_place::Node;
 use batch_runs::{left_run, right_run};
+use hash::Hash;
 use place::Place;
+
+// What grows from no grant: nothing. This function and the next are not inlined, since what `grow` holds is stack for each of 256 bits.
+#[inline(never)]
+fn none_grown(from: usize) -> Outcome
+    ensures { result ≡ record { change = Unchanged; node = Nothing; reach = from } }
+{
+    Outcome {
+        change: Change::Unchanged,
+        node: Node::Nothing,
+        reach: from,
+    }
+}
+
+// What grows from one grant: its leaf.
+#[inline(never)]
+fn leaf_grown(new: u32, from: usize, key: Hash, value: Hash) -> Outcome
+    ensures { result ≡ record { change = Updated; node = Leaf new key value; reach = from } }
+{
+    Outcome {
+        change: Change::Updated,
+        node: Node::Leaf {
+            version: new,
+            key,
+            value,
+        },
+        reach: from,
+    }
+}
 
 // Grows the subtree at a place; the node there is for the parent to place. The leaf that stays is handed down as it is: what a call keeps
 // while it calls itself is stack for each of 256 bits.
@@ -34,20 +65,8 @@ pub fn grow(
     let here = stays_at(stays, place);
     let grants = to_grow(here, run);
     match grants {
-        Few::Nothing => Outcome {
-            change: Change::Unchanged,
-            node: Node::Nothing,
-            reach: from,
-        },
-        Few::One { key, value } => Outcome {
-            change: Change::Updated,
-            node: Node::Leaf {
-                version: new,
-                key,
-                value,
-            },
-            reach: from,
-        },
+        Few::Nothing => none_grown(from),
+        Few::One { key, value } => leaf_grown(new, from, key, value),
         Few::Several => {
             let i = place.count;
             let l = grow(

@@ -1,10 +1,12 @@
 -- `apply_grow::grow` meets its contract: each side grows on its run, and a new inner node stands above them. The bits that are left fall.
 -- Assumes nothing.
 use Prim.Native.Nat.{◌-◌}
+use mathlib.Core.Path.{sym, subst}
 use mathlib.Core.Bool.{true, false}
 use native.Mathlib.Omega.{arith}
 use Rattle.batch.proofs.Runs.{run_at}
 use Rattle.apply_place.proofs.Changing.{changed_stored}
+use Rattle.apply_outcome.specs.Outcomes.{Did}
 use Rattle.apply_grow.proofs.Growing.{few_is, none_did, one_did, several_short, side_grows, sides_fork, several_did}
 use Rattle.apply_grow.proofs.+grow.Goals as goal
 
@@ -44,10 +46,14 @@ fork-requires t c =
     sides_fork w (omega (arith, c.ranges.new.fits)) h c.left.ensures c.right.ensures c.left_run.ensures c.right_run.ensures c.grow-l.ensures c.grow-r.ensures c.child_of-none.ensures
 
 pub returns-in-Nothing : goal.returns-in-Nothing
-returns-in-Nothing t c = none_did c.requires (few_is c.requires c.stays_at-here.result c.stays_at-here.ensures c.in-Nothing.is c.to_grow-grants.ensures)
+returns-in-Nothing t c =
+    let f = few_is c.requires c.stays_at-here.result c.stays_at-here.ensures c.in-Nothing.is c.to_grow-grants.ensures in
+    subst (Did c.args.new c.args.writes c.args.from c.args.store.now c.args.store.now _) (sym c.none_grown.ensures) (none_did c.requires f)
 
 pub returns-in-One : goal.returns-in-One
-returns-in-One t c = one_did c.requires (few_is c.requires c.stays_at-here.result c.stays_at-here.ensures c.in-One.is c.to_grow-grants.ensures)
+returns-in-One t c =
+    let f = few_is c.requires c.stays_at-here.result c.stays_at-here.ensures c.in-One.is c.to_grow-grants.ensures in
+    subst (Did c.args.new c.args.writes c.args.from c.args.store.now c.args.store.now _) (sym c.leaf_grown.ensures) (one_did c.requires f)
 
 pub returns-in-Several : goal.returns-in-Several
 returns-in-Several t c =

@@ -1,0 +1,3 @@
+pub mod Rooted
+pub mod Judging
+pub mod Answering

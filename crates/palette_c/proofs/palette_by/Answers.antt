@@ -1,0 +1,16 @@
+-- `palette_c::palette_by` meets its contract: the case of the answer decides the number, the room and the four bytes. Assumes nothing.
+use Rattle.palette_c.proofs.Exported.{palette_refused, palette_given}
+use borrow.Author.Rules.{rules}
+use Rattle.palette_c.proofs.palette_by.Goals as goal
+
+pub returns-in-Refused : goal.returns-in-Refused
+returns-in-Refused c =
+    let a = c.args in
+    let d = c.palette-proved.ensures in
+    palette_refused d a.length.now c.in-Refused.is
+
+pub returns-in-Length : goal.returns-in-Length
+returns-in-Length c =
+    let a = c.args in
+    let d = c.palette-proved.ensures in
+    palette_given d a.length.now c.in-Length.is (search rules) c.put_u32.ensures

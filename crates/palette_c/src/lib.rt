@@ -1,0 +1,81 @@
+// Several proofs at the boundary: the call answers 0 where it is accepted, else the number of refusal, and then it writes nothing. `grants` exports it.
+#![tactic(auto)]
+
+ghost use Rattle.std.proofs.Math.Option.{some};
+ghost use Rattle.palette_c.specs.Export.{PaletteTold};
+ghost use Rattle.contracts.specs.Palettes.{Palettes, PalettesBy};
+ghost use Rattle.palette_c.specs.Within.{paletted_by};
+
+use fields::put_u32;
+use key_list::whole_keys;
+use palette::palette;
+use prove::Proved;
+use read_open::as_many;
+use refusal_numbers::{NOT_32_BYTES, WRONG_SIZE};
+
+// The proofs for a list of keys in a version, by a table of any length, fill the front of the room; the length of all together goes out in four bytes.
+fn palette_by(
+    store: &[u8],
+    index: &[u32],
+    version: u32,
+    keys: &[u8],
+    room: &mut [u8],
+    length: &mut [u8; 4],
+) -> u64
+    ensures { PaletteTold (paletted_by store.now index.now version keys.now room.old) room.old length.old result room.new length.new }
+{
+    let proved = palette(store, index, version, keys, room);
+    match proved {
+        Proved::Refused(n) => n,
+        Proved::Length(n) => {
+            put_u32(length, 0, n);
+            0
+        }
+    }
+}
+
+// The proofs for a list of keys in a version, by scans.
+pub fn grants_palette(
+    store: &[u8],
+    version: u32,
+    keys: &[u8],
+    room: &mut [u8],
+    length: &mut [u8; 4],
+) -> u64
+    ensures { Palettes store.now version keys.now room.old length.old result room.new length.new }
+{
+    palette_by(store, &[], version, keys, room, length)
+}
+
+// The proofs for a list of keys in a version, by a table lent with the store (2026-05).
+pub fn palette_indexed(
+    store: &[u8],
+    index: &[u32],
+    version: u32,
+    keys: &[u8],
+    room: &mut [u8],
+    length: &mut [u8; 4],
+) -> u64
+    ensures { PalettesBy store.now (some index.now) version keys.now room.old length.old result room.new length.new }
+{
+    if !whole_keys(keys) {
+        return NOT_32_BYTES as u64;
+    }
+    if !as_many(store, index) {
+        return WRONG_SIZE as u64;
+    }
+    palette_by(store, index, version, keys, room, length)
+}
+
+// What `grants` exports. No proof file stands behind it, so that an idle one is refused by its contract alone.
+pub fn palette_out(
+    store: &[u8],
+    version: u32,
+    keys: &[u8],
+    room: &mut [u8],
+    length: &mut [u8; 4],
+) -> u64
+    ensures { Palettes store.now version keys.now room.old length.old result room.new length.new }
+{
+    grants_palette(store, version, keys, room, length)
+}

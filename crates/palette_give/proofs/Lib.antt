@@ -1,0 +1,3 @@
+pub mod Passing
+pub mod Filling
+pub mod Giving

@@ -1,0 +1,16 @@
+-- `pocket_prove::grants_pocket_prove` meets its contract: the case of the answer decides the number, the room and the four bytes. Assumes nothing.
+use Rattle.pocket_prove.proofs.Exported.{prove_refused, prove_given}
+use borrow.Author.Rules.{rules}
+use Rattle.pocket_prove.proofs.grants_pocket_prove.Goals as goal
+
+pub returns-in-Refused : goal.returns-in-Refused
+returns-in-Refused c =
+    let a = c.args in
+    let d = c.pocket_prove-proved.ensures in
+    prove_refused d a.length.now c.in-Refused.is
+
+pub returns-in-Length : goal.returns-in-Length
+returns-in-Length c =
+    let a = c.args in
+    let d = c.pocket_prove-proved.ensures in
+    prove_given d a.length.now c.in-Length.is (search rules) c.put_u32.ensures

@@ -1,0 +1,79 @@
+// Proving at the boundary: the call answers 0 where it is accepted, else the number of refusal, and then it writes nothing. `grants` exports it.
+#![tactic(auto)]
+
+ghost use Rattle.std.proofs.Math.Option.{some};
+ghost use Rattle.prove_c.specs.Export.{ProofTold};
+ghost use Rattle.contracts.specs.Proves.{Proves, ProvesBy};
+ghost use Rattle.prove_c.specs.Within.{proved_by};
+
+use fields::put_u32;
+use prove::{Proved, prove};
+use read_open::as_many;
+use refusal_numbers::{NOT_32_BYTES, WRONG_SIZE};
+
+// The proof for a key in a version, by a table of any length, fills the front of the room; its length goes out in four bytes.
+fn prove_by(
+    store: &[u8],
+    index: &[u32],
+    version: u32,
+    key: &[u8],
+    room: &mut [u8],
+    length: &mut [u8; 4],
+) -> u64
+    ensures { ProofTold (proved_by store.now index.now version key.now room.old) room.old length.old result room.new length.new }
+{
+    let proved = prove(store, index, version, key, room);
+    match proved {
+        Proved::Refused(n) => n,
+        Proved::Length(n) => {
+            put_u32(length, 0, n);
+            0
+        }
+    }
+}
+
+// The proof for a key in a version, by scans.
+pub fn grants_prove(
+    store: &[u8],
+    version: u32,
+    key: &[u8],
+    room: &mut [u8],
+    length: &mut [u8; 4],
+) -> u64
+    ensures { Proves store.now version key.now room.old length.old result room.new length.new }
+{
+    prove_by(store, &[], version, key, room, length)
+}
+
+// The proof for a key in a version, by a table lent with the store (2026-05).
+pub fn prove_indexed(
+    store: &[u8],
+    index: &[u32],
+    version: u32,
+    key: &[u8],
+    room: &mut [u8],
+    length: &mut [u8; 4],
+) -> u64
+    ensures { ProvesBy store.now (some index.now) version key.now room.old length.old result room.new length.new }
+{
+    if key.len() != 32 {
+        return NOT_32_BYTES as u64;
+    }
+    if !as_many(store, index) {
+        return WRONG_SIZE as u64;
+    }
+    prove_by(store, index, version, key, room, length)
+}
+
+// What `grants` exports. No proof file stands behind it, so that an idle one is refused by its contract alone.
+pub fn proved_out(
+    store: &[u8],
+    version: u32,
+    key: &[u8],
+    room: &mut [u8],
+    length: &mut [u8; 4],
+) -> u64
+    ensures { Proves store.now version key.now room.old length.old result room.new length.new }
+{
+    grants_prove(store, version, key, room, length)
+}
