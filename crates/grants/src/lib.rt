@@ -1,5 +1,5 @@
-// The public calls, for Rust to call; `grants_c` has them for C and others to link. Each answers 0 where it is accepted, else document 01's number of refusal; a refused
-// call writes nothing, its answer included. A slice is passed as a pointer and a length, an array as a pointer alone.
+// The public calls, for Rust to call; `grants_c` has them for C and others to link. Each answers 0 where it is accepted, else its number of
+// refusal (docs/RULES.md, 'Numbers of refusal'); a refused call writes nothing, its answer included.
 #![tactic(auto)]
 
 ghost use Rattle.std.specs.Prelude.{[], ◌∷◌};

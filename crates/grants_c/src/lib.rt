@@ -1,4 +1,5 @@
-// The public calls for C and others to link, under their own names; `grants` has what each does, and its contract here is the same.
+// The public calls for C and others to link, under their own names; `grants` has what each does, and its contract here is the same. A slice is
+// passed as a pointer and a length, an array as a pointer alone.
 #![tactic(auto)]
 
 ghost use Rattle.std.specs.Prelude.{[], ◌∷◌};
