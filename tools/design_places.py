@@ -122,7 +122,8 @@ def point3(files):
     for name, text in files.items():
         for fn, _, body in functions(text):
             for m in re.finditer(r"(?<!\w)(while|loop)\b[^{]*\{", body):
-                yield ("loop-by-index" if re.search(r"\b\w+ \+= 1;|\b(\w+) = \1 \+ 1;|\b\w+ -= 1;", body) else "loop-other"), name, f"{fn}: {' '.join(m.group(0).split())}"
+                by_index = re.search(r"\b\w+ \+= 1;|\b(\w+) = \1 \+ 1;|\b\w+ -= 1;", body)
+                yield "loop-by-index" if by_index else "loop-other", name, f"{fn}: {' '.join(m.group(0).split())}"
 
 
 def point4(files):
