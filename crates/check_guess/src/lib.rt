@@ -64,6 +64,7 @@ fn halved(
 {
     let mut low = from;
     let mut high = end;
+    // Halving, which is no count.
     while low < high {
         let middle = low + (high - low) / 2;
         if stands_before(form, store, n, wide(table[middle]), node) {
@@ -91,6 +92,7 @@ fn galloped(
     let mut low = from;
     let mut high = from;
     let mut step = 1;
+    // Doubling, which is no count.
     while high < many {
         if !stands_before(form, store, n, wide(table[high]), node) {
             return halved(form, store, n, table, low, high, node);
@@ -223,11 +225,9 @@ pub fn guessed(
 {
     let mut left = 0;
     let mut right = 0;
-    let mut k = 0;
-    while k < many {
+    for k in 0..many {
         let j = wide(table[k]);
         left = guess_side(form, store, n, table, left, many, j, false, guess);
         right = guess_side(form, store, n, table, right, many, j, true, guess);
-        k += 1;
     }
 }

@@ -68,14 +68,12 @@ pub fn ascending(form: Form, store: &[u8], latest: u32, table: &[u16; 16384], ma
     ensures { InOrder form latest store.now table.now result }
 {
     let n = slot_count(form, store);
-    let mut k = 1;
-    while k < many {
+    for k in 1..many {
         if !in_order(form, store, latest, n, wide(table[k - 1]), wide(table[k])) {
             return k;
         }
-        k += 1;
     }
-    k
+    many
 }
 
 // Whether a slot is named where its rank says.
@@ -120,12 +118,10 @@ pub fn named(
     ensures { Each (NamedAt form store.now table.now many) result }
 {
     let n = slot_count(form, store);
-    let mut i = 0;
-    while i < n {
+    for i in 0..n {
         if !slot_named(form, store, table, many, ranks[i], i) {
             return i;
         }
-        i += 1;
     }
-    i
+    n
 }

@@ -10,7 +10,7 @@ ghost use Rattle.check_kin.specs.Kin.{Keeps};
 ghost use Rattle.promises.specs.Check.{Checked};
 
 use check_kin::Kept;
-use check_quick::{Look, quick, quick_with};
+use check_quick::{quick, quick_with};
 use check_slot::{each_passes, slot_passes};
 use header::{Header, read_header};
 use refusal_numbers::NOT_SOUND;
@@ -37,10 +37,9 @@ fn slots_pass(form: Form, store: &[u8], kept: Kept) -> bool
     requires { Keeps form store.now kept }
     ensures { result ≡ slots_test leaf_hash inner_hash (store_in form store.now) }
 {
-    let seen = quick(form, store, kept);
-    match seen {
-        Look::Fine => true,
-        Look::Suspect(i) => suspect_passes(form, store, kept, i),
+    match quick(form, store, kept) {
+        None => true,
+        Some(i) => suspect_passes(form, store, kept, i),
     }
 }
 
@@ -79,8 +78,8 @@ pub fn check_with(form: Form, store: &[u8], guess: &mut [u16; 32768]) -> u32
         return check(form, store);
     };
     let versions = Kept { oldest, latest };
-    let Look::Fine = quick_with(form, store, versions, guess) else {
+    if quick_with(form, store, versions, guess).is_some() {
         return check(form, store);
-    };
+    }
     0
 }

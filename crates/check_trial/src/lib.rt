@@ -6,7 +6,7 @@ ghost use Rattle.layout.specs.Headers.{size_right};
 ghost use Rattle.check_kin.specs.Kin.{Keeps};
 
 use check_kin::Kept;
-use check_quick::{Look, quick};
+use check_quick::quick;
 use check_slot::slot_passes;
 use check_store::check;
 use header::{Header, read_header};
@@ -35,10 +35,9 @@ fn suspected(store: &[u8], kept: Kept) -> u32
     requires { Keeps Form.Counted store.now kept }
 {
     let n = slot_count(Form::Counted, store);
-    let seen = quick(Form::Counted, store, kept);
-    match seen {
-        Look::Fine => FINE,
-        Look::Suspect(i) => {
+    match quick(Form::Counted, store, kept) {
+        None => FINE,
+        Some(i) => {
             if n <= i {
                 return SUSPECT_PASSES;
             }
@@ -71,13 +70,11 @@ fn hashed(store: &[u8]) -> u32
 {
     let n = slot_count(Form::Counted, store);
     let mut odd = 0u32;
-    let mut i = 0;
-    while i < n {
+    for i in 0..n {
         if kind_at(Form::Counted, store, i) != 0 {
             let h = leaf_hash(grant_of(slot_of(Form::Counted, store, i)));
-            odd = std::num::wrapping_add_u32(odd, (h.a % 2) as u32);
+            odd = odd.wrapping_add((h.a % 2) as u32);
         }
-        i += 1;
     }
     odd
 }

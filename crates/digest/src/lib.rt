@@ -8,7 +8,7 @@ ghost use Rattle.sha256.specs.Sha256.{hash_value, padded, sha256};
 ghost use Rattle.sha256.specs.Rolling.{block_at};
 ghost use Rattle.digest.specs.Tail.{last_of};
 
-use hash::{Hash, pack, wide, word_at};
+use hash::{Hash, word_at};
 use sha256::{State, Words, compress, start, to_hash};
 
 fn words_at(b: &[u8], at: usize) -> Words
@@ -36,11 +36,11 @@ fn words_at(b: &[u8], at: usize) -> Words
 }
 
 // A byte of the message with the byte 128 after it, and then zeros for ever.
-fn tail_byte(b: &[u8], at: usize) -> u32
+fn tail_byte(b: &[u8], at: usize) -> u8
     ensures { (result ≡ get_or (b.now ++ (128 ∷ [])) at 0) × (result < 256) }
 {
     if at < b.len() {
-        return wide(b[at]);
+        return b[at];
     }
     if at == b.len() {
         return 128;
@@ -59,12 +59,12 @@ fn tail_word(b: &[u8], at: usize) -> u32
     if b.len() < at {
         return 0;
     }
-    pack(
+    u32::from_be_bytes([
         tail_byte(b, at),
         tail_byte(b, at + 1),
         tail_byte(b, at + 2),
         tail_byte(b, at + 3),
-    )
+    ])
 }
 
 fn tail_words(b: &[u8], at: usize) -> Words
@@ -104,12 +104,9 @@ fn last_words(x: Words, n: usize) -> Words
 fn whole_blocks(b: &[u8]) -> State
     ensures { result ≡ hash_value (padded b.now) (length b.now / 64) }
 {
-    let n = b.len() / 64;
     let mut s = start();
-    let mut i: usize = 0;
-    while i < n {
+    for i in 0..b.len() / 64 {
         s = compress(s, words_at(b, i * 64));
-        i += 1;
     }
     s
 }

@@ -10,7 +10,6 @@ use format::format;
 use header_form::size_right;
 use index_keep::build;
 use index_look::is_right;
-use index_pick::fill;
 use refusal_numbers::{WRONG_INDEX, WRONG_SIZE};
 use store::slot_count;
 use terms::Form;
@@ -65,6 +64,6 @@ pub fn formatted(store: &mut [u8], table: &mut [u32]) -> u32
     if table.len() != n {
         return WRONG_SIZE;
     }
-    fill(table, n as u32);
+    table.fill(n as u32);
     format(store)
 }

@@ -2,8 +2,10 @@
 use Prim.Native.Nat.{ℕ, ◌+◌, ◌*◌, ◌-◌, ◌<◌, ◌≤◌}
 use native.Mathlib.Omega.{arith}
 use native.Mathlib.Nat.{add-sub_cancel_left}
+use Rattle.std.specs.declared.option.Option as option
+use Rattle.std.specs.Prelude.{Some, None}
 use mathlib.Core.Path.{◌≡◌, refl, ap, sym, ◌∙◌}
-use mathlib.Core.Bool.{true, false}
+use mathlib.Core.Bool.{Bool, true, false, false≢true}
 use mathlib.Core.List.{◌∷◌}
 use mathlib.Core.Option.{none, some}
 use lib.ListN.{length, get_or, drop, length-drop, drop_of_length-le}
@@ -14,9 +16,12 @@ use Rattle.terms.specs.Fields.{slice}
 use Rattle.messages.specs.Reading.{onward, only_if, varint_from, cut_from, field_from}
 use Rattle.message_varint.specs.declared.Number.{Number}
 use Rattle.message_varint.specs.Numbers.{number_in, Reads}
-use Rattle.message_varint.proofs.Numbers.{first_of, nothing_in, not_both}
+use Rattle.message_varint.proofs.Numbers.{first_of}
 use Rattle.message_fields.specs.declared.Part.{Part}
 use Rattle.message_fields.specs.Standing.{part_in, Stands}
+
+not_both : {A : Type 0} (b : Bool) → b ≡ false → b ≡ true → A
+not_both b e d = absurd (false≢true (sym e ∙ d))
 
 no_part_in : (m : Bytes) (r : Part) → r.found ≡ false → part_in m r ≡ none
 no_part_in m r e = rw e
@@ -43,16 +48,15 @@ module _ (n : ℕ) (m : Bytes) (at : ℕ) where
   unfolding only_if
   its_tag e = rw (eq-eqb (get_or m at 0) (8 * n + 2) e)
 
-  by_size : (size : Number) → at < length m → get_or m at 0 ≡ 8 * n + 2 → Reads 2 m (at + 1) size →
+  by_size : (size : option.Option Number) → at < length m → get_or m at 0 ≡ 8 * n + 2 → Reads 2 m (at + 1) size →
       field_from n (drop at m) ≡ onward (number_in m size) cut_from
   by_size size h t f = ap (field_from n) (first_of m at h) ∙ its_tag t ∙ ap (λ o. onward o cut_from) f.is
 
   -- no length
-  pub stands_no_size : (size : Number) (r : Part) → at < length m → get_or m at 0 ≡ 8 * n + 2 → Reads 2 m (at + 1) size → size.found ≡ false →
-      r.found ≡ false → Stands n m at r
+  pub stands_no_size : (r : Part) → at < length m → get_or m at 0 ≡ 8 * n + 2 → Reads 2 m (at + 1) None → r.found ≡ false → Stands n m at r
   unfolding onward
-  stands_no_size size r h t f s e = record {
-    is = by_size size h t f ∙ ap (λ o. onward o cut_from) (nothing_in m size s) ∙ sym (no_part_in m r e);
+  stands_no_size r h t f e = record {
+    is = by_size None h t f ∙ sym (no_part_in m r e);
     inside = not_both r.found e;
   }
 
@@ -60,20 +64,16 @@ module _ (n : ℕ) (m : Bytes) (at : ℕ) where
   unfolding onward
   cut_at v next = refl
 
-  found_in : (size : Number) → size.found ≡ true → number_in m size ≡ some (size.value, drop size.next m)
-  found_in size s = rw s
-
   -- fewer bytes than its length
   too_few : (v next : ℕ) → length m - next < v → cut_from (v, drop next m) ≡ none
   unfolding only_if
   too_few v next l = rw (lt-leb v (length (drop next m)) (simp length-drop (omega arith)))
 
-  pub stands_short : (size : Number) (r : Part) → at < length m → get_or m at 0 ≡ 8 * n + 2 → Reads 2 m (at + 1) size → size.found ≡ true →
+  pub stands_short : (size : Number) (r : Part) → at < length m → get_or m at 0 ≡ 8 * n + 2 → Reads 2 m (at + 1) (Some size) →
       length m - size.next < size.value → r.found ≡ false → Stands n m at r
-  stands_short size r h t f s l e = record {
+  stands_short size r h t f l e = record {
     is =
-        by_size size h t f
-        ∙ ap (λ o. onward o cut_from) (found_in size s)
+        by_size (Some size) h t f
         ∙ cut_at size.value size.next
         ∙ too_few size.value size.next l
         ∙ sym (no_part_in m r e);
@@ -86,13 +86,12 @@ module _ (n : ℕ) (m : Bytes) (at : ℕ) where
       rw (le-leb v (length (drop next m)) (simp length-drop (omega arith)), add-sub_cancel_left next v, drop-drop v next m)
 
   -- it stands there
-  pub stands_there : (size : Number) → at < length m → get_or m at 0 ≡ 8 * n + 2 → Reads 2 m (at + 1) size → size.found ≡ true →
+  pub stands_there : (size : Number) → at < length m → get_or m at 0 ≡ 8 * n + 2 → Reads 2 m (at + 1) (Some size) →
       size.value ≤ length m - size.next → Stands n m at (record { found = true; from = size.next; to = size.next + size.value })
-  stands_there size h t f s l =
-      let i = f.inside s in record {
+  stands_there size h t f l =
+      let i = f.inside size refl in record {
         is =
-            by_size size h t f
-            ∙ ap (λ o. onward o cut_from) (found_in size s)
+            by_size (Some size) h t f
             ∙ cut_at size.value size.next
             ∙ enough size.value size.next l;
         inside = λ _. (omega (arith, i.0), omega arith, omega (arith, i.1));

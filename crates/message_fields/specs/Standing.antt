@@ -1,14 +1,13 @@
 -- What fields and inner ops that were read from lent bytes are, beside `messages/Reading`: where they stand instead of
 -- the bytes themselves. Assumes nothing.
-use Rattle.std.specs.Prelude.{ℕ, ◌-◌, ◌<◌, ◌≤◌, ◌≡◌, true, false, cond, [], ◌∷◌, length, drop}
+use Rattle.std.specs.Prelude.{ℕ, ◌-◌, ◌<◌, ◌≤◌, ◌≡◌, Bool, true, false, cond, [], ◌∷◌, length, drop, Some, None}
+use Rattle.std.specs.declared.option.Option as option
 use Rattle.std.proofs.Math.Option.{Option, none, some}
 use Rattle.terms.specs.Bits.{Bytes}
 use Rattle.terms.specs.Fields.{slice}
 use Rattle.terms.specs.Records.{Step}
 use Rattle.messages.specs.Reading.{Front, field_from}
 use Rattle.message_fields.specs.declared.Part.{Part}
-use Rattle.message_fields.specs.declared.Inner.{Inner}
-use Rattle.message_fields.specs.declared.Inner.TheVariants.{Left, Right, Neither}
 
 -- The field's bytes, and the bytes after it.
 abbrev pub part_in : Bytes → Part → Front Bytes
@@ -20,7 +19,7 @@ pub record Stands (n : ℕ) (m : Bytes) (at : ℕ) (r : Part) : Type 0 where
   pub inside : r.found ≡ true → (at < r.from) × (r.from ≤ r.to) × (r.to ≤ length m)
 
 -- The step that an inner op says: the sibling is what follows the head.
-abbrev pub step_by : Bytes → Inner → Option Step
-step_by x Left = some (record { side = false; sibling = drop 7 x })
-step_by x Right = some (record { side = true; sibling = drop 5 x })
-step_by x Neither = none
+abbrev pub step_by : Bytes → option.Option Bool → Option Step
+step_by x (Some false) = some (record { side = false; sibling = drop 7 x })
+step_by x (Some true) = some (record { side = true; sibling = drop 5 x })
+step_by x None = none

@@ -16,14 +16,6 @@ pub struct Part {
     pub to: usize,
 }
 
-// On which side of its parent an inner op puts a node.
-#[derive(Clone, Copy)]
-pub enum Inner {
-    Left,
-    Right,
-    Neither,
-}
-
 fn no_part() -> Part
     ensures { result.found ≡ false }
 {
@@ -45,10 +37,9 @@ pub fn field(m: &[u8], at: usize, n: u8) -> Part
     if m[at] != 8 * n + 2 {
         return no_part();
     }
-    let size = varint(m, at + 1);
-    if !size.found {
+    let Some(size) = varint(m, at + 1) else {
         return no_part();
-    }
+    };
     if m.len() - size.next < size.value {
         return no_part();
     }
@@ -59,22 +50,23 @@ pub fn field(m: &[u8], at: usize, n: u8) -> Part
     }
 }
 
-// What an inner op says, by its head and its length: 32 bytes follow the head.
-pub fn inner_op(x: &[u8]) -> Inner
+// Whether an inner op puts its node on the right, by its head and its length: 32 bytes follow the head.
+// Nothing where it is no inner op of ours.
+pub fn inner_op(x: &[u8]) -> Option<bool>
     ensures { step_in x.now ≡ step_by x.now result }
 {
     if x.len() == 39 {
         let left: [u8; 7] = [8, 1, 18, 1, 0, 26, 32];
         if same(&x[0..7], &left) {
-            return Inner::Left;
+            return Some(false);
         }
-        return Inner::Neither;
+        return None;
     }
     if x.len() == 37 {
         let right: [u8; 5] = [8, 1, 18, 33, 0];
         if same(&x[0..5], &right) {
-            return Inner::Right;
+            return Some(true);
         }
     }
-    Inner::Neither
+    None
 }

@@ -1,6 +1,7 @@
 -- Key, value and leaf op of an existence proof one after the other, and where they stand. Assumes nothing.
 use Prim.Native.Nat.{ℕ, zero, suc, ◌+◌, ◌-◌, ◌<◌, ◌≤◌}
 use native.Mathlib.Omega.{arith}
+use Rattle.std.specs.Prelude.{Some, None}
 use mathlib.Core.Path.{◌≡◌, refl, ap, sym, ◌∙◌}
 use mathlib.Core.Bool.{Bool, true, false, cond, ◌&&◌, false≢true}
 use mathlib.Core.List.{List, [], ◌∷◌, ◌++◌}
@@ -21,7 +22,6 @@ use Rattle.messages.specs.Spots.{field_head}
 use Rattle.messages.proofs.Wires.{Near, field_said, bytes_field_is}
 use Rattle.message_fields.specs.declared.Part.{Part}
 use Rattle.message_fields.specs.Standing.{Stands}
-use Rattle.message_leaf.specs.declared.Walked.{Walked}
 use Rattle.message_leaf.specs.declared.Shown.{Shown}
 use Rattle.message_leaf.specs.Shown.{between, steps_of, steps_from, Walks, presence_at, Inside, after_head, Heads, Shows, Nothing}
 use Rattle.message_leaf.proofs.Walking.{stands_some, stands_none}
@@ -148,28 +148,28 @@ module _ {x : Bytes} {at : ℕ} {h : Shown} (s : Heads x at h) (e : h.found ≡ 
   unfolding after_head only_if all_of
   value_length_wrong j k = headed ∙ rw (j, k)
 
-  module _ (j : length_right 256 (presence_at x h).key ≡ true) (k : length_right 4096 (presence_at x h).value ≡ true) {w : Walked} (walks : Walks x h.path w) where
+  module _ (j : length_right 256 (presence_at x h).key ≡ true) (k : length_right 4096 (presence_at x h).value ≡ true) where
     lengths_right : existence_in (drop at x) ≡ onward (path_in 256 (drop h.path x)) (λ steps. some (record { key = (presence_at x h).key; value = (presence_at x h).value; steps = steps }))
     unfolding after_head only_if all_of
     lengths_right = headed ∙ rw (j, k)
 
-    pub no_path : w.found ≡ false → existence_in (drop at x) ≡ none
+    pub no_path : Walks x h.path None → existence_in (drop at x) ≡ none
     unfolding onward
-    no_path f = lengths_right ∙ rw (walks.is, f)
+    no_path walks = lengths_right ∙ rw walks.is
 
-    pub shows_there : w.found ≡ true → Shows x at (record {
+    pub shows_there : {count : ℕ} → Walks x h.path (Some count) → Shows x at (record {
       found = true;
       key = h.key;
       kstop = h.kstop;
       value = h.value;
       vstop = h.vstop;
       path = h.path;
-      count = w.count;
+      count = count;
     })
     unfolding onward
-    shows_there f =
+    shows_there walks =
         let i = s.inside e in record {
-          is = lengths_right ∙ rw (walks.is, f);
+          is = lengths_right ∙ rw walks.is;
           inside = λ _. record {
             key_inside = i.key_inside;
             value_inside = i.value_inside;
@@ -177,7 +177,7 @@ module _ {x : Bytes} {at : ℕ} {h : Shown} (s : Heads x at h) (e : h.found ≡ 
             key_at = i.key_at;
             value-at = i.value-at;
           };
-          count_is_lem = λ _. walks.count_is_lem f;
+          count_is_lem = λ _. walks.count_is_lem _ refl;
         }
 
 pub shows_none : {x : Bytes} {at : ℕ} {r : Shown} → existence_in (drop at x) ≡ none → Nothing r → Shows x at r

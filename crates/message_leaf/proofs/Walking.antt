@@ -1,6 +1,8 @@
 -- A path step by step: what was walked stands before what is left of it. Assumes nothing.
 use Prim.Native.Nat.{ℕ, zero, suc, ◌+◌, ◌-◌, ◌<◌, ◌≤◌}
 use native.Mathlib.Omega.{arith}
+use Rattle.std.specs.declared.option.Option as option
+use Rattle.std.specs.Prelude.{Some, None, is_some}
 use mathlib.Core.Path.{◌≡◌, refl, ap, sym, ◌∙◌, subst}
 use mathlib.Core.Bool.{Bool, true, false, cond, false≢true}
 use mathlib.Core.List.{List, [], ◌∷◌, ◌++◌, append-nil}
@@ -13,8 +15,7 @@ use Rattle.terms.specs.Fields.{slice}
 use Rattle.terms.specs.Records.{Step}
 use Rattle.messages.specs.Reading.{onward, only_if, field_from, step_in, path_in}
 use Rattle.message_fields.specs.declared.Part.{Part}
-use Rattle.message_fields.specs.Standing.{Stands, part_in}
-use Rattle.message_leaf.specs.declared.Walked.{Walked}
+use Rattle.message_fields.specs.Standing.{Stands, part_in, step_by}
 use Rattle.message_leaf.specs.Shown.{Stepped, steps_of, steps_from, Walks}
 
 -- a field that was found, and one that wasn't
@@ -137,20 +138,31 @@ pub path_walked : {x : Bytes} {from at count : ℕ} (w : Walking x from at count
 path_walked {x} {from} {at} {count} w h =
     w.is ∙ onward_some_is w.done (path_in (256 - count) (drop at x)) (at_end (256 - count) (drop at x) (simp length-drop (omega arith)))
 
-pub walks_none : {x : Bytes} {from : ℕ} {r : Walked} → path_in 256 (drop from x) ≡ none → r.found ≡ false → Walks x from r
-walks_none {x} {from} {r} e f = record { is = e ∙ rw f; count_is_lem = λ t. absurd (false≢true (sym f ∙ t)) }
+no_count : {A : Type 0} {n : ℕ} → ◌≡◌ {A = option.Option ℕ} None (Some n) → A
+no_count e = absurd (let z : ◌≡◌ {A = ℕ} 0 1 = cc in omega arith)
 
-pub walks_all : {x : Bytes} {from at count : ℕ} → Walking x from at count → length x ≤ at → Walks x from (record { found = true; count = count })
+that_count : {n k : ℕ} → ◌≡◌ {A = option.Option ℕ} (Some n) (Some k) → n ≡ k
+that_count e = cc
+
+pub walks_none : {x : Bytes} {from : ℕ} → path_in 256 (drop from x) ≡ none → Walks x from None
+walks_none e = record { is = e; count_is_lem = λ n. no_count }
+
+pub walks_all : {x : Bytes} {from at count : ℕ} → Walking x from at count → length x ≤ at → Walks x from (Some count)
 unfolding steps_from
 walks_all {x} {from} {at} {count} w h =
     let e = path_walked w h in record {
       is = e ∙ ap (λ o. some (steps_of o)) (sym e);
-      count_is_lem = λ _. ap (λ o. length (steps_of o)) e ∙ w.done_are;
+      count_is_lem = λ n s. ap (λ o. length (steps_of o)) e ∙ w.done_are ∙ that_count s;
     }
 
 -- whether an inner op says a step
-pub step_is : {x : Bytes} {s : Step} → step_in x ≡ some s → Stepped x true
+step_is : {x : Bytes} {s : Step} → step_in x ≡ some s → Stepped x true
 step_is {x} {s} e = record { yes = λ _. (s, e); no = λ f. absurd (false≢true (sym f)) }
 
-pub step_none : {x : Bytes} → step_in x ≡ none → Stepped x false
+step_none : {x : Bytes} → step_in x ≡ none → Stepped x false
 step_none e = record { yes = λ f. absurd (false≢true f); no = λ _. e }
+
+pub step_by_some : {x : Bytes} {b : Bool} (o : option.Option Bool) → step_in x ≡ step_by x o → b ≡ is_some o → Stepped x b
+step_by_some {x} (Some false) e f = subst (Stepped x) (sym f) (step_is e)
+step_by_some {x} (Some true) e f = subst (Stepped x) (sym f) (step_is e)
+step_by_some {x} None e f = subst (Stepped x) (sym f) (step_none e)

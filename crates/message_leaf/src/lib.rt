@@ -5,7 +5,7 @@
 ghost use Rattle.std.specs.Prelude.{◌≡◌, false, ◌&&◌, ◌-◌, ◌≤◌, length, leb};
 ghost use Rattle.message_leaf.specs.Shown.{Stepped, Walks, Heads, Shows, Nothing};
 
-use message_fields::{Inner, field, inner_op};
+use message_fields::{field, inner_op};
 use place::same;
 
 // No path is longer.
@@ -14,13 +14,6 @@ const MOST_STEPS: usize = 256;
 pub const MOST_KEY: usize = 256;
 // A raw value is no longer.
 pub const MOST_VALUE: usize = 4096;
-
-// A path that was walked: how many steps it has.
-#[derive(Clone, Copy)]
-pub struct Walked {
-    pub found: bool,
-    pub count: usize,
-}
 
 // An existence proof: where its key and its value begin and end, where its path begins, and how many steps it has.
 #[derive(Clone, Copy)]
@@ -32,15 +25,6 @@ pub struct Shown {
     pub vstop: usize,
     pub path: usize,
     pub count: usize,
-}
-
-fn no_steps() -> Walked
-    ensures { result.found ≡ false }
-{
-    Walked {
-        found: false,
-        count: 0,
-    }
 }
 
 pub fn no_shown() -> Shown
@@ -61,41 +45,34 @@ pub fn no_shown() -> Shown
 fn is_step(x: &[u8]) -> bool
     ensures { Stepped x.now result }
 {
-    let op = inner_op(x);
-    match op {
-        Inner::Left => true,
-        Inner::Right => true,
-        Inner::Neither => false,
-    }
+    inner_op(x).is_some()
 }
 
-// The steps from there on to the end, at most 256.
-fn walk(x: &[u8], from: usize) -> Walked
+// How many steps there are from there on to the end, where they are a path: at most 256.
+fn walk(x: &[u8], from: usize) -> Option<usize>
     requires { from ≤ length x.now }
     ensures { Walks x.now from result }
 {
     let mut at = from;
     let mut count: usize = 0;
+    // A cursor in bytes: each field ends where it says.
     while at < x.len() {
         if MOST_STEPS <= count {
-            return no_steps();
+            return None;
         }
         let part = field(x, at, 4);
         if !part.found {
-            return no_steps();
+            return None;
         }
         let start = part.from;
         let end = part.to;
         if !is_step(&x[start..end]) {
-            return no_steps();
+            return None;
         }
         at = end;
         count += 1;
     }
-    Walked {
-        found: true,
-        count: count,
-    }
+    Some(count)
 }
 
 // Whether bytes from one place to another are 1 to `most` many.
@@ -161,10 +138,9 @@ pub fn existence(x: &[u8], at: usize) -> Shown
         return no_shown();
     }
     let path = h.path;
-    let walked = walk(x, path);
-    if !walked.found {
+    let Some(count) = walk(x, path) else {
         return no_shown();
-    }
+    };
     Shown {
         found: true,
         key: h.key,
@@ -172,6 +148,6 @@ pub fn existence(x: &[u8], at: usize) -> Shown
         value: h.value,
         vstop: h.vstop,
         path: path,
-        count: walked.count,
+        count: count,
     }
 }

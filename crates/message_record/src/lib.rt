@@ -48,16 +48,12 @@ fn put_steps(room: &mut [u8], at: usize, x: &[u8], path: usize, count: usize)
     ensures { room.new ≡ written at (steps_bytes (steps_from path x.now)) room.old }
 {
     let mut from = path;
-    let mut to = at;
-    let mut i = 0;
-    while i < count {
+    for i in 0..count {
         let part = field(x, from, 4);
         let start = part.from;
         let end = part.to;
-        put_step(room, to, &x[start..end]);
+        put_step(room, at + STEP_SIZE * i, &x[start..end]);
         from = end;
-        to += STEP_SIZE;
-        i += 1;
     }
 }
 

@@ -10,10 +10,10 @@ ghost use Rattle.ordered.specs.Ordered.{node_key, Ordered};
 ghost use Rattle.order_halves.specs.First.{First};
 ghost use Rattle.order_find.specs.Finds.{NoLower};
 
-use lookup::Found;
-use order_look::{Look, compared};
+use order_look::compared;
 use order_near::first_near;
 use place::Place;
+use std::cmp::Ordering;
 use store::{version_at, wide};
 use terms::Form;
 
@@ -51,26 +51,32 @@ pub fn find_first(
     k: usize,
     version: u32,
     place: Place,
-) -> Found
+) -> Option<usize>
     requires { (size_right Form.Counted (length store.now) ≡ true) × (many ≤ 16384) × Ordered (store_of store.now).slots table.now many × Proper place × First (store_of store.now).slots table.now many (node_key version (place_of place)) k }
     ensures { FoundIn (store_of store.now).slots version (place_of place) result × NoLower (store_of store.now).slots version (place_of place) result }
 {
     if many <= k {
-        return Found::Nothing;
+        return None;
     }
     let i = wide(table[k]);
     let bits = place.bits;
     let count = place.count;
     let stands = compared(store, i, count, &bits, version);
     match stands {
-        Look::Before => Found::Nothing,
-        Look::After => Found::Nothing,
-        Look::Same => Found::At(i),
+        Ordering::Less => None,
+        Ordering::Greater => None,
+        Ordering::Equal => Some(i),
     }
 }
 
 // The lowest slot that matches a version and place, as `find` finds it, by a table that names the slots in form in their order.
-pub fn find_by(store: &[u8], table: &[u16; 16384], many: usize, version: u32, place: Place) -> Found
+pub fn find_by(
+    store: &[u8],
+    table: &[u16; 16384],
+    many: usize,
+    version: u32,
+    place: Place,
+) -> Option<usize>
     requires { (size_right Form.Counted (length store.now) ≡ true) × (many ≤ 16384) × Ordered (store_of store.now).slots table.now many × Proper place }
     ensures { FoundIn (store_of store.now).slots version (place_of place) result × NoLower (store_of store.now).slots version (place_of place) result }
 {

@@ -12,33 +12,18 @@ use order_table::{names_form, ordered};
 use store::{slot_count, wide};
 use terms::Form;
 
-// An entry put into the row behind the first `many`, where it is to stay.
-fn put(table: &mut [u16; 16384], many: usize, i: u16, stays: bool) -> usize
-    requires { many ≤ 16384 }
-    ensures { result ≤ 16384 }
-{
-    if !stays {
-        return many;
-    }
-    if 16384 <= many {
-        return many;
-    }
-    table[many] = i;
-    many + 1
-}
-
 // The entries that name slots in form, in the order they had, and how many there are.
 fn in_form(store: &[u8], n: usize, table: &mut [u16; 16384], many: usize) -> usize
     requires { Room Form.Counted store.now n × (many ≤ 16384) }
     ensures { result ≤ 16384 }
 {
     let mut kept = 0;
-    let mut k = 0;
-    while k < many {
+    for k in 0..many {
         let i = table[k];
-        let stays = names_form(store, n, wide(i));
-        kept = put(table, kept, i, stays);
-        k += 1;
+        if names_form(store, n, wide(i)) {
+            table[kept] = i;
+            kept += 1;
+        }
     }
     kept
 }

@@ -9,7 +9,7 @@ ghost use Rattle.layout.specs.Stores.{store_of};
 ghost use Rattle.ordered.specs.Ordered.{node_key, key_no, Ordered};
 ghost use Rattle.order_halves.specs.First.{First};
 
-use order_look::{Look, compared};
+use order_look::compared;
 use place::Place;
 use store::wide;
 use terms::Form;
@@ -28,12 +28,7 @@ pub fn is_before(
 {
     let bits = place.bits;
     let count = place.count;
-    let stands = compared(store, wide(table[k]), count, &bits, version);
-    match stands {
-        Look::Before => true,
-        Look::After => false,
-        Look::Same => false,
-    }
+    compared(store, wide(table[k]), count, &bits, version).is_lt()
 }
 
 // The first entry that isn't before a version and place, by halves.
@@ -49,6 +44,7 @@ pub fn by_halves(
 {
     let mut lo = 0;
     let mut hi = many;
+    // Halving, which is no count.
     while lo < hi {
         let middle = (lo + hi) / 2;
         if is_before(store, table, many, middle, version, place) {

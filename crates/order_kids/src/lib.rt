@@ -14,28 +14,16 @@ ghost use Rattle.order_kids.specs.Kids.{Tabled};
 use check_guess::guessed;
 use check_sort::rank;
 use order_guess::guide_with;
-use order_look::{Look, compared};
-use slots::bits_of;
-use store::{count_at, slot_count, slot_of, version_at, wide};
+use order_table::node_stands;
+use store::{slot_count, wide};
 use terms::Form;
-
-// A guess for each side of each slot of the largest store.
-const GUESSES: usize = 32768;
 
 // Whether the node of slot i, in form, stands before that of slot j, in form.
 fn node_before(store: &[u8], i: usize, j: usize) -> bool
     requires { Formed store.now i × Formed store.now j }
     ensures { Passed result (before (key_no (store_of store.now).slots i) (key_no (store_of store.now).slots j) ≡ true) }
 {
-    let count = wide(count_at(Form::Counted, store, j));
-    let version = version_at(Form::Counted, store, j);
-    let bits = bits_of(slot_of(Form::Counted, store, j));
-    let stands = compared(store, i, count, bits, version);
-    match stands {
-        Look::Before => true,
-        Look::After => false,
-        Look::Same => false,
-    }
+    node_stands(store, i, j).is_lt()
 }
 
 // Whether entry k names the lowest slot of its node: no entry before it names one with the same node.
@@ -90,10 +78,8 @@ fn keep_all(
     requires { Tabled store.now table.now many }
     ensures { Leading (store_of store.now).slots kids.new }
 {
-    let mut m = 0;
-    while m < GUESSES {
-        kids[m] = kept(store, table, many, ranks, kids[m]);
-        m += 1;
+    for kid in kids.iter_mut() {
+        *kid = kept(store, table, many, ranks, *kid);
     }
 }
 

@@ -4,32 +4,41 @@
 ghost use Rattle.std.specs.Prelude.{◌≡◌, true, ◌+◌, ◌≤◌, ◌<◌, length};
 ghost use Rattle.layout.specs.Sizes.{room_of};
 ghost use Rattle.layout.specs.Headers.{size_right};
-ghost use Rattle.layout.specs.Stores.{store_of, Has};
+ghost use Rattle.layout.specs.Stores.{store_of, slot_in, Has};
 ghost use Rattle.check_pass.specs.Passes.{Room, Passed, Each};
 ghost use Rattle.ordered.specs.Ordered.{Ahead, Ordered};
-ghost use Rattle.order_look.specs.Looks.{Formed};
+ghost use Rattle.order_look.specs.Looks.{Formed, Stands, key_in};
 ghost use Rattle.order_table.specs.Tables.{InOrder, NamedNo};
 
 use check_sort::rank;
 use lookup::holds_record;
-use order_look::{Look, compared};
+use order_look::compared;
 use slots::bits_of;
+use std::cmp::Ordering;
 use store::{count_at, slot_count, slot_of, version_at, wide};
 use terms::Form;
+
+// How slot i, in form, stands to the node of slot j, in form.
+pub fn node_stands(store: &[u8], i: usize, j: usize) -> Ordering
+    requires { Formed store.now i × Formed store.now j }
+    ensures { Stands result (slot_in Form.Counted i store.now) (key_in (slot_in Form.Counted j store.now)) }
+{
+    let count = wide(count_at(Form::Counted, store, j));
+    let version = version_at(Form::Counted, store, j);
+    let bits = bits_of(slot_of(Form::Counted, store, j));
+    compared(store, i, count, bits, version)
+}
 
 // Whether slot i, in form, stands before slot j, in form.
 fn ahead(store: &[u8], i: usize, j: usize) -> bool
     requires { Formed store.now i × Formed store.now j }
     ensures { Passed result (Ahead (store_of store.now).slots i j) }
 {
-    let count = wide(count_at(Form::Counted, store, j));
-    let version = version_at(Form::Counted, store, j);
-    let bits = bits_of(slot_of(Form::Counted, store, j));
-    let stands = compared(store, i, count, bits, version);
+    let stands = node_stands(store, i, j);
     match stands {
-        Look::Before => true,
-        Look::After => false,
-        Look::Same => i < j,
+        Ordering::Less => true,
+        Ordering::Equal => i < j,
+        Ordering::Greater => false,
     }
 }
 
@@ -65,12 +74,10 @@ fn ascending(store: &[u8], table: &[u16; 16384], many: usize) -> bool
     ensures { Passed result (InOrder store.now table.now many) }
 {
     let n = slot_count(Form::Counted, store);
-    let mut k = 0;
-    while k < many {
+    for k in 0..many {
         if !follows(store, n, table, k) {
             return false;
         }
-        k += 1;
     }
     true
 }
@@ -96,12 +103,10 @@ fn all_named(store: &[u8], table: &[u16; 16384], many: usize, ranks: &[u16; 1638
     ensures { Passed result (Each (NamedNo store.now table.now many) (room_of Form.Counted (length store.now))) }
 {
     let n = slot_count(Form::Counted, store);
-    let mut i = 0;
-    while i < n {
+    for i in 0..n {
         if !slot_named(store, table, many, ranks[i], i) {
             return false;
         }
-        i += 1;
     }
     true
 }

@@ -24,16 +24,13 @@ fn measure(store: &[u8], index: &[u32], kids: &[u16], version: u32, keys: &[u8])
     ensures { proved_says result ≡ together_length (planned_in store.now index.now version keys.now) }
 {
     let mut total = 0;
-    let mut at = 0;
-    while at < keys.len() {
-        let end = at + KEY_SIZE;
-        let plan = plan_of(store, index, kids, version, &keys[at..end]);
+    for key in keys.chunks_exact(KEY_SIZE) {
+        let plan = plan_of(store, index, kids, version, key);
         let shape = plan.shape;
         if let Shape::Refused(n) = shape {
             return Proved::Refused(n);
         }
         total += plan.length;
-        at = end;
     }
     Proved::Length(total as u32)
 }
@@ -44,15 +41,11 @@ fn fill(part: &mut [u8], store: &[u8], index: &[u32], kids: &[u16], version: u32
     ensures { part.new ≡ together_bytes (planned_in store.now index.now version keys.now) }
 {
     let mut start = 0;
-    let mut at = 0;
-    while at < keys.len() {
-        let end = at + KEY_SIZE;
-        let key = &keys[at..end];
+    for key in keys.chunks_exact(KEY_SIZE) {
         let plan = plan_of(store, index, kids, version, key);
         let next = start + plan.length;
         write(&mut part[start..next], store, key, plan);
         start = next;
-        at = end;
     }
 }
 

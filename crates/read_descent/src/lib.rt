@@ -93,6 +93,7 @@ pub fn descend(store: &[u8], index: &[u32], first: usize, position: u64) -> Posi
     let mut place = Place::top();
     let mut at = first;
     let mut n = position;
+    // Down the tree, which is no count.
     loop {
         if leaf_here(store, at) {
             return leaf_at(store, at, place, n);

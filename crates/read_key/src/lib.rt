@@ -42,6 +42,7 @@ pub fn walk_read(store: &[u8], index: &[u32], version: u32, key: &[u8]) -> KeyRe
 {
     let mut place = Place::top();
     let mut seen = read_step::root(store, index, version);
+    // Down the tree, which is no count.
     loop {
         match seen {
             Seen::Gap => return KeyRead::Absent,

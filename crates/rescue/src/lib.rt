@@ -9,7 +9,7 @@ use order_guess::guide;
 use refusal_numbers::{NOT_SOUND, WRONG_HEADER, WRONG_SIZE};
 use rescue_count::{Counts, count};
 use rescue_fill::fill;
-use rescue_step::{Stepped, step};
+use rescue_step::step;
 use terms::Form;
 
 // A number of refusal, or the run's first version and the counts.
@@ -36,10 +36,19 @@ pub fn rescue(source: &[u8], oldest: u32, latest: u32, target: &mut [u8]) -> Res
     let many = guide(source, &mut table);
     // Latest has no next version.
     let tested = step(source, &table, many, latest, 0, 0, 0);
-    let Stepped::Yes { root, floor } = tested else {
+    let Some(start) = tested else {
         return Rescued::Refused(NOT_SOUND);
     };
-    let first = fill(source, &table, many, oldest, latest, root, floor, target);
+    let first = fill(
+        source,
+        &table,
+        many,
+        oldest,
+        latest,
+        start.root,
+        start.floor,
+        target,
+    );
     let counts = count(source, target);
     Rescued::Kept { first, counts }
 }

@@ -6,7 +6,6 @@ ghost use Rattle.layout.specs.Stores.{store_of};
 ghost use Rattle.ordered.specs.Ordered.{Guide};
 ghost use Rattle.rescue_enter.specs.Enter.{Target, Held, Puts, Entering, Enters};
 
-use lookup::Found;
 use place::Place;
 use rescue_look::{kid, lowest};
 use store::slot_of;
@@ -14,11 +13,11 @@ use store_put::{copy_slot, put_retired_at};
 use terms::Form;
 
 // Writes the record that was found in the source to its slot of the target, with another retired-since.
-fn put(source: &[u8], found: Found, since: u32, target: &mut [u8])
+fn put(source: &[u8], found: Option<usize>, since: u32, target: &mut [u8])
     requires { Target source.now target.old × Held source.now found }
     ensures { Puts source.now found since target.old target.new }
 {
-    let Found::At(i) = found else {
+    let Some(i) = found else {
         return;
     };
     copy_slot(target, i, slot_of(Form::Counted, source, i));

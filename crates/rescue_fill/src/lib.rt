@@ -12,7 +12,7 @@ use format::format;
 use header::put_header;
 use place::Place;
 use rescue_enter::enter;
-use rescue_step::{Stepped, step};
+use rescue_step::step;
 use store::slot_count;
 use terms::Form;
 
@@ -46,6 +46,7 @@ pub fn fill(
     enter(source, table, many, target, 0, top, root, 0);
     let mut b = root;
     let mut low = floor;
+    // From root to older root, which is no count.
     loop {
         let first = later(later(oldest, low), b);
         if first <= oldest {
@@ -55,11 +56,11 @@ pub fn fill(
             return finish(target, first, latest);
         }
         let stepped = step(source, table, many, first - 1, first, b, low);
-        let Stepped::Yes { root: a, floor: l } = stepped else {
+        let Some(earlier) = stepped else {
             return finish(target, first, latest);
         };
-        enter(source, table, many, target, first, top, a, b);
-        b = a;
-        low = l;
+        enter(source, table, many, target, first, top, earlier.root, b);
+        b = earlier.root;
+        low = earlier.floor;
     }
 }

@@ -12,7 +12,6 @@ ghost use Rattle.rescue_rules.specs.Joining.{record_right};
 ghost use Rattle.rescue_look.specs.Look.{Inside, tied_at};
 ghost use Rattle.rescue_right.specs.Right.{Sought, Alike, Told, Tied, Beside};
 
-use lookup::Found;
 use place::{Place, begins, same};
 use rescue_look::linked;
 use slots::{child_hash, key_of};
@@ -45,11 +44,11 @@ fn alike(source: &[u8], i: usize, j: usize, right: bool) -> bool
 }
 
 // Whether the record found beside that in slot i is an inner one, and says the same.
-fn told(source: &[u8], i: usize, right: bool, beside: Found) -> bool
+fn told(source: &[u8], i: usize, right: bool, beside: Option<usize>) -> bool
     requires { Has Form.Counted source.now i × Inside source.now beside }
     ensures { Passed result (Told source.now i right beside) }
 {
-    let Found::At(j) = beside else {
+    let Some(j) = beside else {
         return false;
     };
     if is_leaf(slot_of(Form::Counted, source, j)) {
@@ -66,7 +65,7 @@ fn tied(
     i: usize,
     right: bool,
     place: Place,
-    beside: Found,
+    beside: Option<usize>,
 ) -> bool
     requires { Has Form.Counted source.now i × Proper place × Guide (store_of source.now).slots table.now many × Tied source.now right (place_of place) beside }
     ensures { result ≡ tied_at source.now i right (place_of place) }
@@ -85,13 +84,13 @@ pub fn record_right(
     many: usize,
     version: u32,
     place: Place,
-    found: Found,
-    beside: Found,
+    found: Option<usize>,
+    beside: Option<usize>,
 ) -> bool
     requires { Sought source.now version place found × Guide (store_of source.now).slots table.now many × Beside source.now place beside }
     ensures { result ≡ record_right leaf_hash inner_hash (store_of source.now).slots version (place_of place) (find version (place_of place) (store_of source.now).slots) }
 {
-    let Found::At(i) = found else {
+    let Some(i) = found else {
         return version == 0;
     };
     let slot = slot_of(Form::Counted, source, i);

@@ -14,7 +14,7 @@ ghost use Rattle.rescue_rules.specs.Rescue.{newest_root};
 ghost use Rattle.rescue_rules.specs.Joining.{root_version};
 ghost use Rattle.rescue_root.specs.Roots.{root_above};
 
-use lookup::{Found, holds_record};
+use lookup::holds_record;
 use order_find::{find_first, first};
 use order_near::first_near;
 use place::Place;
@@ -40,30 +40,29 @@ fn newer_root(source: &[u8], i: usize, above: u32, version: u32) -> bool
 }
 
 // The slot of the newest root record not above a version, the lowest of its version.
-fn newest_root(source: &[u8], version: u32) -> Found
+fn newest_root(source: &[u8], version: u32) -> Option<usize>
     requires { size_right Form.Counted (length source.now) ≡ true }
     ensures { Located (store_of source.now).slots (newest_root version (store_of source.now).slots) result }
 {
-    let n = slot_count(Form::Counted, source);
-    let mut best = Found::Nothing;
+    let mut best = None;
     let mut above = 0;
-    let mut i = 0;
-    'slots: loop {
-        if n <= i {
-            break 'slots best;
+    for i in 0..slot_count(Form::Counted, source) {
+        if newer_root(source, i, above, version) {
+            above = version_at(Form::Counted, source, i);
+            best = Some(i);
         }
-        if !newer_root(source, i, above, version) {
-            i += 1;
-            continue 'slots;
-        }
-        above = version_at(Form::Counted, source, i);
-        best = Found::At(i);
-        i += 1;
     }
+    best
 }
 
 // The same by a table, where no root record is of the version itself: that of the entry before entry k, the lowest of its version. Where no entry is before, the scan.
-fn newest_before(source: &[u8], table: &[u16; 16384], many: usize, k: usize, version: u32) -> Found
+fn newest_before(
+    source: &[u8],
+    table: &[u16; 16384],
+    many: usize,
+    k: usize,
+    version: u32,
+) -> Option<usize>
     requires { (size_right Form.Counted (length source.now) ≡ true) × (many ≤ 16384) × Ordered (store_of source.now).slots table.now many × First (store_of source.now).slots table.now many (node_key version []) k × (find version [] (store_of source.now).slots ≡ none) }
     ensures { Located (store_of source.now).slots (newest_root version (store_of source.now).slots) result }
 {
@@ -77,7 +76,7 @@ fn newest_before(source: &[u8], table: &[u16; 16384], many: usize, k: usize, ver
 }
 
 // The same by a table to find by: a root record of the version itself is the newest.
-fn newest_by(source: &[u8], table: &[u16; 16384], many: usize, version: u32) -> Found
+fn newest_by(source: &[u8], table: &[u16; 16384], many: usize, version: u32) -> Option<usize>
     requires { (size_right Form.Counted (length source.now) ≡ true) × Guide (store_of source.now).slots table.now many }
     ensures { Located (store_of source.now).slots (newest_root version (store_of source.now).slots) result }
 {
@@ -87,8 +86,8 @@ fn newest_by(source: &[u8], table: &[u16; 16384], many: usize, version: u32) -> 
     let top = Place::top();
     let k = first(source, table, many, version, top);
     let found = find_first(source, table, many, k, version, top);
-    if let Found::At(i) = found {
-        return Found::At(i);
+    if let Some(i) = found {
+        return Some(i);
     }
     newest_before(source, table, many, k, version)
 }
@@ -99,7 +98,7 @@ pub fn root_version(source: &[u8], table: &[u16; 16384], many: usize, version: u
     ensures { result ≡ root_version (store_of source.now).slots version }
 {
     let newest = newest_by(source, table, many, version);
-    let Found::At(i) = newest else {
+    let Some(i) = newest else {
         return 0;
     };
     let since = retired_at(Form::Counted, source, i);

@@ -12,8 +12,7 @@ use Rattle.terms.specs.Bits.{Bytes}
 use Rattle.terms.specs.Fields.{all_zero, all_of}
 use Rattle.terms.specs.Records.{Record, Slot, free, used, spoiled}
 use Rattle.terms.proofs.Tests.{and_true}
-use Rattle.meaning.specs.Sight.{agrees, lives_by, agrees_root, lowest_spoilt, sighted}
-use Rattle.place.specs.declared.Place as declared-place
+use Rattle.meaning.specs.Sight.{lives_by, agrees_root, lowest_spoilt, sighted}
 use Rattle.layout.specs.Sizes.{room_of}
 use Rattle.layout.specs.Headers.{size_right}
 use Rattle.layout.specs.Slots.{slot_of, count_in, bits_in, version_in, since_in}
@@ -24,8 +23,8 @@ use Rattle.store.proofs.Scans.{Scan, scan_start, scan_passed, scan_inside, scan_
 use Rattle.lookup.specs.Lookup.{is_used, Located}
 use Rattle.lifetime.specs.Lifetime.{covers}
 use Rattle.lookup.proofs.Matching.{and_false}
-use Rattle.lookup.specs.declared.Found as declared-found
-use Rattle.lookup.specs.declared.Found.TheVariants.{At, Nothing}
+use Rattle.std.specs.declared.option.Option as option
+use Rattle.std.specs.Prelude.{Some, None}
 use Rattle.sights.specs.Sights.{spoilt_by, is_spoilt, SpoiltIn, Sighted}
 use Rattle.sights.specs.declared.Sight.TheVariants as sight
 
@@ -105,27 +104,27 @@ module _ (test : Bytes → Bool) {s : Bytes} {n i : ℕ} (w : Scan counted s (Ah
       let more : suc (length xs) ≡ length (xs ++ slot_no counted i s ∷ []) = simp length-append (omega arith) in
       scan_next w h (Ahead test s) (scan_here w h ∙ past test (length xs) (slot_no counted i s) ys e ∙ ap (λ m. lowest_spoilt test m ys) more)
 
-  pub spoilt_found : i < n → spoilt_by test (slot_no counted i s) ≡ true → SpoiltIn test (store_of s).slots (At i)
+  pub spoilt_found : i < n → spoilt_by test (slot_no counted i s) ≡ true → SpoiltIn test (store_of s).slots (Some i)
   spoilt_found h e =
       let xs = take i (store_of s).slots in
       (scan_inside w h, scan_here w h ∙ here test (length xs) (slot_no counted i s) (drop (i + 1) (store_of s).slots) e ∙ ap some (scan_passed w))
 
-  pub spoilt_nowhere : n ≤ i → SpoiltIn test (store_of s).slots Nothing
+  pub spoilt_nowhere : n ≤ i → SpoiltIn test (store_of s).slots None
   spoilt_nowhere h = scan_end w h
 
 -- what is sighted, by the two searches
-module _ (s : List Slot) (o : Option Record) (test : Bytes → Bool) {r : declared-found.Found} (located : Located s o r) where
-  pub matched : {i : ℕ} → r ≡ At i → Sighted s (sighted o (lowest_spoilt test 0 s)) (sight.Matches i)
+module _ (s : List Slot) (o : Option Record) (test : Bytes → Bool) {r : option.Option ℕ} (located : Located s o r) where
+  pub matched : {i : ℕ} → r ≡ Some i → Sighted s (sighted o (lowest_spoilt test 0 s)) (sight.Matches i)
   matched e =
       let w = subst (Located s o) e located in
       (w.0, (w.1.0, w.1.1, ap (λ q. sighted q (lowest_spoilt test 0 s)) w.1.2))
 
-  module _ (no : r ≡ Nothing) where
+  module _ (no : r ≡ None) where
     none_matches : o ≡ none
     none_matches = subst (Located s o) no located
 
-    pub spoilt_sighted : {t : declared-found.Found} {i : ℕ} → SpoiltIn test s t → t ≡ At i → Sighted s (sighted o (lowest_spoilt test 0 s)) (sight.Spoilt i)
+    pub spoilt_sighted : {t : option.Option ℕ} {i : ℕ} → SpoiltIn test s t → t ≡ Some i → Sighted s (sighted o (lowest_spoilt test 0 s)) (sight.Spoilt i)
     spoilt_sighted found e = let w = subst (SpoiltIn test s) e found in (w.0, ap₂ sighted none_matches w.1)
 
-    pub nothing_sighted : {t : declared-found.Found} → SpoiltIn test s t → t ≡ Nothing → Sighted s (sighted o (lowest_spoilt test 0 s)) sight.Nothing
+    pub nothing_sighted : {t : option.Option ℕ} → SpoiltIn test s t → t ≡ None → Sighted s (sighted o (lowest_spoilt test 0 s)) sight.Nothing
     nothing_sighted found e = ap₂ sighted none_matches (subst (SpoiltIn test s) e found)

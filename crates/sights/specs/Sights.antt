@@ -1,11 +1,10 @@
 -- Document 02, 2026-07: what each case of a search's answer says. Assumes nothing.
-use Rattle.std.specs.Prelude.{ℕ, ◌<◌, ◌≡◌, Bool, true, false, List, length, get_or}
+use Rattle.std.specs.Prelude.{ℕ, ◌<◌, ◌≡◌, Bool, true, false, List, length, get_or, Some, None}
 use Rattle.std.proofs.Math.Option.{none, some}
 use Rattle.terms.specs.Bits.{Bytes}
 use Rattle.terms.specs.Records.{Record, Slot, free, used, spoiled}
 use Rattle.meaning.specs.Sight.{Sight, matches, nothing, spoilt, lowest_spoilt}
-use Rattle.lookup.specs.declared.Found as declared-found
-use Rattle.lookup.specs.declared.Found.TheVariants.{At, Nothing}
+use Rattle.std.specs.declared.option.Option as option
 use Rattle.sights.specs.declared.Sight as declared
 use Rattle.sights.specs.declared.Sight.TheVariants as sight
 
@@ -19,9 +18,9 @@ abbrev pub is_spoilt : Slot → Bool
 is_spoilt x = spoilt_by (λ y. true) x
 
 -- What a search for the lowest spoilt slot that passes a test found.
-abbrev pub SpoiltIn : (Bytes → Bool) → List Slot → declared-found.Found → Type 0
-SpoiltIn test s (At i) = (i < length s) × (lowest_spoilt test 0 s ≡ some i)
-SpoiltIn test s Nothing = lowest_spoilt test 0 s ≡ none
+abbrev pub SpoiltIn : (Bytes → Bool) → List Slot → option.Option ℕ → Type 0
+SpoiltIn test s (Some i) = (i < length s) × (lowest_spoilt test 0 s ≡ some i)
+SpoiltIn test s None = lowest_spoilt test 0 s ≡ none
 
 -- What is sighted, by the number of a slot that holds the record, or that is spoilt.
 abbrev pub Sighted : List Slot → Sight → declared.Sight → Type 0

@@ -13,7 +13,7 @@ ghost use Rattle.sights.specs.Sights.{spoilt_by, is_spoilt, SpoiltIn, Sighted};
 use agree::agrees;
 use fields::all_zero;
 use lifetime::covers;
-use lookup::{Found, find, holds_record};
+use lookup::{find, holds_record};
 use lookup_root::find_root;
 use place::Place;
 use slots::bits_of;
@@ -52,19 +52,17 @@ fn node_spoilt(store: &[u8], i: usize, version: u32, place: Place) -> bool
 }
 
 // The lowest spoilt slot that agrees with a version and place.
-fn find_spoilt(store: &[u8], version: u32, place: Place) -> Found
+fn find_spoilt(store: &[u8], version: u32, place: Place) -> Option<usize>
     requires { (size_right Form.Counted (length store.now) ≡ true) × Proper place }
     ensures { SpoiltIn (agrees version (place_of place)) (store_of store.now).slots result }
 {
     let n = slot_count(Form::Counted, store);
-    let mut i = 0;
-    while i < n {
+    for i in 0..n {
         if node_spoilt(store, i, version, place) {
-            return Found::At(i);
+            return Some(i);
         }
-        i += 1;
     }
-    Found::Nothing
+    None
 }
 
 // What is found of a version and place.
@@ -73,11 +71,11 @@ pub fn look(store: &[u8], version: u32, place: Place) -> Sight
     ensures { Sighted (store_of store.now).slots (node_sight (store_of store.now) version (place_of place)) result }
 {
     let found = find(Form::Counted, store, version, place);
-    if let Found::At(i) = found {
+    if let Some(i) = found {
         return Sight::Matches(i);
     }
     let spoilt = find_spoilt(store, version, place);
-    if let Found::At(j) = spoilt {
+    if let Some(j) = spoilt {
         return Sight::Spoilt(j);
     }
     Sight::Nothing
@@ -106,19 +104,17 @@ fn root_spoilt(store: &[u8], i: usize, version: u32) -> bool
 }
 
 // The lowest spoilt slot that agrees with a root for a version.
-fn find_spoilt_root(store: &[u8], version: u32) -> Found
+fn find_spoilt_root(store: &[u8], version: u32) -> Option<usize>
     requires { size_right Form.Counted (length store.now) ≡ true }
     ensures { SpoiltIn (agrees_root version) (store_of store.now).slots result }
 {
     let n = slot_count(Form::Counted, store);
-    let mut j = 0;
-    while j < n {
+    for j in 0..n {
         if root_spoilt(store, j, version) {
-            return Found::At(j);
+            return Some(j);
         }
-        j += 1;
     }
-    Found::Nothing
+    None
 }
 
 // What is found of the root of a version.
@@ -127,11 +123,11 @@ pub fn look_root(store: &[u8], version: u32) -> Sight
     ensures { Sighted (store_of store.now).slots (root_sight (store_of store.now) version) result }
 {
     let found = find_root(Form::Counted, store, version);
-    if let Found::At(i) = found {
+    if let Some(i) = found {
         return Sight::Matches(i);
     }
     let spoilt = find_spoilt_root(store, version);
-    if let Found::At(k) = spoilt {
+    if let Some(k) = spoilt {
         return Sight::Spoilt(k);
     }
     Sight::Nothing

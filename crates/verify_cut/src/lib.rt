@@ -41,10 +41,9 @@ pub fn gather(p: &[u8], n: usize, at: &mut [usize; 512], index: &mut [usize; 256
     requires { (n ≤ 256) × (length at.old ≡ 512) × (length index.old ≡ 256) }
     ensures { GatheredAs p.now n at.new index.new result }
 {
-    let mut i = 0;
     let mut m = 0;
     let mut a = 0;
-    while i < n {
+    for i in 0..n {
         let e = piece_end(p, a);
         if e == 0 {
             return Gathered {
@@ -58,7 +57,6 @@ pub fn gather(p: &[u8], n: usize, at: &mut [usize; 512], index: &mut [usize; 256
         index[i] = m;
         m += w.many;
         a = e;
-        i += 1;
     }
     Gathered {
         whole: a == p.len(),

@@ -30,15 +30,9 @@ fn put_answer(out: &mut [u8], answer: Checked)
     ensures { out.new ≡ answer_bytes (says answer) }
 {
     match answer {
-        Checked::Refused(number) => {
-            put_refusal(out, number);
-        }
-        Checked::Present(hash) => {
-            put_value(out, hash);
-        }
-        Checked::Absent => {
-            clear(out);
-        }
+        Checked::Refused(number) => put_refusal(out, number),
+        Checked::Present(hash) => put_value(out, hash),
+        Checked::Absent => clear(out),
     }
 }
 
@@ -64,8 +58,7 @@ fn put_answers(
     ensures { out.new ≡ answers_of (hash_bytes root) (keys_from n keys.now) (pieces n p.now) ++ drop (34 * n) out.old }
 {
     let mut a = 0;
-    let mut i = 0;
-    while i < n {
+    for i in 0..n {
         let e = piece_end(p, a);
         let d = index[i];
         let k = KEY_SIZE * i;
@@ -81,7 +74,6 @@ fn put_answers(
             &mut out[o..q],
         );
         a = e;
-        i += 1;
     }
 }
 

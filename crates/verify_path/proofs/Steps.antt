@@ -1,6 +1,6 @@
 -- The steps of a path as loops take them: from the leaf upwards, and off the tops. A step's bytes lie 33 apart after the head.
 -- Assumes nothing.
-use Prim.Native.Nat.{ℕ, zero, suc, ◌+◌, ◌*◌, ◌-◌, ◌<◌, ◌≤◌}
+use Prim.Native.Nat.{ℕ, zero, suc, ◌+◌, ◌*◌, ◌-◌, ◌<◌, ◌≤◌, min}
 use native.Mathlib.Omega.{arith}
 use mathlib.Core.Path.{◌≡◌, refl, ap, ap₂, ◌∙◌}
 use mathlib.Core.Bool.{Bool, true, false, cond, beq}
@@ -90,17 +90,16 @@ pub other_tops : (i j : ℕ) (x y : Bytes) → (i ≡ 0 → ⊥) → (j ≡ 0 �
     paths_part (first_steps i x) (first_steps j y) ≡ apart_at (i - 1) x (j - 1) y
 other_tops i j x y p q e = tops_part i j x y p q ∙ rw e
 
-pub left_done : (i j : ℕ) (x y : Bytes) → i ≡ 0 → paths_part (first_steps i x) (first_steps j y) ≡ false
-unfolding paths_part
-left_done i j x y e = rw e
-
 none_from : (xs : List Step) → part_from_top xs [] ≡ false
 none_from [] = refl
 none_from (x ∷ xs) = refl
 
-pub right_done : (i j : ℕ) (x y : Bytes) → j ≡ 0 → paths_part (first_steps i x) (first_steps j y) ≡ false
+-- one of the paths has no step left
+pub no_tops : (i j : ℕ) (x y : Bytes) → min i j ≡ 0 → paths_part (first_steps i x) (first_steps j y) ≡ false
 unfolding paths_part
-right_done i j x y e = rw e (none_from (reverse (first_steps i x)))
+no_tops zero j x y e = refl
+no_tops (suc i) zero x y e = none_from (reverse (first_steps (suc i) x))
+no_tops (suc i) (suc j) x y e = absurd (omega arith)
 
 -- the key and the value of a presence proof, as the 64 bytes of a grant
 pub grant_at_lem : (x : Bytes) → 72 ≤ length x → (take 32 (take 64 (drop 8 x)) ≡ slice 8 32 x) × (drop 32 (take 64 (drop 8 x)) ≡ slice 40 32 x)

@@ -48,10 +48,8 @@ pub fn top(p: &[u8], n: usize) -> Hash
     ensures { hash_bytes result ≡ top_after n p.now }
 {
     let mut h = leaf_hash(&p[KEY_AT..PRESENCE_HEAD]);
-    let mut i = 0;
-    while i < n {
+    for i in 0..n {
         h = parent(p, i, h);
-        i += 1;
     }
     h
 }
@@ -72,12 +70,10 @@ pub fn outermost(side: bool, p: &[u8], n: usize) -> bool
     requires { Room n p.now }
     ensures { result ≡ outermost side (first_steps n p.now) }
 {
-    let mut i = 0;
-    while i < n {
+    for i in 0..n {
         if !keeps_to(side, p, i) {
             return false;
         }
-        i += 1;
     }
     true
 }
@@ -118,19 +114,12 @@ pub fn paths_part(l: &[u8], m: usize, r: &[u8], n: usize) -> bool
     requires room_2 { Room n r.now }
     ensures { result ≡ paths_part (first_steps m l.now) (first_steps n r.now) }
 {
-    let mut i = m;
-    let mut j = n;
-    loop {
-        if i == 0 {
-            return false;
-        }
-        if j == 0 {
-            return false;
-        }
-        i -= 1;
-        j -= 1;
+    for k in 0..m.min(n) {
+        let i = m - k - 1;
+        let j = n - k - 1;
         if !same_step(l, i, r, j) {
             return apart(l, i, r, j);
         }
     }
+    false
 }

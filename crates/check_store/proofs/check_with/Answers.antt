@@ -1,9 +1,9 @@
 -- `check_store::check_with` meets its contract: where the passes find nothing wrong the store is sound, else check decides. Assumes nothing.
 use native.Mathlib.Omega.{arith}
-use mathlib.Core.Path.{refl}
+use mathlib.Core.Path.{refl, sym, ◌∙◌}
 use Rattle.terms.specs.Bits.{Byte}
 use Rattle.terms.proofs.Lists.{all_of}
-use Rattle.check_quick.proofs.Fine.{sure_is}
+use Rattle.check_quick.proofs.Fine.{sure_none}
 use Rattle.check_store.proofs.Answers.{says_kept, says_sound}
 use Rattle.check_store.proofs.check_with.Goals as goal
 
@@ -15,4 +15,4 @@ returns c =
     let s = c.args.store.now in
     says_sound _ s c.read_header-header.ensures c.in-Accepted.is
     (all_of Byte s 0 (λ i _. omega (arith, c.shared_slice_known-1.given i)))
-    refl (sure_is c.in-Fine.is c.quick_with.ensures)
+    refl (sure_none _ (sym c.is_some.ensures ∙ c.if-is_some.false) c.quick_with.ensures)

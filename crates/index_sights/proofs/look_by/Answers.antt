@@ -7,12 +7,12 @@ use Rattle.layout.specs.Stores.{store_of}
 use Rattle.index_sights.proofs.Fallen.{ended, fallen}
 use Rattle.index_sights.proofs.look_by.Goals as goal
 
-pub returns-in-At : goal.returns-in-At
+pub returns-in-Some : goal.returns-in-Some
 unfolding node_by
-returns-in-At c =
+returns-in-Some c =
     let a = c.args in
     let st = store_of a.store.now in
-    ended st.slots (index.search (node_look a.version (place_of a.place)) a.table.now st.slots) (node_sight st a.version (place_of a.place)) _ c.search_node-found.ensures _ c.in-At.is
+    ended st.slots (index.search (node_look a.version (place_of a.place)) a.table.now st.slots) (node_sight st a.version (place_of a.place)) _ c.search_node-found.ensures _ c.in-Some.is
 
 pub returns : goal.returns
 unfolding node_by

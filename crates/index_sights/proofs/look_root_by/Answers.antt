@@ -6,12 +6,12 @@ use Rattle.layout.specs.Stores.{store_of}
 use Rattle.index_sights.proofs.Fallen.{ended, fallen}
 use Rattle.index_sights.proofs.look_root_by.Goals as goal
 
-pub returns-in-At : goal.returns-in-At
+pub returns-in-Some : goal.returns-in-Some
 unfolding root_by
-returns-in-At c =
+returns-in-Some c =
     let a = c.args in
     let st = store_of a.store.now in
-    ended st.slots (index.search (root_look a.version) a.table.now st.slots) (root_sight st a.version) _ c.search_root-found.ensures _ c.in-At.is
+    ended st.slots (index.search (root_look a.version) a.table.now st.slots) (root_sight st a.version) _ c.search_root-found.ensures _ c.in-Some.is
 
 pub returns : goal.returns
 unfolding root_by

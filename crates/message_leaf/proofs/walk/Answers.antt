@@ -10,13 +10,13 @@ pub loop-at-init : goal.loop-at-init
 loop-at-init c = walk_start c.args.x.now c.args.from c.requires
 
 pub returns-then-count-ge-MOST_STEPS : goal.returns-then-count-ge-MOST_STEPS
-returns-then-count-ge-MOST_STEPS c = walks_none (path_too_long c.loop-at.invariant c.loop-at-test.true c.if-count-ge-MOST_STEPS.true) c.no_steps.ensures
+returns-then-count-ge-MOST_STEPS c = walks_none (path_too_long c.loop-at.invariant c.loop-at-test.true c.if-count-ge-MOST_STEPS.true)
 
 pub field-part-requires : goal.field-part-requires
 field-part-requires c = (c.loop-at.invariant.within, omega arith)
 
 pub returns-then-not-part : goal.returns-then-not-part
-returns-then-not-part c = walks_none (path_no_field c.loop-at.invariant c.loop-at-test.true c.field-part.ensures (not-true _ c.if-not-part.true)) c.no_steps-then-not-part.ensures
+returns-then-not-part c = walks_none (path_no_field c.loop-at.invariant c.loop-at-test.true c.field-part.ensures (not-true _ c.if-not-part.true))
 
 pub slice_bounds-is_step-count : goal.slice_bounds-is_step-count
 slice_bounds-is_step-count c = omega (arith, (c.field-part.ensures.inside (not-false _ c.if-not-part.false)).1)
@@ -29,7 +29,7 @@ slice_bounds-is_step-end c = omega (arith, (c.field-part.ensures.inside (not-fal
 
 pub returns-then-not-is_step : goal.returns-then-not-is_step
 unfolding slice
-returns-then-not-is_step c = walks_none (path_no_step c.loop-at.invariant c.loop-at-test.true c.field-part.ensures (not-false _ c.if-not-part.false) (c.is_step.ensures.no c.if-not-is_step.true)) c.no_steps-then-not-is_step.ensures
+returns-then-not-is_step c = walks_none (path_no_step c.loop-at.invariant c.loop-at-test.true c.field-part.ensures (not-false _ c.if-not-part.false) (c.is_step.ensures.no c.if-not-is_step.true))
 
 pub loop-at-smaller : goal.loop-at-smaller
 loop-at-smaller c = let i = c.field-part.ensures.inside (not-false _ c.if-not-part.false) in omega (arith, i.0, i.1, i.2)

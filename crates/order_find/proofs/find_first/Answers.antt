@@ -7,7 +7,7 @@ use Rattle.terms.proofs.Lists.{all_of}
 use Rattle.place.specs.Place.{place_of}
 use Rattle.layout.specs.Stores.{Has}
 use Rattle.order_halves.proofs.Looked.{entry_has}
-use Rattle.order_find.proofs.Found.{found_here, none_before, none_after, none_left}
+use Rattle.order_find.proofs.Found.{found_here, none_less, none_greater, none_left}
 use borrow.Author.Rules.{rules}
 use Rattle.order_find.proofs.find_first.Goals as goal
 
@@ -23,20 +23,20 @@ compared-stands-requires c = (
   search rules,
 )
 
-pub returns-in-Before : goal.returns-in-Before
-returns-in-Before c =
+pub returns-in-Less : goal.returns-in-Less
+returns-in-Less c =
     let a = c.args in
-    none_before a.store.now c.requires.0 c.requires.2 (all_of Byte a.store.now 0 (λ i _. omega (arith, c.shared_slice_known-1.given i))) a.version a.place c.requires.3
-    a.k (omega (arith, c.if-many-k.false)) c.wide-i.ensures.0 _ c.compared-stands.ensures c.requires.4 c.in-Before.is
+    none_less a.store.now c.requires.0 c.requires.2 (all_of Byte a.store.now 0 (λ i _. omega (arith, c.shared_slice_known-1.given i))) a.version a.place c.requires.3
+    a.k (omega (arith, c.if-many-k.false)) c.wide-i.ensures.0 _ c.compared-stands.ensures c.requires.4 c.in-Less.is
 
-pub returns-in-After : goal.returns-in-After
-returns-in-After c =
+pub returns-in-Greater : goal.returns-in-Greater
+returns-in-Greater c =
     let a = c.args in
-    none_after a.store.now c.requires.0 c.requires.2 (all_of Byte a.store.now 0 (λ i _. omega (arith, c.shared_slice_known-1.given i))) a.version a.place c.requires.3
-    a.k (omega (arith, c.if-many-k.false)) c.wide-i.ensures.0 _ c.compared-stands.ensures c.requires.4 c.in-After.is
+    none_greater a.store.now c.requires.0 c.requires.2 (all_of Byte a.store.now 0 (λ i _. omega (arith, c.shared_slice_known-1.given i))) a.version a.place c.requires.3
+    a.k (omega (arith, c.if-many-k.false)) c.wide-i.ensures.0 _ c.compared-stands.ensures c.requires.4 c.in-Greater.is
 
-pub returns-in-Same : goal.returns-in-Same
-returns-in-Same c =
+pub returns-in-Equal : goal.returns-in-Equal
+returns-in-Equal c =
     let a = c.args in
     found_here a.store.now c.requires.0 c.requires.2 (all_of Byte a.store.now 0 (λ i _. omega (arith, c.shared_slice_known-1.given i))) a.version a.place c.requires.3
-    a.k (omega (arith, c.if-many-k.false)) c.wide-i.ensures.0 _ c.compared-stands.ensures c.requires.4 c.in-Same.is
+    a.k (omega (arith, c.if-many-k.false)) c.wide-i.ensures.0 _ c.compared-stands.ensures c.requires.4 c.in-Equal.is

@@ -5,9 +5,6 @@ use Rattle.check_pass.proofs.Passes.{passed_so, pass_map}
 use Rattle.order_table.proofs.Passed.{both_passed}
 use Rattle.order_table.proofs.ordered.Goals as goal
 
-pub returns-then-not-ascending : goal.returns-then-not-ascending
-returns-then-not-ascending c = tt
-
 pub returns : goal.returns
 returns c =
     let a = c.args in

@@ -1,26 +1,13 @@
--- `place::before` meets its contract: at index i both strings agree so far, so what is left of them decides. The measure is what is left of y.
--- Assumes nothing.
-use Prim.Native.Nat.{◌-◌}
+-- `place::before` meets its contract: the order of slices is that of byte strings. Assumes nothing.
 use native.Mathlib.Omega.{arith}
-use mathlib.Core.Path.{refl, sym, ◌∙◌}
-use Rattle.place.proofs.Strings.{before_short, before_end, before_next, before_off}
+use mathlib.Core.Path.{refl}
+use Rattle.std.specs.Ordering.{nat_cmp, is_lt}
+use Rattle.std.proofs.lemmas.Bool.Decides.{nat_tests}
+use Rattle.std.proofs.lemmas.Cmp.{same_from_slice_cmp_tested}
+use Rattle.terms.specs.Bits.{before}
 use Rattle.place.proofs.before.Goals as goal
 
-pub loop-i-init : goal.loop-i-init
-loop-i-init c = (omega arith, omega arith, refl)
-
-pub returns-then-x-i : goal.returns-then-x-i
-returns-then-x-i c = let a = c.args in sym (c.loop-i.invariant.2 ∙ before_short a.x.now a.y.now _ c.if-x-i.true c.loop-i-test.true)
-
-pub returns-then-a-b : goal.returns-then-a-b
-returns-then-a-b c =
-    let a = c.args in
-    sym (c.loop-i.invariant.2 ∙ before_off a.x.now a.y.now c.loop-i.i (omega arith) (omega arith) c.if-a-b.true)
-
-pub loop-i-preserved : goal.loop-i-preserved
-loop-i-preserved c =
-    let a = c.args in
-    (omega arith, omega arith, c.loop-i.invariant.2 ∙ before_next a.x.now a.y.now c.loop-i.i (omega arith) (omega arith) c.if-a-b.false)
-
 pub returns : goal.returns
-returns c = let a = c.args in sym (c.loop-i.invariant.2 ∙ before_end a.x.now a.y.now c.loop-i.i c.loop-i-test.false)
+returns c =
+    let by = same_from_slice_cmp_tested nat_cmp is_lt before refl (λ _ _. refl) (λ _ _. refl) (λ x y xs ys o h. grind (arith, nat_tests)) in
+    by c.args.x.now c.args.y.now c.lt.result c.lt.ensures

@@ -36,7 +36,7 @@ pub fill-first-requires : goal.fill-first-requires
 fill-first-requires c =
     let s = c.args.source.now in (
       fillable c.args.oldest c.args.latest s c.args.target.now (sym c.size_right.ensures ∙ c.if-not-size_right.false) c.if-target-source.false c.if-latest-oldest.false
-          (subst (StepSays s c.args.latest 0 0 0) c.in-Yes.is c.step-tested.ensures),
+          (subst (StepSays s c.args.latest 0 0 0) c.in-Some.is c.step-tested.ensures),
       c.guide-many.ensures,
     )
 

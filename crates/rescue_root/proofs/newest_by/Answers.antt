@@ -18,10 +18,10 @@ find_first-found-requires c =
     let p = c.requires in
     (p.0, p.1.short, p.1.sure (omega (arith, c.if-many-eq0.false)), c.top-top.ensures.proper, c.first-k.ensures)
 
-pub returns-in-At : goal.returns-in-At
-returns-in-At c =
+pub returns-in-Some : goal.returns-in-Some
+returns-in-Some c =
     let a = c.args in
-    exact_located (store_of a.source.now).slots a.version c.top-top.ensures.place c.find_first-found.ensures.0 c.in-At.is
+    exact_located (store_of a.source.now).slots a.version c.top-top.ensures.place c.find_first-found.ensures.0 c.in-Some.is
 
 pub newest_before-requires : goal.newest_before-requires
 newest_before-requires c =

@@ -1,5 +1,4 @@
 -- `sights::find_spoilt_root` meets its contract: no slot passed is spoilt and agrees. Assumes nothing.
-use Prim.Native.Nat.{◌-◌}
 use Rattle.terms.specs.declared.Form.TheVariants.{Counted as counted}
 use Rattle.meaning.specs.Sight.{agrees_root}
 use Rattle.store.proofs.Scans.{Scan}
@@ -8,6 +7,3 @@ use Rattle.sights.proofs.find_spoilt_root.Given as goal
 
 abbrev pub invariant-loop-j : goal.invariant-loop-j
 invariant-loop-j l = Scan counted l.store (Ahead (agrees_root l.version) l.store) l.n l.j
-
-abbrev pub decreases-loop-j : goal.decreases-loop-j
-decreases-loop-j l = l.n - l.j

@@ -6,17 +6,17 @@ use Rattle.layout.specs.Stores.{store_of}
 use Rattle.sights.proofs.Spoilt.{matched, spoilt_sighted, nothing_sighted}
 use Rattle.sights.proofs.look.Goals as goal
 
-pub returns-in-At : goal.returns-in-At
+pub returns-in-Some : goal.returns-in-Some
 unfolding node_sight
-returns-in-At c =
+returns-in-Some c =
     let st = store_of c.args.store.now in
-    matched st.slots (find c.args.version (place_of c.args.place) st.slots) (agrees c.args.version (place_of c.args.place)) c.find-found.ensures c.in-At.is
+    matched st.slots (find c.args.version (place_of c.args.place) st.slots) (agrees c.args.version (place_of c.args.place)) c.find-found.ensures c.in-Some.is
 
-pub returns-in-At-spoilt : goal.returns-in-At-spoilt
+pub returns-in-Some-spoilt : goal.returns-in-Some-spoilt
 unfolding node_sight
-returns-in-At-spoilt c =
+returns-in-Some-spoilt c =
     let st = store_of c.args.store.now in
-    spoilt_sighted st.slots (find c.args.version (place_of c.args.place) st.slots) (agrees c.args.version (place_of c.args.place)) c.find-found.ensures c.in_default.is c.find_spoilt-spoilt.ensures c.in-At-spoilt.is
+    spoilt_sighted st.slots (find c.args.version (place_of c.args.place) st.slots) (agrees c.args.version (place_of c.args.place)) c.find-found.ensures c.in_default.is c.find_spoilt-spoilt.ensures c.in-Some-spoilt.is
 
 pub returns : goal.returns
 unfolding node_sight

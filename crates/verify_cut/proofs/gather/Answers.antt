@@ -1,4 +1,4 @@
--- `verify_cut::gather` meets its contract. One record more is cut off with each turn, and its paths are planned. The measure is what is left of the records. Assumes nothing.
+-- `verify_cut::gather` meets its contract. One record more is cut off with each turn, and its paths are planned. Assumes nothing.
 use Prim.Native.Nat.{◌-◌}
 use native.Mathlib.Omega.{arith}
 use lib.ListN.{length-take, length-drop, drop}
@@ -51,9 +51,6 @@ bounds-index-i c = omega (arith, c.requires)
 
 pub overflow_add-m : goal.overflow_add-m
 overflow_add-m c = omega (arith, c.loop-i.invariant.few, c.requires, c.paths_of-w.ensures.few)
-
-pub overflow_add-i : goal.overflow_add-i
-overflow_add-i c = omega (arith, c.requires)
 
 pub loop-i-preserved : goal.loop-i-preserved
 loop-i-preserved c =

@@ -1,5 +1,5 @@
--- `verify_many::put_answers` meets its contract. One answer more is written with each turn. The measure is what is left of the keys. Assumes nothing.
-use Prim.Native.Nat.{◌<◌, ◌-◌}
+-- `verify_many::put_answers` meets its contract. One answer more is written with each turn. Assumes nothing.
+use Prim.Native.Nat.{◌<◌}
 use native.Mathlib.Omega.{arith}
 use mathlib.Core.Path.{refl, ◌≡◌, ap₂, ◌∙◌}
 use lib.ListN.{length, length-take, length-drop}
@@ -54,7 +54,7 @@ loop-i-preserved c =
     let a = c.args in
     let i = c.loop-i.i in
     let root = hash_bytes a.root in
-    let lt : i < a.n = omega (arith, c.loop-i-test) in
+    let lt : i < a.n = c.loop-i-test.true in
     let y = c.answer_one in
     let b = written_begins _ _ a.p.now _ a.n _ c.loop-i.a i c.loop-i.invariant lt in
     let e = end_is a.p.now c.loop-i.a _ c.piece_end-e.ensures b in
