@@ -12,6 +12,7 @@ use check_store::check;
 use header::{Header, read_header};
 use header_form::size_right;
 use nodehash::leaf_hash;
+use refusal_numbers::number_told;
 use slots::grant_of;
 use store::{kind_at, slot_count, slot_of};
 use terms::Form;
@@ -27,7 +28,7 @@ const NO_STORE: u32 = 3;
 // The check itself.
 #[unsafe(no_mangle)]
 pub extern "C" fn check_store(store: &[u8]) -> u32 {
-    check(Form::Counted, store)
+    number_told(check(Form::Counted, store))
 }
 
 // What came of the passes over the slots of a store that keeps these versions.
@@ -55,12 +56,8 @@ fn suspected(store: &[u8], kept: Kept) -> u32
 pub extern "C" fn check_suspect(store: &[u8]) -> u32 {
     let header = read_header(Form::Counted, store);
     match header {
-        Header::Refused(_) => NO_STORE,
-        Header::Accepted {
-            capacity: _,
-            oldest,
-            latest,
-        } => suspected(store, Kept { oldest, latest }),
+        Err(_) => NO_STORE,
+        Ok(Header { oldest, latest, .. }) => suspected(store, Kept { oldest, latest }),
     }
 }
 

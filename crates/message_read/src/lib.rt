@@ -11,12 +11,13 @@ ghost use Rattle.message_rules.specs.Answers.{spots_bytes};
 ghost use Rattle.message_leaf.specs.Shown.{presence_at};
 ghost use Rattle.message_form.specs.Said.{Held, absent_at, AbsentHeld};
 ghost use Rattle.message_read.specs.Reads.{Bounded, spots_of, ReadsAs};
+ghost use Rattle.refusal_numbers.specs.Refusals.{number_told};
 
 use fields::put_u32;
 use message_form::{Absent, Said, says};
 use message_leaf::{Shown, no_shown};
 use message_record::{absence_size, presence_size, put_absence, put_presence};
-use refusal_numbers::{NO_ROOM, NOT_IN_FORM};
+use refusal_numbers::{Refusal, number_told};
 
 // Writes where bytes begin and how many they are.
 fn put_spot(answer: &mut [u8], at: usize, from: usize, end: usize)
@@ -49,18 +50,18 @@ fn put_answer(
 }
 
 // Our record of a presence, if it fits the room.
-fn read_presence(m: &[u8], p: Shown, room: &mut [u8], answer: &mut [u8; 44]) -> u32
+fn read_presence(m: &[u8], p: Shown, room: &mut [u8], answer: &mut [u8; 44]) -> Result<(), Refusal>
     requires { Held 1 m.now 0 p × (length m.now ≤ 29999) }
-    ensures { ReadsAs (presence (presence_at m.now p)) room.old answer.old result room.new answer.new }
+    ensures { ReadsAs (presence (presence_at m.now p)) room.old answer.old (number_told result) room.new answer.new }
 {
     let size = presence_size(p);
     if room.len() < size {
-        return NO_ROOM;
+        return Err(Refusal::NoRoom);
     }
     put_presence(room, 0, m, p);
     let none = no_shown();
     put_answer(answer, size, p.key, p.kstop, p, none);
-    0
+    Ok(())
 }
 
 // The leaves of an absence: the left one first, where it is there.
@@ -78,17 +79,17 @@ fn put_leaves(answer: &mut [u8; 44], size: usize, m: &[u8], a: Absent)
 }
 
 // Our record of an absence, if it fits the room.
-fn read_absence(m: &[u8], a: Absent, room: &mut [u8], answer: &mut [u8; 44]) -> u32
+fn read_absence(m: &[u8], a: Absent, room: &mut [u8], answer: &mut [u8; 44]) -> Result<(), Refusal>
     requires { AbsentHeld m.now a × (length m.now ≤ 29999) }
-    ensures { ReadsAs (absence (absent_at m.now a)) room.old answer.old result room.new answer.new }
+    ensures { ReadsAs (absence (absent_at m.now a)) room.old answer.old (number_told result) room.new answer.new }
 {
     let size = absence_size(a);
     if room.len() < size {
-        return NO_ROOM;
+        return Err(Refusal::NoRoom);
     }
     put_absence(room, m, a);
     put_leaves(answer, size, m, a);
-    0
+    Ok(())
 }
 
 // Reads a message into the room; answer: the record's length, then where the raw key asked for, and raw key and value of the leaf shown or the left of two and
@@ -98,8 +99,8 @@ pub fn grants_ics23_read(message: &[u8], room: &mut [u8], answer: &mut [u8; 44])
 {
     let what = says(message);
     match what {
-        Said::Nothing => NOT_IN_FORM,
-        Said::Presence(p) => read_presence(message, p, room, answer),
-        Said::Absence(a) => read_absence(message, a, room, answer),
+        Said::Nothing => Refusal::NotInForm.number(),
+        Said::Presence(p) => number_told(read_presence(message, p, room, answer)),
+        Said::Absence(a) => number_told(read_absence(message, a, room, answer)),
     }
 }

@@ -14,19 +14,20 @@ use Rattle.meaning.specs.Answers.{room_after}
 use Rattle.meaning.proofs.Told.{told_refused, told_given, exported_as, exported_refusal}
 use Rattle.palette_rules.specs.Palette.{length_together}
 use Rattle.prove.specs.Parts.{proved_says}
-use Rattle.prove.specs.declared.Proved as declared
-use Rattle.prove.specs.declared.Proved.TheVariants.{Refused, Length}
+use Rattle.std.specs.Prelude.{Result, Ok, Err}
+use Rattle.refusal_numbers.specs.Refusals.{code}
+use Rattle.refusal_numbers.specs.declared.ReadRefusal.{ReadRefusal}
 use Rattle.contracts.specs.Palettes.{palette_answer, PalettesBy, proofs_bytes}
 use Rattle.palette_give.specs.Together.{Gives}
 use Rattle.palette_c.specs.Export.{PaletteTold}
 
-module _ {a : Answer (List Proof)} {room after : Bytes} {r : declared.Proved} (gives : Gives a room after r) (old : Bytes) where
-  pub palette_refused : {n : ℕ} → r ≡ Refused n → PaletteTold a room old n after old
+module _ {a : Answer (List Proof)} {room after : Bytes} {r : Result ℕ ReadRefusal} (gives : Gives a room after r) (old : Bytes) where
+  pub palette_refused : {n : ReadRefusal} → r ≡ Err n → PaletteTold a room old (code n) after old
   unfolding proved_says
   palette_refused {n} e =
-      record { exported = told_refused length_together a n old (sym (ap proved_says e) ∙ gives.answer); proofs = gives.bytes }
+      record { exported = told_refused length_together a (code n) old (sym (ap proved_says e) ∙ gives.answer); proofs = gives.bytes }
 
-  pub palette_given : {n : ℕ} {new : Bytes} → r ≡ Length n → length old ≡ 4 → new ≡ written 0 (le 4 n) old → PaletteTold a room old 0 after new
+  pub palette_given : {n : ℕ} {new : Bytes} → r ≡ Ok n → length old ≡ 4 → new ≡ written 0 (le 4 n) old → PaletteTold a room old 0 after new
   unfolding proved_says
   palette_given {n} {new} e l w =
       record { exported = told_given length_together a n old new (sym (ap proved_says e) ∙ gives.answer) (w ∙ number_fills n old l); proofs = gives.bytes }

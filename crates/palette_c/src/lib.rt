@@ -9,9 +9,8 @@ ghost use Rattle.palette_c.specs.Within.{paletted_by};
 use fields::put_u32;
 use key_list::whole_keys;
 use palette::palette;
-use prove::Proved;
 use read_open::as_many;
-use refusal_numbers::{NOT_32_BYTES, WRONG_SIZE};
+use refusal_numbers::Refusal;
 
 // The proofs for a list of keys in a version, by a table of any length, fill the front of the room; the length of all together goes out in four bytes.
 fn palette_by(
@@ -26,8 +25,8 @@ fn palette_by(
 {
     let proved = palette(store, index, version, keys, room);
     match proved {
-        Proved::Refused(n) => n,
-        Proved::Length(n) => {
+        Err(refusal) => refusal.code(),
+        Ok(n) => {
             put_u32(length, 0, n);
             0
         }
@@ -59,10 +58,10 @@ pub fn palette_indexed(
     ensures { PalettesBy store.now (some index.now) version keys.now room.old length.old result room.new length.new }
 {
     if !whole_keys(keys) {
-        return NOT_32_BYTES as u64;
+        return u64::from(Refusal::Not32Bytes.number());
     }
     if !as_many(store, index) {
-        return WRONG_SIZE as u64;
+        return u64::from(Refusal::WrongSize.number());
     }
     palette_by(store, index, version, keys, room, length)
 }

@@ -7,9 +7,9 @@ ghost use Rattle.contracts.specs.Proves.{Proves, ProvesBy};
 ghost use Rattle.prove_c.specs.Within.{proved_by};
 
 use fields::put_u32;
-use prove::{Proved, prove};
+use prove::prove;
 use read_open::as_many;
-use refusal_numbers::{NOT_32_BYTES, WRONG_SIZE};
+use refusal_numbers::Refusal;
 
 // The proof for a key in a version, by a table of any length, fills the front of the room; its length goes out in four bytes.
 fn prove_by(
@@ -24,8 +24,8 @@ fn prove_by(
 {
     let proved = prove(store, index, version, key, room);
     match proved {
-        Proved::Refused(n) => n,
-        Proved::Length(n) => {
+        Err(refusal) => refusal.code(),
+        Ok(n) => {
             put_u32(length, 0, n);
             0
         }
@@ -57,10 +57,10 @@ pub fn prove_indexed(
     ensures { ProvesBy store.now (some index.now) version key.now room.old length.old result room.new length.new }
 {
     if key.len() != 32 {
-        return NOT_32_BYTES as u64;
+        return u64::from(Refusal::Not32Bytes.number());
     }
     if !as_many(store, index) {
-        return WRONG_SIZE as u64;
+        return u64::from(Refusal::WrongSize.number());
     }
     prove_by(store, index, version, key, room, length)
 }

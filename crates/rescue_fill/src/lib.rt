@@ -42,7 +42,8 @@ pub fn fill(
     ensures { Filled source.now oldest latest result target.new }
 {
     let top = Place::top();
-    format(target);
+    // The target has the size of a store, so this refuses nothing.
+    let _ = format(target);
     enter(source, table, many, target, 0, top, root, 0);
     let mut b = root;
     let mut low = floor;

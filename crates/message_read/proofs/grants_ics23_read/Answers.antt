@@ -21,16 +21,16 @@ read_absence-requires c =
 pub returns-in-Nothing : goal.returns-in-Nothing
 returns-in-Nothing c =
     let a = c.args in
-    reads_nothing (all_bytes a.message.now (λ i. omega (arith, c.shared_slice_known-1.given i))) (c.says-what.ensures.is ∙ ap (proof_at a.message.now) c.in-Nothing.is)
+    rw c.number.ensures (reads_nothing (all_bytes a.message.now (λ i. omega (arith, c.shared_slice_known-1.given i))) (c.says-what.ensures.is ∙ ap (proof_at a.message.now) c.in-Nothing.is))
 
 pub returns-in-Presence : goal.returns-in-Presence
 returns-in-Presence c =
     let a = c.args in
     let e = c.says-what.ensures.is ∙ ap (proof_at a.message.now) c.in-Presence.is in
-    reads_as (encodes (all_bytes a.message.now (λ i. omega (arith, c.shared_slice_known-1.given i))) e) c.read_presence.ensures
+    rw c.number_told.ensures (reads_as (encodes (all_bytes a.message.now (λ i. omega (arith, c.shared_slice_known-1.given i))) e) c.read_presence.ensures)
 
 pub returns-in-Absence : goal.returns-in-Absence
 returns-in-Absence c =
     let a = c.args in
     let e = c.says-what.ensures.is ∙ ap (proof_at a.message.now) c.in-Absence.is in
-    reads_as (encodes (all_bytes a.message.now (λ i. omega (arith, c.shared_slice_known-1.given i))) e) c.read_absence.ensures
+    rw c.number_told-in-Absence.ensures (reads_as (encodes (all_bytes a.message.now (λ i. omega (arith, c.shared_slice_known-1.given i))) e) c.read_absence.ensures)

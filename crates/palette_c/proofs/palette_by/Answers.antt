@@ -3,14 +3,14 @@ use Rattle.palette_c.proofs.Exported.{palette_refused, palette_given}
 use borrow.Author.Rules.{rules}
 use Rattle.palette_c.proofs.palette_by.Goals as goal
 
-pub returns-in-Refused : goal.returns-in-Refused
-returns-in-Refused c =
+pub returns-in-Err : goal.returns-in-Err
+returns-in-Err c =
     let a = c.args in
     let d = c.palette-proved.ensures in
-    palette_refused d a.length.now c.in-Refused.is
+    rw c.code.ensures (palette_refused d a.length.now c.in-Err.is)
 
-pub returns-in-Length : goal.returns-in-Length
-returns-in-Length c =
+pub returns-in-Ok : goal.returns-in-Ok
+returns-in-Ok c =
     let a = c.args in
     let d = c.palette-proved.ensures in
-    palette_given d a.length.now c.in-Length.is (search rules) c.put_u32.ensures
+    palette_given d a.length.now c.in-Ok.is (search rules) c.put_u32.ensures

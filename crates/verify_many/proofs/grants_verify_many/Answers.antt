@@ -12,14 +12,14 @@ pub returns-then-root-ne32 : goal.returns-then-root-ne32
 returns-then-root-ne32 c =
     let given-bytes : All Byte c.args.proofs.now = all_of Byte c.args.proofs.now 0 (λ i _. omega (arith, c.shared_slice_known-3-1.given i)) in
     let a = c.args in
-    refuses a.root.now a.keys.now a.proofs.now a.answers.now given-bytes 12 (root_off a.root.now a.keys.now a.proofs.now a.answers.now c.if-root-ne32.true)
+    rw c.number.ensures (refuses a.root.now a.keys.now a.proofs.now a.answers.now given-bytes 12 (root_off a.root.now a.keys.now a.proofs.now a.answers.now c.if-root-ne32.true))
 
 pub returns-then-not-whole_keys : goal.returns-then-not-whole_keys
 returns-then-not-whole_keys c =
     let given-bytes : All Byte c.args.proofs.now = all_of Byte c.args.proofs.now 0 (λ i _. omega (arith, c.shared_slice_known-3-1.given i)) in
     let a = c.args in
-    refuses a.root.now a.keys.now a.proofs.now a.answers.now given-bytes 12
-    (keys_off a.root.now a.keys.now a.proofs.now a.answers.now c.if-root-ne32.false (sym c.whole_keys.ensures ∙ c.if-not-whole_keys.true))
+    rw c.number-then-not-whole_keys.ensures (refuses a.root.now a.keys.now a.proofs.now a.answers.now given-bytes 12
+    (keys_off a.root.now a.keys.now a.proofs.now a.answers.now c.if-root-ne32.false (sym c.whole_keys.ensures ∙ c.if-not-whole_keys.true)))
 
 pub gather-g-requires : goal.gather-g-requires
 gather-g-requires c =
@@ -30,8 +30,8 @@ pub returns-then-not-g : goal.returns-then-not-g
 returns-then-not-g c =
     let given-bytes : All Byte c.args.proofs.now = all_of Byte c.args.proofs.now 0 (λ i _. omega (arith, c.shared_slice_known-3-1.given i)) in
     let a = c.args in
-    refuses a.root.now a.keys.now a.proofs.now a.answers.now given-bytes 10
-    (row_off a.root.now a.keys.now a.proofs.now a.answers.now c.if-root-ne32.false (sym c.whole_keys.ensures ∙ c.if-not-whole_keys.false) (sym c.gather-g.ensures.whole_is ∙ not-true _ c.if-not-g.true))
+    rw c.number-then-not-g.ensures (refuses a.root.now a.keys.now a.proofs.now a.answers.now given-bytes 10
+    (row_off a.root.now a.keys.now a.proofs.now a.answers.now c.if-root-ne32.false (sym c.whole_keys.ensures ∙ c.if-not-whole_keys.false) (sym c.gather-g.ensures.whole_is ∙ not-true _ c.if-not-g.true)))
 
 pub overflow_mul-n : goal.overflow_mul-n
 overflow_mul-n c =
@@ -42,8 +42,8 @@ pub returns-then-answers-n : goal.returns-then-answers-n
 returns-then-answers-n c =
     let given-bytes : All Byte c.args.proofs.now = all_of Byte c.args.proofs.now 0 (λ i _. omega (arith, c.shared_slice_known-3-1.given i)) in
     let a = c.args in
-    refuses a.root.now a.keys.now a.proofs.now a.answers.now given-bytes 9
-    (no_room a.root.now a.keys.now a.proofs.now a.answers.now c.if-root-ne32.false (sym c.whole_keys.ensures ∙ c.if-not-whole_keys.false) (sym c.gather-g.ensures.whole_is ∙ not-false _ c.if-not-g.false) (omega arith))
+    rw c.number-then-answers-n.ensures (refuses a.root.now a.keys.now a.proofs.now a.answers.now given-bytes 9
+    (no_room a.root.now a.keys.now a.proofs.now a.answers.now c.if-root-ne32.false (sym c.whole_keys.ensures ∙ c.if-not-whole_keys.false) (sym c.gather-g.ensures.whole_is ∙ not-false _ c.if-not-g.false) (omega arith)))
 
 pub lead_many-requires : goal.lead_many-requires
 lead_many-requires c =

@@ -1,8 +1,8 @@
--- `move_open::refusal` meets its contract, test by test. Assumes nothing.
+-- `move_open::open` meets its contract, test by test. Assumes nothing.
 use mathlib.Core.Path.{sym, ◌∙◌}
 use Rattle.move_open.specs.Open.{checked}
 use Rattle.move_open.proofs.Opening.{source_off, target_off, room_off, room_same}
-use Rattle.move_open.proofs.refusal.Goals as goal
+use Rattle.move_open.proofs.open.Goals as goal
 
 pub returns-then-not-size_right : goal.returns-then-not-size_right
 returns-then-not-size_right c =
