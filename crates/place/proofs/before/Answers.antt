@@ -1,13 +1,10 @@
--- `place::before` meets its contract: the order of slices is that of byte strings. Assumes nothing.
-use native.Mathlib.Omega.{arith}
-use mathlib.Core.Path.{refl}
-use Rattle.std.specs.Ordering.{nat_cmp, is_lt}
-use Rattle.std.proofs.lemmas.Bool.Decides.{nat_tests}
-use Rattle.std.proofs.lemmas.Cmp.{same_from_slice_cmp_tested}
-use Rattle.terms.specs.Bits.{before}
+-- `place::before` meets its contract: at index i both strings agree so far, so what is left of them decides. Assumes nothing.
+use mathlib.Core.Path.{sym, ◌∙◌}
+use Rattle.place.proofs.Strings.{before_short, before_end}
 use Rattle.place.proofs.before.Goals as goal
 
+pub returns-then-x-i : goal.returns-then-x-i
+returns-then-x-i c = let a = c.args in sym (c.loop-i.invariant.1 ∙ before_short a.x.now a.y.now _ c.if-x-i.true c.loop-i-test.true)
+
 pub returns : goal.returns
-returns c =
-    let by = same_from_slice_cmp_tested nat_cmp is_lt before refl (λ _ _. refl) (λ _ _. refl) (λ x y xs ys o h. grind (arith, nat_tests)) in
-    by c.args.x.now c.args.y.now c.lt.result c.lt.ensures
+returns c = let a = c.args in sym (c.loop-i.invariant.1 ∙ before_end a.x.now a.y.now c.loop-i.i c.loop-i-test.false)
