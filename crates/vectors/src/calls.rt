@@ -53,18 +53,21 @@ fn publish(
     let m = batches::written(part(l, 2, b':'), grants)?;
     say::line(b"  came  ", rest(rest(part(l, 0, b':'), b' '), b' '), b": ");
     let root = batches::root(&grants[..m], 256);
-    publish_all(store, version, records[..n].as_flattened(), root);
+    if let Some(answer) = applied(store, version, records[..n].as_flattened()) {
+        say_made(store, &answer, root);
+    }
     Some(())
 }
 
-// Publishes a batch under a number; `root` is what the grants' tree hashes to.
-fn publish_all(store: &mut [u8], version: u32, batch: &[u8], root: Hash) {
+// Publishes a batch under a number: what the call answers, or None where it refuses.
+pub fn applied(store: &mut [u8], version: u32, batch: &[u8]) -> Option<[u8; 40]> {
     let before = digest(store);
     let mut answer = [0u8; 40];
     let no = grants::grants_apply(store, version, batch, &mut answer);
     if accepted(no, before, store) {
-        say_made(store, &answer, root);
+        return Some(answer);
     }
+    None
 }
 
 // prune VERSION; and which slots hold a record then.
@@ -103,52 +106,99 @@ pub fn get(l: &[u8], store: &[u8]) -> Option<()> {
     Some(())
 }
 
+// How a proof is written and checked: with no more rules than every proof has, or by the pocket profile.
+#[derive(Clone, Copy)]
+pub enum Profile {
+    Whole,
+    Pocket,
+}
+
+impl Profile {
+    fn prove(
+        self,
+        store: &[u8],
+        version: u32,
+        key: &[u8; 32],
+        room: &mut [u8],
+        length: &mut [u8; 4],
+    ) -> u64 {
+        match self {
+            Profile::Whole => grants::grants_prove(store, version, key, room, length),
+            Profile::Pocket => grants::grants_pocket_prove(store, version, key, room, length),
+        }
+    }
+
+    fn verify(self, root: &[u8; 32], key: &[u8; 32], proof: &[u8], found: &mut [u8; 33]) -> u32 {
+        match self {
+            Profile::Whole => grants::grants_verify(root, key, proof, found),
+            Profile::Pocket => grants::grants_pocket_verify(root, key, proof, found),
+        }
+    }
+}
+
 // prove NAME: VERSION KEY ROOM; the proof is checked against the root of its version.
 pub fn prove(l: &[u8], store: &[u8]) -> Option<()> {
+    prove_by(Profile::Whole, b"  came  prove ", l, store)
+}
+
+// pocket NAME: VERSION KEY ROOM; the proof is checked by the pocket check against the root of its version.
+pub fn pocket(l: &[u8], store: &[u8]) -> Option<()> {
+    prove_by(Profile::Pocket, b"  came  pocket prove ", l, store)
+}
+
+fn prove_by(profile: Profile, came: &[u8], l: &[u8], store: &[u8]) -> Option<()> {
     let mut all = [0u8; 17080];
     let room = all.get_mut(..size(word(l, 3))?)?;
-    let (version, key) = asks(b"  came  prove ", l)?;
+    let (version, key) = asks(came, l)?;
     say::line(b", buffer ", word(l, 3), b" bytes: ");
-    prove_into(store, version, &key, room);
+    let before = digest(room);
+    let mut length = [0u8; 4];
+    let no = profile.prove(store, version, &key, room, &mut length);
+    if let Some(proof) = written(no, before, room, &length) {
+        verify(profile, store, version, &key, proof);
+    }
     Some(())
 }
 
-fn prove_into(store: &[u8], version: u32, key: &[u8; 32], room: &mut [u8]) {
-    let before = digest(room);
-    let mut length = [0u8; 4];
-    let no = grants::grants_prove(store, version, key, room, &mut length);
+// What a call wrote to the front of its buffer, or None where it refused; then the buffer is as it was.
+pub fn written<'a>(no: u64, before: Hash, room: &'a [u8], length: &[u8; 4]) -> Option<&'a [u8]> {
     if no != 0 {
         refused_read(no, b"");
         say_kept(before, room);
-        return;
+        return None;
     }
-    match room.get(..number_in(&length) as usize) {
-        Some(proof) => verify(store, version, key, proof),
-        None => say::text(b"LONGER THAN THE BUFFER\n"),
+    let front = room.get(..number_in(length) as usize);
+    if front.is_none() {
+        say::text(b"LONGER THAN THE BUFFER\n");
     }
+    front
 }
 
 // A proof's length, the count of its steps or, of an absence proof, its flags, and what it shows against the root of its version.
-pub fn verify(store: &[u8], version: u32, key: &[u8; 32], proof: &[u8]) {
+pub fn verify(profile: Profile, store: &[u8], version: u32, key: &[u8; 32], proof: &[u8]) {
     say::text(b"length ");
     say::count(proof.len());
     if 8 <= proof.len() {
         say::choice(get_u16(proof, 4) == 16, b", steps ", b", flags ");
         say::count(get_u16(proof, 6) as usize);
     }
-    say::text(b"; verify: ");
+    say::choice(
+        matches!(profile, Profile::Pocket),
+        b"; pocket check: ",
+        b"; verify: ",
+    );
     let mut root = [0u8; 32];
     let no = grants::grants_root(store, version, &mut root);
     if no == 0 {
-        verify_under(&root, key, proof);
+        verify_under(profile, &root, key, proof);
     } else {
         refused_read(no, b"\n");
     }
 }
 
-fn verify_under(root: &[u8; 32], key: &[u8; 32], proof: &[u8]) {
+fn verify_under(profile: Profile, root: &[u8; 32], key: &[u8; 32], proof: &[u8]) {
     let mut found = [0u8; 33];
-    let no = grants::grants_verify(root, key, proof, &mut found);
+    let no = profile.verify(root, key, proof, &mut found);
     if no != 0 {
         refused(no, b"\n");
         return;

@@ -98,7 +98,7 @@ fn call(l: &[u8], c: &[u8], store: &mut [u8]) -> Option<()> {
         b"count" => counted::count(l, store),
         b"at" => counted::at(l, store),
         b"figures" => figured::figures(l, store),
-        b"pocket" => figured::pocket(l, store),
+        b"pocket" => calls::pocket(l, store),
         b"finding" => forged::finding(l, store),
         b"grant" => partners::grant(l, store),
         b"message" => partners::message(l, store),

@@ -1,19 +1,10 @@
 // ICS 23's message, document 02, request 2026-02: the words of a line are raw, and the store's keys and values are their SHA-256.
-use crate::calls::{accepted, number_in};
+use crate::calls::{accepted, applied, number_in};
 use digest::digest;
 use script::say;
 use script::words::{number, size};
 use script_says::calls::bytes_of;
 use script_says::partners::{grant_record, raw, say_read, say_root, word};
-
-fn publish(store: &mut [u8], version: u32, record: &[u8; 72]) {
-    let before = digest(store);
-    let mut answer = [0u8; 40];
-    let no = grants::grants_apply(store, version, record, &mut answer);
-    if accepted(no, before, store) {
-        say_root(&answer);
-    }
-}
 
 // grant NUMBER KEY VALUE
 pub fn grant(l: &[u8], store: &mut [u8]) -> Option<()> {
@@ -21,7 +12,9 @@ pub fn grant(l: &[u8], store: &mut [u8]) -> Option<()> {
     say::line(b"  came  grant ", word(l, 2), b" = ");
     say::text(word(l, 3));
     say::text(b": ");
-    publish(store, version, &grant_record(word(l, 2), word(l, 3)));
+    if let Some(answer) = applied(store, version, &grant_record(word(l, 2), word(l, 3))) {
+        say_root(&answer);
+    }
     Some(())
 }
 

@@ -1,5 +1,5 @@
 // Several proofs in one call, document 02, request 2026-04: the list of keys, and the proofs cut apart by their own lengths.
-use crate::calls::{number_in, refused_read, say_kept, verify, word};
+use crate::calls::{Profile, number_in, verify, word, written};
 use digest::digest;
 use script::say;
 use script::words::{key, number, part, rest, size};
@@ -17,7 +17,7 @@ fn shown<'a>(store: &[u8], version: u32, key: &[u8; 32], proofs: &'a [u8]) -> &'
         return &[];
     }
     say::text(b"        ");
-    verify(store, version, key, &proofs[..n]);
+    verify(Profile::Whole, store, version, key, &proofs[..n]);
     &proofs[n..]
 }
 
@@ -37,14 +37,8 @@ fn ask(keys: &[&[u8]; 3], store: &[u8], version: u32, list: &[u8], room: &mut [u
     let before = digest(room);
     let mut length = [0u8; 4];
     let no = grants::grants_palette(store, version, list, room, &mut length);
-    if no != 0 {
-        refused_read(no, b"");
-        say_kept(before, room);
-        return;
-    }
-    match room.get(..number_in(&length) as usize) {
-        Some(proofs) => show(keys, store, version, proofs),
-        None => say::text(b"LONGER THAN THE BUFFER\n"),
+    if let Some(proofs) = written(no, before, room, &length) {
+        show(keys, store, version, proofs);
     }
 }
 
