@@ -17,6 +17,7 @@ use refusal_numbers::{ReadRefusal, Refusal};
 pub fn root(store: &[u8], index: &[u32], version: u32) -> Result<Hash, ReadRefusal>
     ensures { root_says result ≡ root_answer_by store.now index.now version }
 {
+    // The reads share this opening; a shared function with a closure for what follows it would be longer than these two lines.
     open(store, version)?;
     root_hash(store, index, version)
 }

@@ -39,6 +39,7 @@ fn root_number(store: &[u8], index: &[u32], version: u32) -> Result<u64, ReadRef
 pub fn grants_count(store: &[u8], index: &[u32], version: u32) -> Result<u64, ReadRefusal>
     ensures { number_says result ≡ number_answer_by store.now index.now version }
 {
+    // The reads share this opening; a shared function with a closure for what follows it would be longer than these two lines.
     open(store, version)?;
     root_number(store, index, version)
 }

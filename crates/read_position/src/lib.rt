@@ -54,6 +54,7 @@ pub fn grants_at(
 ) -> Result<Grant, ReadRefusal>
     ensures { position_says result ≡ position_answer_by store.now index.now version position }
 {
+    // The reads share this opening; a shared function with a closure for what follows it would be longer than these two lines.
     open(store, version)?;
     root_position(store, index, version, position)
 }
