@@ -56,18 +56,7 @@ fn size(node: Node) -> usize
 {
     match node {
         Node::Nothing => 0,
-        Node::Leaf {
-            version: _,
-            key: _,
-            value: _,
-        } => 1,
-        Node::Inner {
-            version: _,
-            left: _,
-            right: _,
-            lefts: _,
-            rights: _,
-        } => 1,
+        Node::Leaf { .. } | Node::Inner { .. } => 1,
     }
 }
 
