@@ -58,7 +58,8 @@ fn put_answers(
 {
     let mut a = 0;
     for i in 0..n {
-        let e = piece_end(p, a);
+        // The bytes are n records.
+        let e = piece_end(p, a).unwrap();
         let d = index[i];
         let k = KEY_SIZE * i;
         let f = k + KEY_SIZE;
@@ -90,16 +91,15 @@ pub fn grants_verify_many(root: &[u8], keys: &[u8], proofs: &[u8], answers: &mut
     let n = keys.len() / KEY_SIZE;
     let mut at = [0usize; 512];
     let mut index = [0usize; 256];
-    let g = gather(proofs, n, &mut at, &mut index);
-    if !g.whole {
+    let Some(paths) = gather(proofs, n, &mut at, &mut index) else {
         return Refusal::NotInForm.number();
-    }
+    };
     if answers.len() < ANSWER_SIZE * n {
         return Refusal::NoRoom.number();
     }
     let top = hash_at(root, 0);
     let mut good = [false; 512];
-    lead_many(top, proofs, &at, g.many, &mut good);
+    lead_many(top, proofs, &at, paths, &mut good);
     put_answers(top, keys, proofs, n, &index, &good, answers);
     0
 }
