@@ -9,7 +9,7 @@ use mathlib.Core.List.{List}
 use lib.ListN.{length, get_or, set, take, drop, length-set, length-drop}
 use lib.Seq.{get_or-set_same, get_or-set_other}
 use lib.Dec.{leb, eqb}
-use borrow.Author.Tests.{leb-true, leb-false, eqb-true, eqb-false, eq-eqb, ne_eqb}
+use borrow.Author.Tests.{leb-true, leb-false, eq-eqb, ne_eqb}
 use borrow.Author.Count.{below_more}
 use Rattle.terms.specs.Bits.{Bytes}
 use Rattle.sha256_eight.specs.Each.{Each}

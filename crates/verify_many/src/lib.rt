@@ -58,7 +58,7 @@ fn put_answers(
 {
     let mut a = 0;
     for i in 0..n {
-        // The bytes are n records.
+        // The bytes are n records, so one begins here.
         let e = piece_end(p, a).unwrap();
         let d = index[i];
         let k = KEY_SIZE * i;

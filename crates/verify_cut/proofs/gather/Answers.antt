@@ -66,9 +66,9 @@ loop-i-preserved c =
 pub returns-then-a-p : goal.returns-then-a-p
 returns-then-a-p c =
     let a = c.args in
-    gathered_over a.p.now a.n _ _ c.loop-i.i c.loop-i.m c.loop-i.a c.loop-i.invariant (omega arith) c.if-a-p.true
+    gathered_over a.p.now a.n _ _ c.loop-i.i c.loop-i.m c.loop-i.a c.loop-i.invariant (omega arith) (λ z. omega (arith, z, c.if-a-p.true))
 
 pub returns : goal.returns
 returns c =
     let a = c.args in
-    gathered_all a.p.now a.n _ _ c.loop-i.i c.loop-i.m c.loop-i.a c.loop-i.invariant (omega arith) c.if-a-p.false
+    gathered_all a.p.now a.n _ _ c.loop-i.i c.loop-i.m c.loop-i.a c.loop-i.invariant (omega arith) (omega (arith, c.if-a-p.false))
