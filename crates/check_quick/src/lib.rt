@@ -3,7 +3,7 @@
 // decides.
 #![tactic(auto)]
 
-ghost use Rattle.std.specs.Prelude.{◌≡◌, true, ◌≤◌, ◌<◌};
+ghost use Rattle.std.specs.Prelude.{◌≡◌, true, ◌<◌};
 ghost use Rattle.local.specs.Test.{slots_test};
 ghost use Rattle.nodehash.specs.Node.{leaf_hash, inner_hash};
 ghost use Rattle.layout.specs.Stores.{store_in, Has};
@@ -29,19 +29,18 @@ fn in_order(
     form: Form,
     store: &[u8],
     kept: Kept,
-    many: usize,
-    table: &[u16; 16384],
+    order: &[u16],
     ranks: &[u16; 16384],
 ) -> Option<usize>
-    requires { Ready form store.now kept × (many ≤ 16384) }
+    requires { Ready form store.now kept }
     ensures { Sure result (Alone (store_in form store.now)) }
 {
     let n = slot_count(form, store);
-    let up = ascending(form, store, kept.latest, table, many);
-    if up < many {
-        return Some(wide(table[up]));
+    let up = ascending(form, store, kept.latest, order);
+    if up < order.len() {
+        return Some(wide(order[up]));
     }
-    let i = named(form, store, table, many, ranks);
+    let i = named(form, store, order, ranks);
     if i < n {
         return Some(i);
     }
@@ -57,9 +56,10 @@ fn alone(form: Form, store: &[u8], kept: Kept, guess: &mut [u16; 32768]) -> Opti
     let mut table = [0u16; 16384];
     let mut ranks = [0u16; 16384];
     let many = sort(form, store, n, &mut table, &mut ranks);
-    rank(&table, many, &mut ranks);
-    guessed(form, store, n, &table, many, guess);
-    in_order(form, store, kept, many, &table, &ranks)
+    let order = &table[..many];
+    rank(order, &mut ranks);
+    guessed(form, store, n, order, guess);
+    in_order(form, store, kept, order, &ranks)
 }
 
 // Of a slot whose links are not right, the slot that fails the exact test: itself, or what was guessed for its children.

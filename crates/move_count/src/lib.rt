@@ -164,7 +164,7 @@ fn guess_children(store: &[u8], n: usize, guess: &mut [u16; 32768])
     let mut table = [0u16; 16384];
     let mut spare = [0u16; 16384];
     let many = sort(Form::Plain, store, n, &mut table, &mut spare);
-    guessed(Form::Plain, store, n, &table, many, guess);
+    guessed(Form::Plain, store, n, &table[..many], guess);
 }
 
 // The counts of every inner record of a sound store, two for each slot.

@@ -92,7 +92,7 @@ pub fn children(store: &[u8], kids: &mut [u16; 32768])
     let mut table = [0u16; 16384];
     let mut spare = [0u16; 16384];
     let many = guide_with(store, &mut table, &mut spare);
-    guessed(Form::Counted, store, n, &table, many, kids);
-    rank(&table, many, &mut spare);
+    guessed(Form::Counted, store, n, &table[..many], kids);
+    rank(&table[..many], &mut spare);
     keep_all(store, &table, many, &spare, kids);
 }

@@ -119,6 +119,6 @@ pub fn ordered(store: &[u8], table: &[u16; 16384], many: usize, spare: &mut [u16
     if !ascending(store, table, many) {
         return false;
     }
-    rank(table, many, spare);
+    rank(&table[..many], spare);
     all_named(store, table, many, spare)
 }
