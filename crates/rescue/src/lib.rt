@@ -38,16 +38,15 @@ pub fn rescue(
         return Err(Refusal::WrongHeader);
     }
     let mut table = [0u16; 16384];
-    let many = guide(source, &mut table);
+    let order = guide(source, &mut table);
     // Latest has no next version.
-    let tested = step(source, &table, many, latest, 0, 0, 0);
+    let tested = step(source, order, latest, 0, 0, 0);
     let Some(start) = tested else {
         return Err(Refusal::NotSound);
     };
     let first = fill(
         source,
-        &table,
-        many,
+        order,
         oldest,
         latest,
         start.root,

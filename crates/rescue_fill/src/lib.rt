@@ -2,7 +2,7 @@
 // one alone, and what it alone has is entered once it has passed.
 #![tactic(auto)]
 
-ghost use Rattle.std.specs.Prelude.{◌≡◌};
+ghost use Rattle.std.specs.Prelude.{◌≡◌, length};
 ghost use Rattle.layout.specs.Stores.{store_of};
 ghost use Rattle.ordered.specs.Ordered.{Guide};
 ghost use Rattle.rescue_fill.specs.Fill.{bounded, Shaped, Fillable, Filled};
@@ -30,21 +30,20 @@ fn finish(target: &mut [u8], first: u32, latest: u32) -> u32
 // Fills the target with the longest run; answers its first version.
 pub fn fill(
     source: &[u8],
-    table: &[u16; 16384],
-    many: usize,
+    order: &[u16],
     oldest: u32,
     latest: u32,
     root: u32,
     floor: u32,
     target: &mut [u8],
 ) -> u32
-    requires { Fillable source.now oldest latest root floor target.old × Guide (store_of source.now).slots table.now many }
+    requires { Fillable source.now oldest latest root floor target.old × Guide (store_of source.now).slots order.now (length order.now) }
     ensures { Filled source.now oldest latest result target.new }
 {
     let top = Place::top();
     // The target has the size of a store, so this refuses nothing.
     let _ = format(target);
-    enter(source, table, many, target, 0, top, root, 0);
+    enter(source, order, target, 0, top, root, 0);
     let mut b = root;
     let mut low = floor;
     // From root to older root, which is no count.
@@ -56,11 +55,11 @@ pub fn fill(
         if b < first {
             return finish(target, first, latest);
         }
-        let stepped = step(source, table, many, first - 1, first, b, low);
+        let stepped = step(source, order, first - 1, first, b, low);
         let Some(earlier) = stepped else {
             return finish(target, first, latest);
         };
-        enter(source, table, many, target, first, top, earlier.root, b);
+        enter(source, order, target, first, top, earlier.root, b);
         b = earlier.root;
         low = earlier.floor;
     }

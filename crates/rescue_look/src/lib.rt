@@ -37,24 +37,18 @@ fn scanned(source: &[u8], version: u32, place: Place) -> Option<usize>
 }
 
 // The same by a table to find by, or by a scan where it has no entries.
-pub fn lowest(
-    source: &[u8],
-    table: &[u16; 16384],
-    many: usize,
-    version: u32,
-    place: Place,
-) -> Option<usize>
-    requires { (size_right Form.Counted (length source.now) ≡ true) × Proper place × Guide (store_of source.now).slots table.now many }
+pub fn lowest(source: &[u8], order: &[u16], version: u32, place: Place) -> Option<usize>
+    requires { (size_right Form.Counted (length source.now) ≡ true) × Proper place × Guide (store_of source.now).slots order.now (length order.now) }
     ensures { LowestIn (store_of source.now).slots version (place_of place) result }
 {
-    if many == 0 {
+    if order.is_empty() {
         return scanned(source, version, place);
     }
     // The scan tells at once that version 0 is no node, the table by a whole search.
     if version == 0 {
         return scanned(source, version, place);
     }
-    find_by(source, table, many, version, place)
+    find_by(source, order, version, place)
 }
 
 // The version of the child that a record names on a side; 0 where there is no record or no child.
@@ -85,21 +79,14 @@ fn weighs(source: &[u8], i: usize, right: bool, found: Option<usize>) -> bool
 
 // Whether the child on a side of the inner record in slot i is missing, or found at its place with the stored hash and no lone leaf,
 // and the count on that side is right.
-pub fn linked(
-    source: &[u8],
-    table: &[u16; 16384],
-    many: usize,
-    i: usize,
-    right: bool,
-    place: Place,
-) -> bool
-    requires { Has Form.Counted source.now i × Proper place × Guide (store_of source.now).slots table.now many }
+pub fn linked(source: &[u8], order: &[u16], i: usize, right: bool, place: Place) -> bool
+    requires { Has Form.Counted source.now i × Proper place × Guide (store_of source.now).slots order.now (length order.now) }
     ensures { result ≡ tied_at source.now i right (place_of place) }
 {
     let version = child_version_at(Form::Counted, source, i, right);
     let other = child_version_at(Form::Counted, source, i, !right);
     let hash = hash_at(child_hash(slot_of(Form::Counted, source, i), right), 0);
-    let found = lowest(source, table, many, version, place);
+    let found = lowest(source, order, version, place);
     if !weighs(source, i, right, found) {
         return false;
     }

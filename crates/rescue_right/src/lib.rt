@@ -1,7 +1,7 @@
 // Whether a record of a source of any contents is right by itself, document 02, request 2026-08; a child of which a right record says the same needs no look.
 #![tactic(auto)]
 
-ghost use Rattle.std.specs.Prelude.{◌≡◌};
+ghost use Rattle.std.specs.Prelude.{◌≡◌, length};
 ghost use Rattle.meaning.specs.Store.{find};
 ghost use Rattle.nodehash.specs.Node.{leaf_hash, inner_hash};
 ghost use Rattle.place.specs.Place.{place_of, Proper};
@@ -60,34 +60,32 @@ fn told(source: &[u8], i: usize, right: bool, beside: Option<usize>) -> bool
 // Whether the child on a side of the inner record in slot i is linked, by the record beside it or by a look.
 fn tied(
     source: &[u8],
-    table: &[u16; 16384],
-    many: usize,
+    order: &[u16],
     i: usize,
     right: bool,
     place: Place,
     beside: Option<usize>,
 ) -> bool
-    requires { Has Form.Counted source.now i × Proper place × Guide (store_of source.now).slots table.now many × Tied source.now right (place_of place) beside }
+    requires { Has Form.Counted source.now i × Proper place × Guide (store_of source.now).slots order.now (length order.now) × Tied source.now right (place_of place) beside }
     ensures { result ≡ tied_at source.now i right (place_of place) }
 {
     if told(source, i, right, beside) {
         return true;
     }
-    linked(source, table, many, i, right, place)
+    linked(source, order, i, right, place)
 }
 
 // Whether no node was asked for, or it was found and is right: a leaf's key begins with its place, an inner record's children are linked. The record found
 // beside it, at the same place, is right.
 pub fn record_right(
     source: &[u8],
-    table: &[u16; 16384],
-    many: usize,
+    order: &[u16],
     version: u32,
     place: Place,
     found: Option<usize>,
     beside: Option<usize>,
 ) -> bool
-    requires { Sought source.now version place found × Guide (store_of source.now).slots table.now many × Beside source.now place beside }
+    requires { Sought source.now version place found × Guide (store_of source.now).slots order.now (length order.now) × Beside source.now place beside }
     ensures { result ≡ record_right leaf_hash inner_hash (store_of source.now).slots version (place_of place) (find version (place_of place) (store_of source.now).slots) }
 {
     let Some(i) = found else {
@@ -98,9 +96,9 @@ pub fn record_right(
         return begins(key_of(slot), place);
     }
     let left = place.left();
-    if !tied(source, table, many, i, false, left, beside) {
+    if !tied(source, order, i, false, left, beside) {
         return false;
     }
     let right = place.right();
-    tied(source, table, many, i, true, right, beside)
+    tied(source, order, i, true, right, beside)
 }

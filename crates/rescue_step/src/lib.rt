@@ -23,24 +23,16 @@ pub struct Reached {
 
 // Whether version v joins the tree of the version `next`, which is right and whose root is of version b; `low` is the floor of the run up to now. All three
 // are 0 where there is no next version.
-pub fn step(
-    source: &[u8],
-    table: &[u16; 16384],
-    many: usize,
-    v: u32,
-    next: u32,
-    b: u32,
-    low: u32,
-) -> Option<Reached>
-    requires { (size_right Form.Counted (length source.now) ≡ true) × Guide (store_of source.now).slots table.now many × RightTop source.now b }
+pub fn step(source: &[u8], order: &[u16], v: u32, next: u32, b: u32, low: u32) -> Option<Reached>
+    requires { (size_right Form.Counted (length source.now) ≡ true) × Guide (store_of source.now).slots order.now (length order.now) × RightTop source.now b }
     ensures { StepSays source.now v next b low result }
 {
-    let a = root_version(source, table, many, v);
+    let a = root_version(source, order, v);
     if a == 0 {
         return None;
     }
     let top = Place::top();
-    let l = join(source, table, many, next, top, a, b)?;
+    let l = join(source, order, next, top, a, b)?;
     let higher = later(low, l);
     if v < higher {
         return None;

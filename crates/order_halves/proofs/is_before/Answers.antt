@@ -10,10 +10,10 @@ use borrow.Author.Rules.{rules}
 use Rattle.order_halves.proofs.is_before.Goals as goal
 
 pub compared-requires : goal.compared-requires
-compared-requires c = (subst (Has counted c.args.store.now) (sym c.wide.ensures.0) (entry_has c.args.store.now c.requires.0 c.requires.2 c.args.k c.requires.4), search rules)
+compared-requires c = (subst (Has counted c.args.store.now) (sym c.wide.ensures.0) (entry_has c.args.store.now c.requires.0 c.requires.1 c.args.k c.requires.3), search rules)
 
 pub returns : goal.returns
 returns c =
     let a = c.args in
-    c.is_lt.ensures ∙ tells_before a.store.now c.requires.0 c.requires.2 (all_of Byte a.store.now 0 (λ i _. omega (arith, c.type_inv.store i))) a.version a.place c.requires.3
-    a.k c.requires.4 c.wide.ensures.0 _ c.compared.ensures
+    c.is_lt.ensures ∙ tells_before a.store.now c.requires.0 c.requires.1 (all_of Byte a.store.now 0 (λ i _. omega (arith, c.type_inv.store i))) a.version a.place c.requires.2
+    a.k c.requires.3 c.wide.ensures.0 _ c.compared.ensures
