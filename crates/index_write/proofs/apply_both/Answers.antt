@@ -15,7 +15,7 @@ pub returns-in-Err : goal.returns-in-Err
 returns-in-Err c =
     let batch-bytes : All Byte c.args.batch.now = all_of Byte c.args.batch.now 0 (λ i _. omega (arith, c.shared_slice_known-1.given i)) in
     let a = c.args in
-    rw c.number.ensures (both_applied a.number a.batch.now batch-bytes (not_both (rw c.in-Err.is at c.told.ensures) (not_zero c.in-Err.field-0)))
+    rw c.number.ensures (both_applied a.number a.batch.now batch-bytes (not_both (rw c.in-Err.is at c.told.ensures) (not_zero c.in-Err.refusal)))
 
 pub apply_sound-applied-requires : goal.apply_sound-applied-requires
 apply_sound-applied-requires c = told_sound c.told.ensures (ap number_told c.in_default.is)

@@ -10,7 +10,7 @@ use Rattle.index_write.proofs.Writing.{not_both, prune_refused, prune_freed, pru
 use Rattle.index_write.proofs.prune_both.Goals as goal
 
 pub returns-in-Err : goal.returns-in-Err
-returns-in-Err c = rw c.number.ensures (not_both (rw c.in-Err.is at c.told.ensures) (not_zero c.in-Err.field-0))
+returns-in-Err c = rw c.number.ensures (not_both (rw c.in-Err.is at c.told.ensures) (not_zero c.in-Err.refusal))
 
 pub prune_sound-pruned-requires : goal.prune_sound-pruned-requires
 prune_sound-pruned-requires c = told_sound c.told.ensures (ap number_told c.in_default.is)
