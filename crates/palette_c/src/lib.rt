@@ -6,9 +6,9 @@ ghost use Rattle.palette_c.specs.Export.{PaletteTold};
 ghost use Rattle.contracts.specs.Palettes.{Palettes, PalettesBy};
 ghost use Rattle.palette_c.specs.Within.{paletted_by};
 
-use fields::put_u32;
 use key_list::whole_keys;
 use palette::palette;
+use prove_told::told;
 use read_open::as_many;
 use refusal_numbers::Refusal;
 
@@ -24,13 +24,7 @@ fn palette_by(
     ensures { PaletteTold (paletted_by store.now index.now version keys.now room.old) room.old length.old result room.new length.new }
 {
     let proved = palette(store, index, version, keys, room);
-    match proved {
-        Err(refusal) => refusal.code(),
-        Ok(n) => {
-            put_u32(length, 0, n);
-            0
-        }
-    }
+    told(proved, length)
 }
 
 // The proofs for a list of keys in a version, by scans.
@@ -46,7 +40,8 @@ pub fn grants_palette(
     palette_by(store, &[], version, keys, room, length)
 }
 
-// The proofs for a list of keys in a version, by a table lent with the store (2026-05).
+// The proofs for a list of keys in a version, by a table lent with the store (2026-05). It goes like `prove_c::prove_indexed`, and is no plainer as one with
+// it: the test of the list and the call would be closures, whose clauses say again what this contract says.
 pub fn palette_indexed(
     store: &[u8],
     index: &[u32],

@@ -6,16 +6,17 @@ ghost use Rattle.prove.specs.Parts.{Gives};
 ghost use Rattle.pocket_prove.specs.Parts.{way_short, one_long, plan_outside};
 ghost use Rattle.contracts.specs.Pocket.{pocket_answer, PocketProves};
 
-use fields::put_u32;
 use pocket::POCKET_STEPS;
 use prove::give;
 use prove_paths::{Sought, Way};
 use prove_plan::plan_of;
 use prove_shape::{Plan, Shape};
+use prove_told::told;
 use read_open::open;
 use refusal_numbers::{ReadRefusal, Refusal};
 
-// Whether the neighbour that a search found, if any, has at most 32 steps.
+// Whether the neighbour that a search found, if any, has at most 32 steps. It goes like `prove_paths::neighbour_length`, with other values in each case: one
+// function over both would be handed all of them.
 fn is_short(n: Sought) -> bool
     ensures { result ≡ way_short n.way n.path }
 {
@@ -87,11 +88,5 @@ pub fn grants_pocket_prove(
     ensures { PocketProves store.now version key.now room.old length.old result room.new length.new }
 {
     let proved = pocket_prove(store, version, key, room);
-    match proved {
-        Err(refusal) => refusal.code(),
-        Ok(n) => {
-            put_u32(length, 0, n);
-            0
-        }
-    }
+    told(proved, length)
 }

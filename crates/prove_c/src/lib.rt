@@ -6,8 +6,8 @@ ghost use Rattle.prove_c.specs.Export.{ProofTold};
 ghost use Rattle.contracts.specs.Proves.{Proves, ProvesBy};
 ghost use Rattle.prove_c.specs.Within.{proved_by};
 
-use fields::put_u32;
 use prove::prove;
+use prove_told::told;
 use read_open::as_many;
 use refusal_numbers::Refusal;
 
@@ -23,13 +23,7 @@ fn prove_by(
     ensures { ProofTold (proved_by store.now index.now version key.now room.old) room.old length.old result room.new length.new }
 {
     let proved = prove(store, index, version, key, room);
-    match proved {
-        Err(refusal) => refusal.code(),
-        Ok(n) => {
-            put_u32(length, 0, n);
-            0
-        }
-    }
+    told(proved, length)
 }
 
 // The proof for a key in a version, by scans.
@@ -45,7 +39,8 @@ pub fn grants_prove(
     prove_by(store, &[], version, key, room, length)
 }
 
-// The proof for a key in a version, by a table lent with the store (2026-05).
+// The proof for a key in a version, by a table lent with the store (2026-05). It goes like `read_c::get_indexed`, and is no plainer as one with it: the
+// read would be a closure, whose clause says again what this contract says.
 pub fn prove_indexed(
     store: &[u8],
     index: &[u32],
