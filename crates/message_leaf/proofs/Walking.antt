@@ -15,16 +15,8 @@ use Rattle.terms.specs.Fields.{slice}
 use Rattle.terms.specs.Records.{Step}
 use Rattle.messages.specs.Reading.{onward, only_if, field_from, step_in, path_in}
 use Rattle.message_fields.specs.declared.Part.{Part}
-use Rattle.message_fields.specs.Standing.{Stands, part_in, step_by}
+use Rattle.message_fields.specs.Standing.{Stands, step_by}
 use Rattle.message_leaf.specs.Shown.{Stepped, steps_of, steps_from, Walks}
-
--- a field that was found, and one that wasn't
-pub stands_some : {n : ℕ} {m : Bytes} {at : ℕ} {r : Part} → Stands n m at r → r.found ≡ true →
-    field_from n (drop at m) ≡ some (slice r.from (r.to - r.from) m, drop r.to m)
-stands_some s e = s.is ∙ rw e
-
-pub stands_none : {n : ℕ} {m : Bytes} {at : ℕ} {r : Part} → Stands n m at r → r.found ≡ false → field_from n (drop at m) ≡ none
-stands_none s e = s.is ∙ rw e
 
 -- a path by its first step
 step_on : (n : ℕ) (m : Bytes) (f : Bytes × Bytes) (s : Step) → 0 < length m → field_from 4 m ≡ some f → step_in f.0 ≡ some s →
@@ -88,29 +80,29 @@ one_less : (count : ℕ) → count < 256 → 256 - count ≡ suc (256 - (count +
 one_less count h = omega arith
 
 module _ {x : Bytes} {from at count : ℕ} (w : Walking x from at count) (l : at < length x) where
-  pub walk_further : {part : Part} {s : Step} → count < 256 → Stands 4 x at part → part.found ≡ true →
+  pub walk_further : {part : Part} {s : Step} → count < 256 → Stands 4 x at (Some part) →
       step_in (slice part.from (part.to - part.from) x) ≡ some s → (v : Walking x from part.to (count + 1)) × (v.done ≡ w.done ++ (s ∷ []))
-  walk_further {part} {s} c f e k =
+  walk_further {part} {s} c f k =
       let b = slice part.from (part.to - part.from) x in
       let o = path_in (256 - (count + 1)) (drop part.to x) in
       let d = w.done_are in (
         record {
           done = w.done ++ (s ∷ []);
-          within = (f.inside e).2;
+          within = (f.inside part refl).2;
           few = omega arith;
           done_are = simp length-append (omega arith);
           is =
               w.is
               ∙ ap (λ n. onward (path_in n (drop at x)) (after w.done)) (one_less count c)
-              ∙ ap (λ p. onward p (after w.done)) (step_on (256 - (count + 1)) (drop at x) (b, drop part.to x) s (left_over x at l) (stands_some f e) k)
+              ∙ ap (λ p. onward p (after w.done)) (step_on (256 - (count + 1)) (drop at x) (b, drop part.to x) s (left_over x at l) f.is k)
               ∙ after_one o w.done s;
         },
         refl,
       )
 
-  pub walk_next : {part : Part} {s : Step} → count < 256 → Stands 4 x at part → part.found ≡ true →
+  pub walk_next : {part : Part} {s : Step} → count < 256 → Stands 4 x at (Some part) →
       step_in (slice part.from (part.to - part.from) x) ≡ some s → Walking x from part.to (count + 1)
-  walk_next c f e k = (walk_further c f e k).0
+  walk_next c f k = (walk_further c f k).0
 
   pub path_too_long : 256 ≤ count → path_in 256 (drop from x) ≡ none
   path_too_long h =
@@ -118,16 +110,16 @@ module _ {x : Bytes} {from at count : ℕ} (w : Walking x from at count) (l : at
       let z : 256 - count ≡ 0 = omega arith in
       w.is ∙ onward_none (after w.done) (path_in (256 - count) (drop at x)) (ap (λ n. path_in n (drop at x)) z ∙ too_many (drop at x) (left_over x at l))
 
-  pub path_no_field : {part : Part} → Stands 4 x at part → part.found ≡ false → path_in 256 (drop from x) ≡ none
-  path_no_field f e =
-      w.is ∙ onward_none (after w.done) (path_in (256 - count) (drop at x)) (no_field (256 - count) (drop at x) (left_over x at l) (stands_none f e))
+  pub path_no_field : Stands 4 x at None → path_in 256 (drop from x) ≡ none
+  path_no_field f =
+      w.is ∙ onward_none (after w.done) (path_in (256 - count) (drop at x)) (no_field (256 - count) (drop at x) (left_over x at l) f.is)
 
-  pub path_no_step : {part : Part} → Stands 4 x at part → part.found ≡ true → step_in (slice part.from (part.to - part.from) x) ≡ none →
+  pub path_no_step : {part : Part} → Stands 4 x at (Some part) → step_in (slice part.from (part.to - part.from) x) ≡ none →
       path_in 256 (drop from x) ≡ none
-  path_no_step {part} f e k =
+  path_no_step {part} f k =
       w.is
       ∙ onward_none (after w.done) (path_in (256 - count) (drop at x))
-      (no_step (256 - count) (drop at x) (slice part.from (part.to - part.from) x, drop part.to x) (left_over x at l) (stands_some f e) k)
+      (no_step (256 - count) (drop at x) (slice part.from (part.to - part.from) x, drop part.to x) (left_over x at l) f.is k)
 
 -- the path's end
 onward_some_is : (done : List Step) (o : Option (List Step)) → o ≡ some [] → onward o (after done) ≡ some done

@@ -1,7 +1,7 @@
 -- What an existence proof that was read from lent bytes is, beside `messages/Reading`: where its parts stand instead of
 -- the bytes themselves. No public promise reaches this file. Assumes nothing.
 use Rattle.std.specs.declared.option.Option as option
-use Rattle.std.specs.Prelude.{ℕ, ◌+◌, ◌-◌, ◌≤◌, ◌≡◌, Bool, true, false, cond, List, [], ◌∷◌, length, drop, Some, None}
+use Rattle.std.specs.Prelude.{ℕ, ◌+◌, ◌-◌, ◌≤◌, ◌≡◌, Bool, true, false, List, [], ◌∷◌, length, drop, Some, None}
 use Rattle.std.proofs.Math.Option.{Option, none, some}
 use Rattle.terms.specs.Bits.{Bytes}
 use Rattle.terms.specs.Fields.{slice, all_of}
@@ -62,19 +62,22 @@ after_head x r =
     (onward (path_in 256 (drop r.path x)) λ steps.
     some (record { key = (presence_at x r).key; value = (presence_at x r).value; steps = steps }))
 
-pub record Heads (x : Bytes) (at : ℕ) (r : Shown) : Type 0 where
-  pub is : existence_in (drop at x) ≡ cond r.found (after_head x r) none
-  pub inside : r.found ≡ true → Inside x at r
+-- What a head says, if it is one.
+abbrev pub headed_in : Bytes → option.Option Shown → Option Presence
+headed_in x None = none
+headed_in x (Some s) = after_head x s
+
+pub record Heads (x : Bytes) (at : ℕ) (r : option.Option Shown) : Type 0 where
+  pub is : existence_in (drop at x) ≡ headed_in x r
+  pub inside : (s : Shown) → r ≡ Some s → Inside x at s
+
+-- An existence proof that is shown, by its places in bytes that it ends.
+abbrev pub shown_in : Bytes → option.Option Shown → Option Presence
+shown_in x None = none
+shown_in x (Some s) = some (presence_at x s)
 
 -- An existence proof from there on to the end.
-pub record Shows (x : Bytes) (at : ℕ) (r : Shown) : Type 0 where
-  pub is : existence_in (drop at x) ≡ cond r.found (some (presence_at x r)) none
-  pub inside : r.found ≡ true → Inside x at r
-  pub count_is_lem : r.found ≡ true → length (presence_at x r).steps ≡ r.count
-
--- Nothing that was found; its places are 0.
-pub record Nothing (r : Shown) : Type 0 where
-  pub not_found : r.found ≡ false
-  pub key_0 : (r.key ≡ 0) × (r.kstop ≡ 0)
-  pub value_0 : (r.value ≡ 0) × (r.vstop ≡ 0)
-  pub count_0 : r.count ≡ 0
+pub record Shows (x : Bytes) (at : ℕ) (r : option.Option Shown) : Type 0 where
+  pub is : existence_in (drop at x) ≡ shown_in x r
+  pub inside : (s : Shown) → r ≡ Some s → Inside x at s
+  pub count_is_lem : (s : Shown) → r ≡ Some s → length (presence_at x s).steps ≡ s.count

@@ -2,8 +2,8 @@
 // inside another message is read from the bytes up to its end, so that all places are places in the whole message.
 #![tactic(auto)]
 
-ghost use Rattle.std.specs.Prelude.{◌≡◌, false, ◌&&◌, ◌-◌, ◌≤◌, length, leb};
-ghost use Rattle.message_leaf.specs.Shown.{Stepped, Walks, Heads, Shows, Nothing};
+ghost use Rattle.std.specs.Prelude.{◌≡◌, ◌&&◌, ◌-◌, ◌≤◌, length, leb};
+ghost use Rattle.message_leaf.specs.Shown.{Stepped, Walks, Heads, Shows};
 
 use message_fields::{field, inner_op};
 use place::same;
@@ -18,27 +18,12 @@ pub const MOST_VALUE: usize = 4096;
 // An existence proof: where its key and its value begin and end, where its path begins, and how many steps it has.
 #[derive(Clone, Copy)]
 pub struct Shown {
-    pub found: bool,
     pub key: usize,
     pub kstop: usize,
     pub value: usize,
     pub vstop: usize,
     pub path: usize,
     pub count: usize,
-}
-
-pub fn no_shown() -> Shown
-    ensures { Nothing result }
-{
-    Shown {
-        found: false,
-        key: 0,
-        kstop: 0,
-        value: 0,
-        vstop: 0,
-        path: 0,
-        count: 0,
-    }
 }
 
 // Whether an inner op is one of ours.
@@ -60,16 +45,11 @@ fn walk(x: &[u8], from: usize) -> Option<usize>
         if MOST_STEPS <= count {
             return None;
         }
-        let part = field(x, at, 4);
-        if !part.found {
+        let part = field(x, at, 4)?;
+        if !is_step(&x[part.from..part.to]) {
             return None;
         }
-        let start = part.from;
-        let end = part.to;
-        if !is_step(&x[start..end]) {
-            return None;
-        }
-        at = end;
+        at = part.to;
         count += 1;
     }
     Some(count)
@@ -86,68 +66,40 @@ pub fn length_right(from: usize, end: usize, most: usize) -> bool
     end - from <= most
 }
 
-// Key, value and leaf op from there on; the path is not looked at.
-fn head(x: &[u8], at: usize) -> Shown
+// Key, value and leaf op from there on; the path is not looked at, and its steps are not counted.
+fn head(x: &[u8], at: usize) -> Option<Shown>
     requires { at ≤ length x.now }
     ensures { Heads x.now at result }
 {
-    let key = field(x, at, 1);
-    if !key.found {
-        return no_shown();
-    }
-    let key_end = key.to;
-    let value = field(x, key_end, 2);
-    if !value.found {
-        return no_shown();
-    }
-    let value_end = value.to;
-    let op = field(x, value_end, 3);
-    if !op.found {
-        return no_shown();
-    }
-    let start = op.from;
-    let end = op.to;
+    let key = field(x, at, 1)?;
+    let value = field(x, key.to, 2)?;
+    let op = field(x, value.to, 3)?;
     let leaf: [u8; 9] = [8, 1, 16, 1, 24, 1, 42, 1, 1];
-    if !same(&x[start..end], &leaf) {
-        return no_shown();
+    if !same(&x[op.from..op.to], &leaf) {
+        return None;
     }
-    Shown {
-        found: true,
+    Some(Shown {
         key: key.from,
-        kstop: key_end,
+        kstop: key.to,
         value: value.from,
-        vstop: value_end,
-        path: end,
+        vstop: value.to,
+        path: op.to,
         count: 0,
-    }
+    })
 }
 
 // The existence proof from there on to the end.
-pub fn existence(x: &[u8], at: usize) -> Shown
+pub fn existence(x: &[u8], at: usize) -> Option<Shown>
     requires { at ≤ length x.now }
     ensures { Shows x.now at result }
 {
-    let h = head(x, at);
-    if !h.found {
-        return no_shown();
-    }
+    let h = head(x, at)?;
     if !length_right(h.key, h.kstop, MOST_KEY) {
-        return no_shown();
+        return None;
     }
     if !length_right(h.value, h.vstop, MOST_VALUE) {
-        return no_shown();
+        return None;
     }
-    let path = h.path;
-    let Some(count) = walk(x, path) else {
-        return no_shown();
-    };
-    Shown {
-        found: true,
-        key: h.key,
-        kstop: h.kstop,
-        value: h.value,
-        vstop: h.vstop,
-        path: path,
-        count: count,
-    }
+    let count = walk(x, h.path)?;
+    Some(Shown { count: count, ..h })
 }

@@ -1,6 +1,8 @@
 -- The steps of a path, written from their inner ops. Assumes nothing.
 use Prim.Native.Nat.{ℕ, zero, suc, ◌+◌, ◌*◌, ◌-◌, ◌<◌, ◌≤◌}
 use native.Mathlib.Omega.{arith}
+use Rattle.std.specs.declared.option.Option as option
+use Rattle.std.specs.Prelude.{Some, None, is_some}
 use mathlib.Core.Path.{◌≡◌, refl, ap, ap₂, sym, ◌∙◌, subst}
 use mathlib.Core.Bool.{Bool, true, false, cond, ◌&&◌, false≢true}
 use mathlib.Core.List.{List, [], ◌∷◌, ◌++◌, append-nil, append_assoc}
@@ -100,7 +102,6 @@ steps_after (d ∷ done) s =
 -- While steps are left, a field with a step stands there.
 pub record NextStep (x : Bytes) (from : ℕ) (part : Part) : Type 0 where
   pub inside : from < length x
-  pub found : part.found ≡ true
   pub one : (s : Step) × (step_in (slice part.from (part.to - part.from) x) ≡ some s)
 
 module _ {x : Bytes} {path from i count : ℕ} (w : Walking x path from i) (few : length (steps_from path x) ≡ count) (l : i < count) where
@@ -123,28 +124,27 @@ module _ {x : Bytes} {path from i count : ℕ} (w : Walking x path from i) (few 
       go zero z = not_none (path_too_long w is_inside (omega arith))
       go (suc k) z = omega arith
 
-  pub next_step : {part : Part} → Stands 4 x from part → NextStep x from part
+  pub field_there : (r : option.Option Part) → Stands 4 x from r → is_some r ≡ true
+  field_there None f = not_none (path_no_field w is_inside f)
+  field_there (Some part) f = refl
+
+  pub next_step : {part : Part} → Stands 4 x from (Some part) → NextStep x from part
   next_step {part} f = record {
     inside = is_inside;
-    found = found_so part.found refl;
     one = one_so (step_in (slice part.from (part.to - part.from) x)) refl;
   }
     where
-      found_so : (b : Bool) → part.found ≡ b → part.found ≡ true
-      found_so true e = e
-      found_so false e = not_none (path_no_field w is_inside f e)
-
       one_so : (o : Option Step) → step_in (slice part.from (part.to - part.from) x) ≡ o →
           (s : Step) × (step_in (slice part.from (part.to - part.from) x) ≡ some s)
-      one_so none e = not_none (path_no_step w is_inside f (found_so part.found refl) e)
+      one_so none e = not_none (path_no_step w is_inside f e)
       one_so (some s) e = (s, e)
 
-  walk_on : {part : Part} {s : Step} → Stands 4 x from part → part.found ≡ true → step_in (slice part.from (part.to - part.from) x) ≡ some s →
+  walk_on : {part : Part} {s : Step} → Stands 4 x from (Some part) → step_in (slice part.from (part.to - part.from) x) ≡ some s →
       (v : Walking x path part.to (i + 1)) × (v.done ≡ w.done ++ (s ∷ []))
-  walk_on f e k = walk_further w is_inside is_few f e k
+  walk_on f k = walk_further w is_inside is_few f k
 
 pub stepping_next : {x : Bytes} {path at from i count : ℕ} {s t u : Bytes} {part : Part} (w : Stepping x path at s t from i) (few : length (steps_from path x) ≡ count) (l : i < count)
-    (room : at + 33 * count ≤ length s) (f : Stands 4 x from part) (next : NextStep x from part) →
+    (room : at + 33 * count ≤ length s) (f : Stands 4 x from (Some part)) (next : NextStep x from part) →
     ((st : Step) → step_in (slice part.from (part.to - part.from) x) ≡ some st → u ≡ written (at + 33 * i) (digit st.side ∷ st.sibling) t) →
     Stepping x path at s u part.to (i + 1)
 stepping_next {x} {path} {at} {from} {i} {count} {s} {t} {u} {part} w few l room f next put =
@@ -153,7 +153,7 @@ stepping_next {x} {path} {at} {from} {i} {count} {s} {t} {u} {part} w few l room
     let n = length_sibling (sided _ st k) in
     let bytes = digit st.side ∷ st.sibling in
     let j = w.long in
-    let v = walk_on w.walked few l f next.found k in
+    let v = walk_on w.walked few l f k in
     let all : steps_bytes v.0.done ≡ steps_bytes w.walked.done ++ bytes = ap steps_bytes v.1 ∙ steps_after w.walked.done st in
     record {
       walked = v.0;

@@ -1,7 +1,7 @@
 // A varint where it stands in the bytes of a message, document 02, request 2026-02. Any bytes may be handed in.
 #![tactic(auto)]
 
-ghost use Rattle.std.specs.Prelude.{◌≡◌, ◌<◌, ◌≤◌, length};
+ghost use Rattle.std.specs.Prelude.{◌≤◌, length};
 ghost use Rattle.message_varint.specs.Numbers.{Reads};
 
 // A varint that was read: its number, and where the bytes after it begin.
@@ -9,12 +9,6 @@ ghost use Rattle.message_varint.specs.Numbers.{Reads};
 pub struct Number {
     pub value: usize,
     pub next: usize,
-}
-
-fn wide(x: u8) -> usize
-    ensures { (result ≡ x) × (result < 256) }
-{
-    x as usize
 }
 
 // A varint of at most that many bytes more than one: seven bits a byte, the lowest first.
@@ -26,7 +20,7 @@ fn read(m: &[u8], at: usize, more: usize) -> Option<Number>
     if m.len() <= at {
         return None;
     }
-    let b = wide(m[at]);
+    let b = usize::from(m[at]);
     if b < 128 {
         return Some(Number {
             value: b,
