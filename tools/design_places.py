@@ -97,7 +97,7 @@ def point1(files):
             if re.search(r"\b(found|there|leaf): bool", m.group(2)) and m.group(2).count(":") > 1:
                 yield "flag-with-value", name, m.group(1)
         for line in text.split("\n"):
-            if re.search(rf"\b({CONSTANTS})\b", line) and not re.match(r"\s*(use|pub use)\b", line):
+            if re.search(rf"\b({CONSTANTS})\b|\bRefusal::\w+\.number\(\)", line) and not re.match(r"\s*(use|pub use)\b", line):
                 yield "refusal-number", name, line.strip()
             if re.search(r"\bkind: u(8|16|32|64)\b", line):
                 yield "number-for-kind", name, line.strip()

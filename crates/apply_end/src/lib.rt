@@ -13,7 +13,6 @@ use apply_guess::find_near;
 use apply_outcome::Change;
 use apply_place::Node;
 use hash::Hash;
-use lookup::Found;
 use place::Place;
 use store_put::put_retired_at;
 use terms::Form;
@@ -89,7 +88,7 @@ fn mark_node(
     if !writes {
         return;
     }
-    let Found::At(i) = find_near(store, guesses, version, place) else {
+    let Some(i) = find_near(store, guesses, version, place) else {
         return;
     };
     put_retired_at(Form::Counted, store, i, since);

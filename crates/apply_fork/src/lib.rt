@@ -20,18 +20,8 @@ fn leaves_of(node: Node) -> u32
 {
     match node {
         Node::Nothing => 0,
-        Node::Leaf {
-            version: _,
-            key: _,
-            value: _,
-        } => 1,
-        Node::Inner {
-            version: _,
-            left: _,
-            right: _,
-            lefts,
-            rights,
-        } => lefts + rights,
+        Node::Leaf { .. } => 1,
+        Node::Inner { lefts, rights, .. } => lefts + rights,
     }
 }
 

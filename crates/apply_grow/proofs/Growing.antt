@@ -52,7 +52,8 @@ use Rattle.apply_outcome.proofs.Forms.{given_form}
 use Rattle.apply_outcome.proofs.Forking.{mark_nothing, nothing_marked}
 use Rattle.apply_fork.specs.Fork.{Forks, Forked}
 use Rattle.apply_fork.proofs.Forked.{fork_did}
-use Rattle.apply_inserts.specs.declared.Stays as declared-stays
+use Rattle.std.specs.declared.option.Option as option
+use Rattle.apply_inserts.specs.declared.Grant as declared-grant
 use Rattle.apply_inserts.specs.declared.Few as declared-few
 use Rattle.apply_inserts.specs.declared.Few.TheVariants.{Nothing, One, Several}
 use Rattle.apply_inserts.specs.Inserts.{stays_says, stays_at, FewSays, StaysAt}
@@ -138,7 +139,7 @@ no_top w (N.Leaf v k x) t e h = let z : ◌≡◌ {A = ℕ} 0 1 = cc in absurd (
 no_top w (N.Inner v l r m n) t e (a, b, i, x, y, j) = let z : ◌≡◌ {A = ℕ} 0 1 = cc in absurd (omega arith)
 
 -- a place where a subtree grows, and the outcome there
-module _ {new : ℕ} {writes : Bool} {from : ℕ} {s : Bytes} {p : place.Place} {leaf : declared-stays.Stays} {part : Bytes}
+module _ {new : ℕ} {writes : Bool} {from : ℕ} {s : Bytes} {p : place.Place} {leaf : option.Option declared-grant.Grant} {part : Bytes}
     (w : Grows new writes from s p leaf part) where
   -- the leaf that stays there
   abbrev here : Option Grant
@@ -184,7 +185,7 @@ module _ {new : ℕ} {writes : Bool} {from : ℕ} {s : Bytes} {p : place.Place} 
       k ∙ ap node_child (sym (no_top writes r.node grows.node t h))
 
   -- the grants, by the case of what was found
-  pub few_is : (o : declared-stays.Stays) {f g : declared-few.Few} → stays_says o ≡ here → f ≡ g → FewSays f (step.to_grow (stays_says o) (asks part)) →
+  pub few_is : (o : option.Option declared-grant.Grant) {f g : declared-few.Few} → stays_says o ≡ here → f ≡ g → FewSays f (step.to_grow (stays_says o) (asks part)) →
       FewSays g (step.to_grow here (asks part))
   few_is o i e h = subst₂ (λ x y. FewSays x (step.to_grow y (asks part))) e i h
 
@@ -225,7 +226,7 @@ module _ {new : ℕ} {writes : Bool} {from : ℕ} {s : Bytes} {p : place.Place} 
           (subst (λ gs. 1 < length gs) (sym f.3) (omega arith)))
 
 -- on a side of it
-module _ {new : ℕ} {writes : Bool} {from : ℕ} {s : Bytes} {p : place.Place} {leaf : declared-stays.Stays} {part : Bytes}
+module _ {new : ℕ} {writes : Bool} {from : ℕ} {s : Bytes} {p : place.Place} {leaf : option.Option declared-grant.Grant} {part : Bytes}
     (w : Grows new writes from s p leaf part) where
   module _ (b : Side) (h : p.count < 256) {r : place.Place} {part' : Bytes} (g : Grown b p r) (f : part' ≡ run_of b p.count part) where
     its_count : p.count ≡ length (place_of p)

@@ -13,7 +13,7 @@ ghost use Rattle.apply_inserts.specs.Inserts.{stays_says, stays_at};
 ghost use Rattle.apply_grow.specs.Growing.{Grows};
 
 use apply_fork::fork;
-use apply_inserts::{Few, Stays, stays_at, to_grow};
+use apply_inserts::{Few, Grant, stays_at, to_grow};
 use apply_outcome::{Change, Outcome, child_of};
 use apply_place::Node;
 use batch_runs::{left_run, right_run};
@@ -56,7 +56,7 @@ pub fn grow(
     new: u32,
     from: usize,
     place: Place,
-    stays: Stays,
+    stays: Option<Grant>,
     run: &[u8],
 ) -> Outcome
     requires { Grows new writes from store.old place stays run.now }

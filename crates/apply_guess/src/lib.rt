@@ -10,7 +10,7 @@ ghost use Rattle.apply_place.specs.Placing.{Stored};
 ghost use Rattle.apply_guess.specs.Guess.{Once};
 
 use guess::{holds, spread};
-use lookup::{Found, find};
+use lookup::find;
 use place::Place;
 use slots::bits_of;
 use store::{count_at, retired_at, slot_count, slot_of, version_at, wide};
@@ -31,13 +31,11 @@ fn start_of(version: u32, count: usize, bits: &[u8]) -> usize
 fn keep(guesses: &mut [u16; 8192], b: usize, slot: u16)
     requires { b + 4 ≤ 8192 }
 {
-    let mut j = 0;
-    while j < TOGETHER {
-        if guesses[b + j] == 0 {
-            guesses[b + j] = slot;
+    for guess in &mut guesses[b..b + TOGETHER] {
+        if *guess == 0 {
+            *guess = slot;
             return;
         }
-        j += 1;
     }
 }
 
@@ -46,8 +44,7 @@ pub fn guess_all(store: &[u8], guesses: &mut [u16; 8192])
     requires { Stored store.now }
 {
     let n = slot_count(Form::Counted, store);
-    let mut i = 0;
-    while i < n {
+    for i in 0..n {
         let version = version_at(Form::Counted, store, i);
         if version != 0 && retired_at(Form::Counted, store, i) == 0 {
             let count = count_at(Form::Counted, store, i) as usize;
@@ -57,27 +54,24 @@ pub fn guess_all(store: &[u8], guesses: &mut [u16; 8192])
                 i as u16,
             );
         }
-        i += 1;
     }
 }
 
 // The slot of the node (version, place), which is there once at most: a guess that is right, or what a search finds; version 0 is no node.
-pub fn find_near(store: &[u8], guesses: &[u16; 8192], version: u32, place: Place) -> Found
+pub fn find_near(store: &[u8], guesses: &[u16; 8192], version: u32, place: Place) -> Option<usize>
     requires { Once store.now version place }
     ensures { FoundIn (store_of store.now).slots version (place_of place) result }
 {
     if version == 0 {
-        return Found::Nothing;
+        return None;
     }
     let bits = place.bits;
     let b = start_of(version, place.count, &bits);
-    let mut j = 0;
-    while j < TOGETHER {
-        let i = wide(guesses[b + j]);
+    for guess in &guesses[b..b + TOGETHER] {
+        let i = wide(*guess);
         if holds(store, i, version, place) {
-            return Found::At(i);
+            return Some(i);
         }
-        j += 1;
     }
     find(Form::Counted, store, version, place)
 }

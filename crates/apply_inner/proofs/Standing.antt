@@ -22,7 +22,7 @@ use Rattle.place.specs.Place.{place_of, Proper}
 use Rattle.place.proofs.Places.{proper_count}
 use Rattle.layout.specs.Slots.{SlotForm}
 use Rattle.layout.specs.Stores.{store_of}
-use Rattle.lookup.specs.declared.Found.TheVariants as F
+use Rattle.std.specs.Prelude.{Some}
 use Rattle.lookup.specs.Lookup.{FoundIn}
 use Rattle.steps.specs.Step as step
 use Rattle.steps.specs.Given.{Older}
@@ -85,7 +85,7 @@ used_within (x ∷ s) zero r u = omega arith
 used_within (x ∷ s) (suc i) r u = let l = used_within s i r u in omega arith
 
 pub found_after : (new : ℕ) (o : step.Outcome) (w : Bool) {s s' : Bytes} → Changed (when_writes w (written new o)) s s' → (v : ℕ) (p : Place) (i : ℕ) →
-    Single v p (store_of s').slots → FoundIn (store_of s).slots v p (F.At i) → FoundIn (store_of s').slots v p (F.At i)
+    Single v p (store_of s').slots → FoundIn (store_of s).slots v p (Some i) → FoundIn (store_of s').slots v p (Some i)
 found_after new o true {s} {s'} c v p i once (l, (r, u, f)) =
     let (q, k, same) = written_slot new o (store_of s).slots i r u in
     let g : get_or (store_of s').slots i free ≡ used q = ap (λ xs. get_or xs i free) (changed_slots c) ∙ k in
@@ -93,7 +93,7 @@ found_after new o true {s} {s'} c v p i once (l, (r, u, f)) =
     (used_within (store_of s').slots i q g, (q, g, single_finds 0 v p (store_of s').slots i q once g n))
 found_after new o false c v p i once f = rw (changed_slots c) f
 
-pub found_version : (s : Bytes) (v : ℕ) (p : Place) (i : ℕ) → FoundIn (store_of s).slots v p (F.At i) → version_in s i ≡ v
+pub found_version : (s : Bytes) (v : ℕ) (p : Place) (i : ℕ) → FoundIn (store_of s).slots v p (Some i) → version_in s i ≡ v
 found_version s v p i (l, (r, u, f)) = ap version_of u ∙ (is_node_eq v p r (found_node 0 v p (store_of s).slots r f)).0
 
 -- the tree that stands where a record says a child is what is read there

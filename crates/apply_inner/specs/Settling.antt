@@ -1,6 +1,6 @@
 -- Document 01, 'The tree of a set of grants' and 'Retirement': what becomes of an inner node by the outcomes at its
 -- children, in the values of the code. Assumes nothing.
-use Rattle.std.specs.Prelude.{ℕ, ◌<◌, ◌≤◌, ◌≡◌, Bool, true, false, cond, ◌++◌}
+use Rattle.std.specs.Prelude.{ℕ, ◌<◌, ◌≤◌, ◌≡◌, Bool, true, false, cond, ◌++◌, Some}
 use Rattle.terms.specs.Bits.{Bytes, Place, All, longer, left, right}
 use Rattle.terms.specs.Form.{RecordForm, top32}
 use Rattle.hash.specs.declared.Hash.{Hash}
@@ -8,7 +8,6 @@ use Rattle.place.specs.declared.Place as place
 use Rattle.place.specs.Place.{place_of}
 use Rattle.layout.specs.Stores.{store_of}
 use Rattle.slots.specs.declared.Child as child
-use Rattle.lookup.specs.declared.Found.TheVariants as F
 use Rattle.lookup.specs.Lookup.{FoundIn}
 use Rattle.steps.specs.Given.{Older}
 use Rattle.steps.specs.Writing.{mark}
@@ -95,7 +94,7 @@ SettledTo Unchanged new writes s s' p v lchild rchild i j l r o =
 pub record Settles (new since : ℕ) (writes : Bool) (s : Bytes) (p : place.Place) (slot : ℕ) (l r : declared.Outcome) :
     Type 0 where
   pub standing : Standing s p (version_in s slot)
-  pub there : FoundIn (store_of s).slots (version_in s slot) (place_of p) (F.At slot)
+  pub there : FoundIn (store_of s).slots (version_in s slot) (place_of p) (Some slot)
   pub short : p.count < 256
   pub inner : is_inner (tree_here s p (version_in s slot)) ≡ true
   pub number : 1 ≤ new

@@ -14,8 +14,9 @@ use Rattle.batch.specs.Batch.{count, asks}
 use Rattle.batch.specs.Records.{ask_at, ask_value, inserts}
 use Rattle.batch.proofs.Records.{asks_from, length_asks, length_key}
 use Rattle.steps.specs.Step as step
-use Rattle.apply_inserts.specs.declared.Stays as declared-stays
-use Rattle.apply_inserts.specs.declared.Stays.TheVariants as S
+use Rattle.std.specs.declared.option.Option as option
+use Rattle.std.specs.Prelude.{Some, None}
+use Rattle.apply_inserts.specs.declared.Grant as declared-grant
 use Rattle.apply_inserts.specs.declared.Few as declared-few
 use Rattle.apply_inserts.specs.declared.Few.TheVariants.{Nothing, One, Several}
 use Rattle.apply_inserts.specs.Inserts.{stays_says, FewSays, NextInsert}
@@ -49,10 +50,11 @@ module _ {run : Bytes} {from n i : ℕ} (w : Passing run from n i) where
   pub stop_here : i < n → inserts (ask_at i run) ≡ true → NextInsert run from i
   stop_here l e = record { after = w.after; within = omega (arith, w.many); passed = w.passed; here = λ h. e }
 
-  pub stop_at_end : n ≤ i → NextInsert run from i
+  pub stop_at_end : n ≤ i → NextInsert run from n
   stop_at_end l =
       let m = w.within in
-      record { after = w.after; within = omega (arith, w.many); passed = w.passed; here = λ h. absurd (omega (arith, w.many)) }
+      let e : i ≡ n = omega arith in
+      subst (NextInsert run from) e (record { after = w.after; within = omega (arith, w.many); passed = w.passed; here = λ h. absurd (omega (arith, w.many)) })
 
 module _ {run : Bytes} {from r : ℕ} (w : NextInsert run from r) where
   -- none is left
@@ -81,29 +83,29 @@ one_says run i g k x l h e n p q = go (ask_at i run) h e (length_key i run l)
     go (delete y) t f m = absurd (false≢true t)
 
 -- the grants of a subtree that grows, by the leaf that stays and the next inserts
-module _ (stays : declared-stays.Stays) (run : Bytes) {i : ℕ} (w : NextInsert run 0 i) where
+module _ (stays : option.Option declared-grant.Grant) (run : Bytes) {i : ℕ} (w : NextInsert run 0 i) where
   abbrev gs : List Grant
   gs = step.to_grow (stays_says stays) (asks run)
 
-  pub no_grants : stays ≡ S.Nothing → count run ≤ i → FewSays Nothing gs
+  pub no_grants : stays ≡ None → count run ≤ i → FewSays Nothing gs
   no_grants e l = rw e (none_left w l)
 
-  pub two_inserts : stays ≡ S.Nothing → i < count run → {j : ℕ} → NextInsert run (i + 1) j → j < count run → FewSays Several gs
+  pub two_inserts : stays ≡ None → i < count run → {j : ℕ} → NextInsert run (i + 1) j → j < count run → FewSays Several gs
   two_inserts e l {j} v m =
       let f = one_then w l in
       let h = one_then v m in
       (f.0, h.0, step.inserts (drop (j + 1) (asks run)), rw e (f.1 ∙ ap (f.0 ∷◌) h.1))
 
-  pub one_insert_only : (r : declared-few.Few) → stays ≡ S.Nothing → i < count run → {j : ℕ} → NextInsert run (i + 1) j → count run ≤ j →
+  pub one_insert_only : (r : declared-few.Few) → stays ≡ None → i < count run → {j : ℕ} → NextInsert run (i + 1) j → count run ≤ j →
       FewSays r (step.inserts (ask_at i run ∷ [])) → FewSays r gs
   one_insert_only r e l v m h =
       let f = one_then w l in
       subst (FewSays r) (f.2 ∙ sym (ap (λ q. step.to_grow (stays_says q) (asks run)) e ∙ f.1 ∙ ap (f.0 ∷◌) (none_left v m))) h
 
-  pub leaf_and_insert : {k x : Hash} → stays ≡ S.Grant k x → i < count run → FewSays Several gs
-  leaf_and_insert {k} {x} e l =
+  pub leaf_and_insert : {g : declared-grant.Grant} → stays ≡ Some g → i < count run → FewSays Several gs
+  leaf_and_insert {g} e l =
       let f = one_then w l in
-      (grant (hash_bytes k) (hash_bytes x), f.0, step.inserts (drop (i + 1) (asks run)), rw e (ap (grant (hash_bytes k) (hash_bytes x) ∷◌) f.1))
+      (grant (hash_bytes g.key) (hash_bytes g.value), f.0, step.inserts (drop (i + 1) (asks run)), rw e (ap (grant (hash_bytes g.key) (hash_bytes g.value) ∷◌) f.1))
 
-  pub leaf_only : {k x : Hash} → stays ≡ S.Grant k x → count run ≤ i → FewSays (One k x) gs
-  leaf_only {k} {x} e l = rw e (ap (grant (hash_bytes k) (hash_bytes x) ∷◌) (none_left w l))
+  pub leaf_only : {g : declared-grant.Grant} → stays ≡ Some g → count run ≤ i → FewSays (One g.key g.value) gs
+  leaf_only {g} e l = rw e (ap (grant (hash_bytes g.key) (hash_bytes g.value) ∷◌) (none_left w l))

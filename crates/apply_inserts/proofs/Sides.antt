@@ -11,36 +11,27 @@ use Rattle.terms.specs.Records.{Grant, grant, Ask}
 use Rattle.terms.proofs.Lists.{all_filter}
 use Rattle.terms.proofs.Places.{begins_longer}
 use Rattle.meaning.specs.Runs.{asks_for, run}
-use Rattle.hash.specs.declared.Hash.{Hash}
 use Rattle.hash.specs.Hash.{hash_bytes}
 use Rattle.hash.proofs.Laws.{hash_whole}
 use Rattle.steps.specs.Step as step
-use Rattle.apply_inserts.specs.declared.Stays as declared-stays
-use Rattle.apply_inserts.specs.declared.Stays.TheVariants.{Nothing, Grant as Leaf}
+use Rattle.std.specs.declared.option.Option as option
+use Rattle.std.specs.Prelude.{Some, None}
+use Rattle.apply_inserts.specs.declared.Grant as declared-grant
 use Rattle.apply_inserts.specs.Inserts.{stays_says, stays_at, StaysAt}
 
--- by what is found
-module _ (stays : declared-stays.Stays) (p : Place) where
-  pub no_leaf_lem : stays ≡ Nothing → stays_says Nothing ≡ stays_at p (stays_says stays)
-  no_leaf_lem e = rw e
-
-  pub leaf_here : {k x : Hash} → stays ≡ Leaf k x → begins p (hash_bytes k) ≡ true → stays_says (Leaf k x) ≡ stays_at p (stays_says stays)
-  leaf_here e f = rw (e, f)
-
-  pub leaf_elsewhere : {k x : Hash} → stays ≡ Leaf k x → begins p (hash_bytes k) ≡ false → stays_says Nothing ≡ stays_at p (stays_says stays)
-  leaf_elsewhere e f = rw (e, f)
-
 -- on a side of a place it stays as it does there
-pub stays_longer : (b : Side) (p : Place) (stays : declared-stays.Stays) → length p < 256 →
+pub stays_longer : (b : Side) (p : Place) (stays : option.Option declared-grant.Grant) → length p < 256 →
     stays_at (longer b p) (stays_says stays) ≡ step.leaf_on (length p) b (stays_at p (stays_says stays))
-stays_longer b p Nothing l = refl
-stays_longer b p (Leaf k x) l =
-    let g : Grant = grant (hash_bytes k) (hash_bytes x) in
-    ap (λ t. cond t (some g) none) (begins_longer b p (hash_bytes k) (omega (arith, (hash_whole k).0))) ∙ go (begins p (hash_bytes k))
+stays_longer b p None l = refl
+stays_longer b p (Some g) l =
+    ap (λ t. cond t (some leaf) none) (begins_longer b p (hash_bytes g.key) (omega (arith, (hash_whole g.key).0))) ∙ go (begins p (hash_bytes g.key))
   where
+    leaf : Grant
+    leaf = grant (hash_bytes g.key) (hash_bytes g.value)
+
     go : (t : Bool) →
-        cond (t && beq b (bit (length p) (hash_bytes k))) (some (grant (hash_bytes k) (hash_bytes x))) none
-        ≡ step.leaf_on (length p) b (cond t (some (grant (hash_bytes k) (hash_bytes x))) none)
+        cond (t && beq b (bit (length p) (hash_bytes g.key))) (some leaf) none
+        ≡ step.leaf_on (length p) b (cond t (some leaf) none)
     go true = refl
     go false = refl
 

@@ -1,6 +1,7 @@
 -- Document 01, 'The tree of a set of grants': 'a run of inserts with no node there grows a subtree; at a leaf, with the
 -- leaf if it stays'. What the values of the code say, case by case. Assumes nothing.
-use Rattle.std.specs.Prelude.{ℕ, ◌<◌, ◌≤◌, ◌≡◌, true, false, cond, List, [], ◌∷◌, drop}
+use Rattle.std.specs.declared.option.Option as option
+use Rattle.std.specs.Prelude.{Some, None, ℕ, ◌<◌, ◌≤◌, ◌≡◌, true, false, cond, List, [], ◌∷◌, drop}
 use Rattle.std.proofs.Math.Option.{Option, none, some}
 use Rattle.terms.specs.Bits.{Bytes, Place, All, begins, same_bytes}
 use Rattle.terms.specs.Records.{Grant, grant, Ask, ask_key}
@@ -9,15 +10,14 @@ use Rattle.hash.specs.Hash.{hash_bytes}
 use Rattle.batch.specs.Batch.{count, asks}
 use Rattle.batch.specs.Records.{ask_at, inserts}
 use Rattle.steps.specs.Step as step
-use Rattle.apply_inserts.specs.declared.Stays as declared-stays
-use Rattle.apply_inserts.specs.declared.Stays.TheVariants as S
+use Rattle.apply_inserts.specs.declared.Grant as declared-grant
 use Rattle.apply_inserts.specs.declared.Few as declared-few
 use Rattle.apply_inserts.specs.declared.Few.TheVariants.{Nothing, One, Several}
 
 -- The leaf that stays.
-abbrev pub stays_says : declared-stays.Stays → Option Grant
-stays_says S.Nothing = none
-stays_says (S.Grant k x) = some (grant (hash_bytes k) (hash_bytes x))
+abbrev pub stays_says : option.Option declared-grant.Grant → Option Grant
+stays_says None = none
+stays_says (Some g) = some (grant (hash_bytes g.key) (hash_bytes g.value))
 
 -- It stays at a place on its way.
 abbrev pub stays_at : Place → Option Grant → Option Grant

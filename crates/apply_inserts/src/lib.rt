@@ -15,11 +15,11 @@ use batch_form::is_insert;
 use hash::{Hash, hash_at, put_hash};
 use place::{Place, begins};
 
-// The leaf that stays, by its grant.
+// A key and its value, as a leaf that stays has them.
 #[derive(Clone, Copy)]
-pub enum Stays {
-    Nothing,
-    Grant { key: Hash, value: Hash },
+pub struct Grant {
+    pub key: Hash,
+    pub value: Hash,
 }
 
 // The grants of a subtree that grows: none, one, or two or more.
@@ -36,14 +36,12 @@ fn next_insert(run: &[u8], from: usize) -> usize
     ensures { NextInsert run.now from result }
 {
     let n = record_count(run);
-    let mut i = from;
-    while i < n {
+    for i in from..n {
         if is_insert(run, i) {
             return i;
         }
-        i += 1;
     }
-    i
+    n
 }
 
 // The grant of an insert.
@@ -58,13 +56,13 @@ fn one_insert(run: &[u8], i: usize) -> Few
 }
 
 // The inserts of a run, and the leaf if one stays.
-pub fn to_grow(stays: Stays, run: &[u8]) -> Few
+pub fn to_grow(stays: Option<Grant>, run: &[u8]) -> Few
     ensures { FewSays result (step.to_grow (stays_says stays) (asks run.now)) }
 {
     let n = record_count(run);
     let i = next_insert(run, 0);
     match stays {
-        Stays::Nothing => {
+        None => {
             if n <= i {
                 return Few::Nothing;
             }
@@ -73,7 +71,7 @@ pub fn to_grow(stays: Stays, run: &[u8]) -> Few
             }
             one_insert(run, i)
         }
-        Stays::Grant { key, value } => {
+        Some(Grant { key, value }) => {
             if i < n {
                 return Few::Several;
             }
@@ -93,15 +91,9 @@ fn hash_begins(h: Hash, place: Place) -> bool
 }
 
 // The leaf that stays, where the place is on its way.
-pub fn stays_at(stays: Stays, place: Place) -> Stays
+pub fn stays_at(stays: Option<Grant>, place: Place) -> Option<Grant>
     requires { Proper place }
     ensures { stays_says result ≡ stays_at (place_of place) (stays_says stays) }
 {
-    let Stays::Grant { key, value: _ } = stays else {
-        return Stays::Nothing;
-    };
-    if hash_begins(key, place) {
-        return stays;
-    }
-    Stays::Nothing
+    stays.filter(|leaf| hash_begins(leaf.key, place))
 }

@@ -27,8 +27,9 @@ use Rattle.apply_place.specs.Reach.{Reaches}
 use Rattle.apply_place.proofs.Reaching.{reaches_none}
 use Rattle.apply_outcome.specs.declared.Outcome as declared
 use Rattle.apply_outcome.specs.Outcomes.{Did}
-use Rattle.apply_inserts.specs.declared.Stays as stays
-use Rattle.apply_inserts.specs.declared.Stays.TheVariants as S
+use Rattle.std.specs.declared.option.Option as option
+use Rattle.std.specs.Prelude.{Some, None}
+use Rattle.apply_inserts.specs.declared.Grant as declared-grant
 use Rattle.apply_inserts.specs.Inserts.{stays_says, stays_at, StaysAt}
 use Rattle.apply_grow.specs.Growing.{Grows}
 use Rattle.apply_grow.proofs.Growing.{written_nothing}
@@ -49,10 +50,10 @@ written_none w new o {s} e f h =
     subst (λ z. Changed (when_writes w (written new z)) s s) n (written_nothing w new o.change o.node h)
 
 -- what stays beside inserts
-pub stays_none : (f : own.Own) (k x : Hash) → f ≡ Nothing → S.Grant k x ≡ staying_says f k x
+pub stays_none : (f : own.Own) (k x : Hash) → f ≡ Nothing → Some (record { key = k; value = x }) ≡ staying_says f k x
 stays_none f k x e = rw e refl
 
-pub stays_not : (f : own.Own) (k x : Hash) → OneOf (1 ∷ 2 ∷ []) (tag_of own-type.the_type f) → S.Nothing ≡ staying_says f k x
+pub stays_not : (f : own.Own) (k x : Hash) → OneOf (1 ∷ 2 ∷ []) (tag_of own-type.the_type f) → None ≡ staying_says f k x
 stays_not Nothing k x o = absurd (⊎_elim (λ e. omega arith) (λ e. omega arith) o)
 stays_not (Insert y) k x o = refl
 stays_not Delete k x o = refl
@@ -96,7 +97,7 @@ module _ {new : ℕ} {writes : Bool} {from : ℕ} {s : Bytes} {p : place.Place} 
   grows_with Delete o = record { stored = w.stored; starts = w.starts; number = w.number; proper = w.proper; run = w.run; stays = tt }
 
   -- the leaf stays beside inserts, or it does not
-  pub may_grow : (f : own.Own) {z : stays.Stays} → z ≡ staying_says f key value → OwnSays f asked → Grows new writes from s p z part
+  pub may_grow : (f : own.Own) {z : option.Option declared-grant.Grant} → z ≡ staying_says f key value → OwnSays f asked → Grows new writes from s p z part
   may_grow f e o = subst (λ z. Grows new writes from s p z part) (sym e) (grows_with f o)
 
   module _ (v : ℕ) where
@@ -112,7 +113,7 @@ module _ {new : ℕ} {writes : Bool} {from : ℕ} {s : Bytes} {p : place.Place} 
     as_grown (Insert y) o m = by_instead new v g grown asked others (insert o.0 (hash_bytes y)) o.1 m
     as_grown Delete o m = by_instead new v g grown asked others (delete o.0) o.1 m
 
-    pub grown_did : (f : own.Own) {z : stays.Stays} {t : Bool} {s' : Bytes} {r : declared.Outcome} → z ≡ staying_says f key value → OwnSays f asked →
+    pub grown_did : (f : own.Own) {z : option.Option declared-grant.Grant} {t : Bool} {s' : Bytes} {r : declared.Outcome} → z ≡ staying_says f key value → OwnSays f asked →
         t ≡ is_more others → t ≡ true → Did new writes from s s' (grown (stays_at (place_of p) (stays_says z))) r → Did new writes from s s' stepped r
     grown_did f {z} {s' = s'} {r = r} e o m t d =
         subst (λ c. Did new writes from s s' c r) (ap (λ u. grown (stays_at (place_of p) (stays_says u))) e ∙ as_grown f o (sym m ∙ t)) d

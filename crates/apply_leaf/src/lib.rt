@@ -16,7 +16,7 @@ ghost use Rattle.apply_leaf.specs.Leaf.{is_more, staying_says, AtLeaf};
 
 use apply_alone::{Own, alone};
 use apply_grow::grow;
-use apply_inserts::Stays;
+use apply_inserts::Grant;
 use apply_outcome::Outcome;
 use batch::{grant, record_count};
 use batch_form::is_insert;
@@ -36,8 +36,7 @@ fn own_ask(run: &[u8], key: Hash) -> Own
     ensures { OwnSays result (step.own_ask (hash_bytes key) (asks run.now)) }
 {
     let n = record_count(run);
-    let mut i = 0;
-    while i < n {
+    for i in 0..n {
         if asks_for(run, i, key) {
             if is_insert(run, i) {
                 let g = grant(run, i);
@@ -47,7 +46,6 @@ fn own_ask(run: &[u8], key: Hash) -> Own
             }
             return Own::Delete;
         }
-        i += 1;
     }
     Own::Nothing
 }
@@ -57,28 +55,22 @@ fn inserts_more(run: &[u8], key: Hash) -> bool
     ensures { result ≡ is_more (step.other_inserts (hash_bytes key) (asks run.now)) }
 {
     let n = record_count(run);
-    let mut i = 0;
-    while i < n {
-        if !is_insert(run, i) {
-            i += 1;
-            continue;
-        }
-        if !asks_for(run, i, key) {
+    for i in 0..n {
+        if is_insert(run, i) && !asks_for(run, i, key) {
             return true;
         }
-        i += 1;
     }
     false
 }
 
 // The leaf that stays beside inserts: one whose key nothing is asked for.
-fn staying(own: Own, key: Hash, value: Hash) -> Stays
+fn staying(own: Own, key: Hash, value: Hash) -> Option<Grant>
     ensures { result ≡ staying_says own key value }
 {
     let Own::Nothing = own else {
-        return Stays::Nothing;
+        return None;
     };
-    Stays::Grant { key, value }
+    Some(Grant { key, value })
 }
 
 // The step at a leaf (version, place) with its grant.

@@ -9,17 +9,17 @@ use Rattle.terms.specs.Bits.{Place}
 use Rattle.terms.specs.Records.{Record, Slot, free, used, spoiled}
 use Rattle.meaning.specs.Store.{find, is_node, marked}
 use Rattle.meaning.proofs.Finding.{free_used, spoiled_used, used_eq, Hit, hit, hits}
-use Rattle.lookup.specs.declared.Found as declared
-use Rattle.lookup.specs.declared.Found.TheVariants.{At, Nothing}
+use Rattle.std.specs.declared.option.Option as option
+use Rattle.std.specs.Prelude.{Some, None}
 use Rattle.lookup.specs.Lookup.{FoundIn}
 use Rattle.steps.specs.Writing.{mark_in, mark}
 use Rattle.apply_place.specs.Placing.{Single, node_at}
 
 -- what was found, by its case
-pub found_none : (v : ℕ) (p : Place) (s : List Slot) {o : declared.Found} → o ≡ Nothing → FoundIn s v p o → find v p s ≡ none
+pub found_none : (v : ℕ) (p : Place) (s : List Slot) {o : option.Option ℕ} → o ≡ None → FoundIn s v p o → find v p s ≡ none
 found_none v p s e f = subst (FoundIn s v p) e f
 
-pub found_at : (v : ℕ) (p : Place) (s : List Slot) {o : declared.Found} {i : ℕ} → o ≡ At i → FoundIn s v p o →
+pub found_at : (v : ℕ) (p : Place) (s : List Slot) {o : option.Option ℕ} {i : ℕ} → o ≡ Some i → FoundIn s v p o →
     (i < length s) × ((r : Record) × (get_or s i free ≡ used r) × (find v p s ≡ some r))
 found_at v p s e f = subst (FoundIn s v p) e f
 

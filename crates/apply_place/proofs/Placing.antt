@@ -24,8 +24,8 @@ use Rattle.store.proofs.Slots.{slot_is}
 use Rattle.store.proofs.Scans.{Scan, Each, scan_many, scan_slot, scan_inside, each_from, each_passed, each_next}
 use Rattle.slots.specs.declared.Child as child
 use Rattle.slots.specs.Answer.{child_says, grant_body}
-use Rattle.lookup.specs.declared.Found as found
-use Rattle.lookup.specs.declared.Found.TheVariants.{At, Nothing}
+use Rattle.std.specs.declared.option.Option as option
+use Rattle.std.specs.Prelude.{Some, None}
 use Rattle.apply_place.specs.declared.Node as declared
 use Rattle.apply_place.specs.declared.Node.TheVariants.{Nothing as none, Leaf, Inner}
 use Rattle.apply_place.specs.Placing.{Stored, Changed, NoneFree, Lowest, FreeIn, record_says}
@@ -80,7 +80,7 @@ module _ {s : Bytes} {n i : ℕ} (w : Passed s n i) where
     pub one_more : all_zero (slot_in counted i s) ≡ false → Passed s n (i + 1)
     one_more e = each_next NotFree w l (λ k. true≢false (sym (free_zero (slot_in counted i s) (sym slot_here ∙ k)) ∙ e))
 
-    pub free_here : all_zero (slot_in counted i s) ≡ true → FreeIn (store_of s).slots (At i)
+    pub free_here : all_zero (slot_in counted i s) ≡ true → FreeIn (store_of s).slots (Some i)
     free_here e =
         record {
           within = scan_inside w l;
@@ -88,7 +88,7 @@ module _ {s : Bytes} {n i : ℕ} (w : Passed s n i) where
           placing = λ r. placed_here r (store_of s).slots i (scan_inside w l) (each_passed NotFree w) (slot_here ∙ zero_free (slot_in counted i s) e);
         }
 
-  pub none_free : n ≤ i → FreeIn (store_of s).slots Nothing
+  pub none_free : n ≤ i → FreeIn (store_of s).slots None
   none_free l r = placed_nowhere r (store_of s).slots (λ j k. each_passed NotFree w j (omega (arith, scan_many w)))
 
 -- a grant's 64 bytes from two hashes, one after the other
@@ -114,11 +114,11 @@ grant_hashes k v =
     (ap (leaf_body (hash_bytes k)) (take_all 32 (hash_bytes v) (omega arith)))
 
 -- a free slot that was found, by its case
-pub free_at : (s : List Slot) {o : found.Found} {i : ℕ} → o ≡ At i → FreeIn s o → Lowest s i
+pub free_at : (s : List Slot) {o : option.Option ℕ} {i : ℕ} → o ≡ Some i → FreeIn s o → Lowest s i
 free_at s e f = subst (FreeIn s) e f
 
 -- with no free slot, nothing is placed
-pub placed_full : (p : Place) (n : declared.Node) {s : List Slot} {o : found.Found} → o ≡ Nothing → FreeIn s o → placed (record_says p n) s ≡ s
+pub placed_full : (p : Place) (n : declared.Node) {s : List Slot} {o : option.Option ℕ} → o ≡ None → FreeIn s o → placed (record_says p n) s ≡ s
 placed_full p none {s} e f = placed_nothing s
 placed_full p (Leaf v k x) {s} e f = subst (FreeIn s) e f _
 placed_full p (Inner v l r m n) {s} e f = subst (FreeIn s) e f _

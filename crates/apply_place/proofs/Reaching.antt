@@ -1,7 +1,7 @@
 -- How far new records reach: placing one in the lowest free slot leaves none free up to it, and marks free no slot. Assumes nothing.
 use Prim.Native.Nat.{ℕ, zero, suc, ◌+◌, ◌<◌, ◌≤◌}
 use native.Mathlib.Omega.{arith}
-use mathlib.Core.Path.{◌≡◌, refl, ap, sym, ◌∙◌}
+use mathlib.Core.Path.{◌≡◌, refl, sym}
 use mathlib.Core.Bool.{Bool, true, false, true≢false, false≢true}
 use mathlib.Core.List.{List, [], ◌∷◌}
 use lib.ListN.{length, get_or, set}
@@ -16,7 +16,7 @@ use Rattle.steps.specs.Writing.{mark_in, mark}
 use Rattle.apply_place.specs.declared.Node as declared
 use Rattle.apply_place.specs.declared.Node.TheVariants.{Nothing, Leaf, Inner}
 use Rattle.apply_place.specs.Placing.{Stored, Changed, when_writes, NoneFree, Lowest, record_says}
-use Rattle.apply_place.specs.Reach.{over_most, capped, node_size, Clear, Starts, Counts, Reaches, Placed}
+use Rattle.apply_place.specs.Reach.{capped, node_size, Starts, Reaches, Placed}
 use Rattle.apply_place.proofs.Changing.{unchanged, changed_slots, stored_accepted}
 use Rattle.apply_place.proofs.Placing.{placed_nothing}
 

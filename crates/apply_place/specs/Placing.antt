@@ -1,6 +1,6 @@
 -- Document 01, 'Retirement' and 'Placing', over lent memory: the bytes of a store with its slots changed, and nothing
 -- else. Assumes nothing.
-use Rattle.std.specs.Prelude.{ℕ, ◌<◌, ◌≡◌, Bool, true, false, List, [], ◌∷◌, length, get_or, set}
+use Rattle.std.specs.Prelude.{ℕ, ◌<◌, ◌≡◌, Bool, true, false, List, [], ◌∷◌, length, get_or, set, Some, None}
 use Rattle.std.proofs.Math.Option.{none}
 use Rattle.terms.specs.Bits.{Bytes, Place}
 use Rattle.terms.specs.Records.{leaf_body, inner_body, tally, no_tally, Record, Slot, free, used, spoiled, Store}
@@ -9,8 +9,7 @@ use Rattle.hash.specs.Hash.{hash_bytes}
 use Rattle.layout.specs.Slots.{record_of}
 use Rattle.layout.specs.Stores.{store_of, store_bytes, StoreForm}
 use Rattle.slots.specs.Answer.{child_says}
-use Rattle.lookup.specs.declared.Found as found
-use Rattle.lookup.specs.declared.Found.TheVariants as F
+use Rattle.std.specs.declared.option.Option as option
 use Rattle.steps.specs.Step as step
 use Rattle.apply_place.specs.declared.Node as declared
 use Rattle.apply_place.specs.declared.Node.TheVariants.{Nothing, Leaf, Inner}
@@ -45,9 +44,9 @@ pub record Lowest (s : List Slot) (i : ℕ) : Type 0 where
   pub placing : (r : Record) → placed (r ∷ []) s ≡ set s i (used r)
 
 -- What a search for a free slot found.
-abbrev pub FreeIn : List Slot → found.Found → Type 0
-FreeIn s (F.At i) = Lowest s i
-FreeIn s F.Nothing = (r : Record) → placed (r ∷ []) s ≡ s
+abbrev pub FreeIn : List Slot → option.Option ℕ → Type 0
+FreeIn s (Some i) = Lowest s i
+FreeIn s None = (r : Record) → placed (r ∷ []) s ≡ s
 
 -- At most one record is the node (v, p).
 abbrev pub Single : ℕ → Place → List Slot → Type 0

@@ -14,7 +14,6 @@ ghost use Rattle.apply_place.specs.Reach.{over_most, capped, node_size, Puts, Pl
 
 use fields::all_zero;
 use hash::{Hash, put_hash};
-use lookup::Found;
 use place::Place;
 use slots::Child;
 use store::{slot_count, slot_of};
@@ -57,37 +56,22 @@ fn size(node: Node) -> usize
 {
     match node {
         Node::Nothing => 0,
-        Node::Leaf {
-            version: _,
-            key: _,
-            value: _,
-        } => 1,
-        Node::Inner {
-            version: _,
-            left: _,
-            right: _,
-            lefts: _,
-            rights: _,
-        } => 1,
+        Node::Leaf { .. } | Node::Inner { .. } => 1,
     }
 }
 
 // The lowest free slot, where none below a slot is free.
-fn find_free(store: &[u8], from: usize) -> Found
+fn find_free(store: &[u8], from: usize) -> Option<usize>
     requires { Stored store.now × NoneFree (store_of store.now).slots from }
     ensures { FreeIn (store_of store.now).slots result }
 {
     let n = slot_count(Form::Counted, store);
-    let mut i = from;
-    loop {
-        if n <= i {
-            break Found::Nothing;
-        }
+    for i in from..n {
         if all_zero(slot_of(Form::Counted, store, i)) {
-            break Found::At(i);
+            return Some(i);
         }
-        i += 1;
     }
+    None
 }
 
 // The 64 bytes of a grant: key and value.
@@ -151,7 +135,7 @@ pub fn place_node(store: &mut [u8], writes: bool, from: usize, place: Place, nod
     if !writes {
         return more(from, n);
     }
-    let Found::At(i) = find_free(store, from) else {
+    let Some(i) = find_free(store, from) else {
         return from;
     };
     put_node(store, i, place, node);

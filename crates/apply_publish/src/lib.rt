@@ -12,31 +12,26 @@ use apply_outcome::child_of;
 use apply_ready::{count_free, root_version};
 use apply_root::at_root;
 use place::Place;
+use refusal_numbers::Refusal;
 use store::latest_of;
 use store_put::put_latest;
 
 // Makes the version of a number above latest of a sound store.
-pub fn publish(store: &mut [u8], number: u32, batch: &[u8]) -> Applied
+pub fn publish(store: &mut [u8], number: u32, batch: &[u8]) -> Result<Applied, Refusal>
     requires { Ready store.old batch.now }
     ensures { ApplyDoes number batch.now store.old (applied_says result) store.new }
 {
     let latest = latest_of(store);
-    let late = number_refusal(number, latest);
-    if late != 0 {
-        return Applied::Refused(late);
-    }
+    number_refusal(number, latest)?;
     let top = Place::top();
     let old = root_version(store, latest);
     let mut guesses = [0u16; 8192];
     guess_all(store, &mut guesses);
     let needs = at_root(store, &guesses, false, number, top, old, batch);
-    let short = room_refusal(count_free(store), needs.reach);
-    if short != 0 {
-        return Applied::Refused(short);
-    }
+    room_refusal(count_free(store), needs.reach)?;
     let made = at_root(store, &guesses, true, number, top, old, batch);
     put_latest(store, number);
     let node = made.node;
     let says = child_of(node);
-    made_answer(number, says.hash, needs.reach)
+    Ok(made_answer(number, says.hash, needs.reach))
 }

@@ -13,8 +13,10 @@ use Rattle.hash.proofs.Laws.{hash_whole, put_over}
 use Rattle.fields.specs.Written.{written}
 use Rattle.fields.proofs.Written.{length_written, part_written, fields_fill}
 use Rattle.contracts.specs.Apply.{answer_bytes}
+use Rattle.std.specs.Prelude.{Result, Ok, Err}
+use Rattle.refusal_numbers.specs.Refusals.{number}
+use Rattle.refusal_numbers.specs.declared.Refusal.{Refusal}
 use Rattle.apply_answer.specs.declared.Applied as declared
-use Rattle.apply_answer.specs.declared.Applied.TheVariants.{Refused, Made}
 use Rattle.apply_answer.specs.Answers.{applied_says}
 use Rattle.apply_put.specs.Sent.{Sent}
 
@@ -33,11 +35,11 @@ answer_put v n h f f₁ y f₂ l e g k =
     ∙ ap (λ z. le 4 v ++ (hash_bytes h ++ z)) (append-nil (le 4 n))
 
 -- by what the answer is
-module _ (a : declared.Applied) (f : Bytes) where
-  pub sent_refusal : {m : ℕ} → a ≡ Refused m → Sent (applied_says a) f m f
+module _ (a : Result declared.Applied Refusal) (f : Bytes) where
+  pub sent_refusal : {r : Refusal} → a ≡ Err r → Sent (applied_says a) f (number r) f
   unfolding applied_says
-  sent_refusal {m} e = subst (λ q. Sent (applied_says q) f m f) (sym e) (refl, refl)
+  sent_refusal {r} e = subst (λ q. Sent (applied_says q) f (number r) f) (sym e) (refl, refl)
 
-  pub sent_made : {v n : ℕ} {h : Hash} {g : Bytes} → a ≡ Made v h n → g ≡ answer_bytes v (hash_bytes h) n → Sent (applied_says a) f 0 g
+  pub sent_made : {d : declared.Applied} {g : Bytes} → a ≡ Ok d → g ≡ answer_bytes d.version (hash_bytes d.root) d.count → Sent (applied_says a) f 0 g
   unfolding applied_says answer_bytes
   sent_made {g = g} e k = subst (λ q. Sent (applied_says q) f 0 g) (sym e) (refl, k)

@@ -10,6 +10,7 @@ ghost use Rattle.apply_put.specs.Sent.{Sent};
 use apply_answer::Applied;
 use fields::put_u32;
 use hash::{Hash, put_hash};
+use refusal_numbers::Refusal;
 
 // Version, root and count fill 40 bytes.
 pub fn put_answer(answer: &mut [u8], version: u32, root: Hash, count: u32)
@@ -22,16 +23,18 @@ pub fn put_answer(answer: &mut [u8], version: u32, root: Hash, count: u32)
 }
 
 // 0 where a version was made, which goes out in 40 bytes, else the number of refusal.
-pub fn send(applied: Applied, answer: &mut [u8; 40]) -> u32
+pub fn send(applied: Result<Applied, Refusal>, answer: &mut [u8; 40]) -> u32
     ensures { Sent (applied_says applied) answer.old result answer.new }
 {
     match applied {
-        Applied::Refused(refusal) => refusal,
-        Applied::Made {
-            version,
-            root,
-            count,
-        } => {
+        Err(refusal) => refusal.number(),
+        Ok(
+            Applied {
+                version,
+                root,
+                count,
+            },
+        ) => {
             put_answer(answer, version, root, count);
             0
         }

@@ -14,8 +14,8 @@ use Rattle.layout.proofs.Slots.{record_is}
 use Rattle.layout.proofs.Stores.{slot_at_lem}
 use Rattle.slots.specs.declared.Child as child
 use Rattle.slots.specs.Answer.{child_says}
-use Rattle.lookup.specs.declared.Found as found
-use Rattle.lookup.specs.declared.Found.TheVariants as F
+use Rattle.std.specs.declared.option.Option as option
+use Rattle.std.specs.Prelude.{Some}
 use Rattle.apply_place.specs.declared.Node.TheVariants as N
 use Rattle.apply_place.proofs.Changing.{stored_room, slot_within}
 use Rattle.apply_read.specs.declared.Onward.TheVariants.{End, Inner}
@@ -52,12 +52,12 @@ module _ {s : Bytes} {i : ℕ} (w : Used s i) where
           ap (λ (q : Record). q.counts) h ∙ sym (ap₂ tally f g),
         )
 
-    pub ends_held : {f : found.Found} {t : Bool} → f ≡ F.At i → t ≡ is_leaf x → t ≡ true → GoesOn s f End
+    pub ends_held : {f : option.Option ℕ} {t : Bool} → f ≡ Some i → t ≡ is_leaf x → t ≡ true → GoesOn s f End
     unfolding record_in leaf_in
     ends_held e l z =
         subst (λ g. GoesOn s g End) (sym e) (λ r u. (_, _, ap (λ (q : Record). q.body) (leaf_record x r (its_slot r u) (sym l ∙ z))))
 
-    pub goes_held : {f : found.Found} {t : Bool} {l r : ℕ} → f ≡ F.At i → t ≡ is_leaf x → t ≡ false → l ≡ (left_in x).version → r ≡ (right_in x).version →
+    pub goes_held : {f : option.Option ℕ} {t : Bool} {l r : ℕ} → f ≡ Some i → t ≡ is_leaf x → t ≡ false → l ≡ (left_in x).version → r ≡ (right_in x).version →
         GoesOn s f (Inner i l r)
     unfolding record_in inner_in
     goes_held {l = m} {r = n} e l z a b =

@@ -22,8 +22,8 @@ use Rattle.place.specs.declared.Place as place
 use Rattle.place.specs.Place.{place_of}
 use Rattle.layout.specs.Slots.{SlotForm}
 use Rattle.layout.specs.Stores.{store_of}
-use Rattle.lookup.specs.declared.Found as found
-use Rattle.lookup.specs.declared.Found.TheVariants as F
+use Rattle.std.specs.declared.option.Option as option
+use Rattle.std.specs.Prelude.{Some, None}
 use Rattle.lookup.specs.Lookup.{FoundIn}
 use Rattle.apply_place.specs.declared.Node as node
 use Rattle.apply_place.specs.declared.Node.TheVariants as N
@@ -99,11 +99,11 @@ module _ (st : Store) (q : Place) (v : ℕ) (t : VTree) (stands : Stands leaf_ha
             (a, b, ap (λ y. vinner y a b) f, n.0, n.1, (sym (ap (λ (y : Record). y.counts) o) ∙ counts_told st.form counts j, few))
 
 -- over the bytes
-module _ {s : Bytes} {p : place.Place} {v : ℕ} (w : Standing s p v) {o : found.Found} (f : FoundIn (store_of s).slots v (place_of p) o) where
-  pub node_none : o ≡ F.Nothing → tree_here s p v ≡ vnone
+module _ {s : Bytes} {p : place.Place} {v : ℕ} (w : Standing s p v) {o : option.Option ℕ} (f : FoundIn (store_of s).slots v (place_of p) o) where
+  pub node_none : o ≡ None → tree_here s p v ≡ vnone
   node_none e = top_none (store_of s) (place_of p) v (tree_here s p v) w.stands w.top (found_none v (place_of p) (store_of s).slots e f)
 
-  module _ {i : ℕ} (e : o ≡ F.At i) where
+  module _ {i : ℕ} (e : o ≡ Some i) where
     abbrev hit : (i < length (store_of s).slots) × ((r : Record) × (get_or (store_of s).slots i free ≡ used r) × (find v (place_of p) (store_of s).slots ≡ some r))
     hit = found_at v (place_of p) (store_of s).slots e f
 
@@ -146,14 +146,14 @@ module _ {s : Bytes} {p : place.Place} {v : ℕ} (w : Standing s p v) {o : found
             (x, y, t ∙ ap (λ z. vinner z x y) (sym (b.0 ∙ its_version)), g, d, (record { left_is = i; right_is = o; few = omega (arith, i, o, a, ns.1) }))
 
     -- an inner node stands there exactly if the steps go on
-    pub ends_there : {d : onward.Onward} → d ≡ End → GoesOn s (F.At i) d → is_inner (tree_here s p v) ≡ false
-    ends_there z g = let (k, x, b) = subst (GoesOn s (F.At i)) z g hit.1.0 hit.1.1 in ap is_inner (leaf_there b)
+    pub ends_there : {d : onward.Onward} → d ≡ End → GoesOn s (Some i) d → is_inner (tree_here s p v) ≡ false
+    ends_there z g = let (k, x, b) = subst (GoesOn s (Some i)) z g hit.1.0 hit.1.1 in ap is_inner (leaf_there b)
 
-    pub goes_there : {d : onward.Onward} {j l r : ℕ} → d ≡ Inner j l r → GoesOn s (F.At i) d →
+    pub goes_there : {d : onward.Onward} {j l r : ℕ} → d ≡ Inner j l r → GoesOn s (Some i) d →
         (j ≡ i) × (is_inner (tree_here s p v) ≡ true) × (l ≡ top_version (kid left (tree_here s p v))) × (r ≡ top_version (kid right (tree_here s p v)))
     unfolding child_of
     goes_there z g =
-        let (j, h) = subst (GoesOn s (F.At i)) z g in
+        let (j, h) = subst (GoesOn s (Some i)) z g in
         let (lchild, rchild, b, k, m) = h hit.1.0 hit.1.1 in
         let (x, y, t, q, u, ns) = inner_there b in (
           j,

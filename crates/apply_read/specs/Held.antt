@@ -1,12 +1,11 @@
 -- Document 01, 'Bytes': what a slot that is used holds, in the values of the code. Assumes nothing.
-use Rattle.std.specs.Prelude.{ℕ, ◌<◌, ◌≡◌, length, get_or}
+use Rattle.std.specs.Prelude.{ℕ, ◌<◌, ◌≡◌, length, get_or, Some, None}
 use Rattle.terms.specs.Bits.{Bytes}
 use Rattle.terms.specs.Records.{Child, leaf_body, inner_body, tally, Record, Slot, free, used, spoiled}
 use Rattle.hash.specs.Hash.{hash_bytes}
 use Rattle.layout.specs.Stores.{store_of}
 use Rattle.slots.specs.Answer.{child_says}
-use Rattle.lookup.specs.declared.Found as found
-use Rattle.lookup.specs.declared.Found.TheVariants as F
+use Rattle.std.specs.declared.option.Option as option
 use Rattle.apply_place.specs.declared.Node as node
 use Rattle.apply_place.specs.declared.Node.TheVariants as N
 use Rattle.apply_place.specs.Placing.{Stored}
@@ -41,15 +40,15 @@ abbrev pub NodeHeld : Bytes → ℕ → node.Node → Type 0
 NodeHeld s i n = (r : Record) → get_or (store_of s).slots i free ≡ used r → HoldsNode n r
 
 -- A slot that was found holds a record.
-abbrev pub UsedAt : Bytes → found.Found → Type 0
-UsedAt s (F.At i) = Used s i
-UsedAt s F.Nothing = Unit {0}
+abbrev pub UsedAt : Bytes → option.Option ℕ → Type 0
+UsedAt s (Some i) = Used s i
+UsedAt s None = Unit {0}
 
 -- From no slot and from a leaf the steps go no further; from an inner record they go to children of these versions.
-abbrev pub GoesOn : Bytes → found.Found → declared.Onward → Type 0
-GoesOn s F.Nothing o = o ≡ End
-GoesOn s (F.At i) End =
+abbrev pub GoesOn : Bytes → option.Option ℕ → declared.Onward → Type 0
+GoesOn s None o = o ≡ End
+GoesOn s (Some i) End =
     (r : Record) → get_or (store_of s).slots i free ≡ used r → (k : Bytes) × (x : Bytes) × (r.body ≡ leaf_body k x)
-GoesOn s (F.At i) (Inner slot l r) =
+GoesOn s (Some i) (Inner slot l r) =
     (slot ≡ i) × ((q : Record) → get_or (store_of s).slots i free ≡ used q →
     (a : Child) × (b : Child) × (q.body ≡ inner_body a b) × (l ≡ a.version) × (r ≡ b.version))

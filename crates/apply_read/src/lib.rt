@@ -13,7 +13,6 @@ use apply_guess::find_near;
 use apply_outcome::{Change, Outcome};
 use apply_place::Node;
 use hash::hash_at;
-use lookup::Found;
 use place::Place;
 use slots::{Child, child_hash, key_of, value_of};
 use slots_form::is_leaf;
@@ -66,11 +65,11 @@ pub enum Onward {
     Inner { slot: usize, left: u32, right: u32 },
 }
 
-pub fn onward_from(store: &[u8], found: Found) -> Onward
+pub fn onward_from(store: &[u8], found: Option<usize>) -> Onward
     requires { UsedAt store.now found }
     ensures { GoesOn store.now found result }
 {
-    let Found::At(slot) = found else {
+    let Some(slot) = found else {
         return Onward::End;
     };
     let s = slot_of(Form::Counted, store, slot);
@@ -94,7 +93,7 @@ pub fn unchanged_at(
     ensures { Unchanged from (tree_here store.now place version) result }
 {
     let found = find_near(store, guesses, version, place);
-    let Found::At(i) = found else {
+    let Some(i) = found else {
         return Outcome {
             change: Change::Unchanged,
             node: Node::Nothing,

@@ -27,7 +27,7 @@ use Rattle.layout.specs.Slots.{version_in}
 use Rattle.layout.specs.Stores.{slot_in, store_of}
 use Rattle.layout.proofs.Stores.{slot_at_lem}
 use Rattle.store.proofs.Slots.{slot_long, slot_bytes_lem}
-use Rattle.lookup.specs.declared.Found.TheVariants.{At}
+use Rattle.std.specs.Prelude.{Some}
 use Rattle.lookup.specs.Lookup.{Located}
 use Rattle.lookup.proofs.Matching.{version_is}
 use Rattle.steps.specs.Given.{Older}
@@ -41,7 +41,7 @@ use Rattle.promises.proofs.Calls.{sound_form, sound_back}
 use Rattle.apply_ready.specs.Ready.{Ready, root_version}
 
 -- the version in the slot of a record found is the record's
-pub found_version : {s : Bytes} → Stored s → All Byte s → (o : Option Record) (i : ℕ) → Located (store_of s).slots o (At i) →
+pub found_version : {s : Bytes} → Stored s → All Byte s → (o : Option Record) (i : ℕ) → Located (store_of s).slots o (Some i) →
     version_in (slot_in counted i s) ≡ root_version o
 found_version {s} h bytes o i (l, (r, e, f)) =
     let here = sym (slot_at_lem counted s i (rw (stored_room h) l)) ∙ e in

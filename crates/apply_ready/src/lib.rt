@@ -8,7 +8,6 @@ ghost use Rattle.apply_place.specs.Placing.{Stored};
 ghost use Rattle.apply_ready.specs.Ready.{root_version, FreeCount};
 
 use fields::all_zero;
-use lookup::Found;
 use lookup_root::find_root;
 use store::{slot_count, slot_of, version_at};
 use terms::Form;
@@ -20,14 +19,10 @@ pub fn count_free(store: &[u8]) -> usize
 {
     let n = slot_count(Form::Counted, store);
     let mut free = 0;
-    let mut i = 0;
-    while i < n {
+    for i in 0..n {
         if all_zero(slot_of(Form::Counted, store, i)) {
             free += 1;
-            i += 1;
-            continue;
         }
-        i += 1;
     }
     free
 }
@@ -38,7 +33,7 @@ pub fn root_version(store: &[u8], version: u32) -> u32
     ensures { result ≡ root_version (root_of (store_of store.now) version) }
 {
     let found = find_root(Form::Counted, store, version);
-    let Found::At(i) = found else {
+    let Some(i) = found else {
         return 0;
     };
     version_at(Form::Counted, store, i)

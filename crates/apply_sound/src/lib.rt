@@ -9,18 +9,18 @@ use apply_answer::Applied;
 use apply_publish::publish;
 use batch_form::batch_form;
 use batch_runs::batch_order;
-use refusal_numbers::{BAD_BATCH, BAD_ORDER};
+use refusal_numbers::Refusal;
 
 // Applies a batch to a sound store as a number; refused, nothing is written.
-pub fn apply_sound(store: &mut [u8], number: u32, batch: &[u8]) -> Applied
+pub fn apply_sound(store: &mut [u8], number: u32, batch: &[u8]) -> Result<Applied, Refusal>
     requires { SoundBytes store.old }
     ensures { ApplyDoes number batch.now store.old (applied_says result) store.new }
 {
     if !batch_form(batch) {
-        return Applied::Refused(BAD_BATCH);
+        return Err(Refusal::BadBatch);
     }
     if !batch_order(batch) {
-        return Applied::Refused(BAD_ORDER);
+        return Err(Refusal::BadOrder);
     }
     publish(store, number, batch)
 }

@@ -20,8 +20,8 @@ use Rattle.place.proofs.Places.{proper_count}
 use Rattle.layout.specs.Stores.{store_of}
 use Rattle.slots.specs.declared.Child as child
 use Rattle.slots.specs.Answer.{child_says}
-use Rattle.lookup.specs.declared.Found as found
-use Rattle.lookup.specs.declared.Found.TheVariants as F
+use Rattle.std.specs.declared.option.Option as option
+use Rattle.std.specs.Prelude.{Some, None}
 use Rattle.lookup.specs.Lookup.{FoundIn}
 use Rattle.batch.specs.Batch.{asks}
 use Rattle.batch.specs.Runs.{Run, run_of}
@@ -133,7 +133,7 @@ module _ {new : ℕ} {writes : Bool} {from : ℕ} {s : Bytes} {p : place.Place} 
       right_once : (u : ℕ) (z : Place) → u < new → Single u z (store_of s₁).slots
       right_once = single_after new lefts (child_new left_here) writes x.bytes w.here.single
 
-      still_there : FoundIn (store_of s₁).slots v (place_of p) (F.At slot)
+      still_there : FoundIn (store_of s₁).slots v (place_of p) (Some slot)
       still_there = found_after new lefts writes x.bytes v (place_of p) slot (right_once v (place_of p) is_older) w.there
 
       pub right_here : Here new writes l.reach s₁ rplace vr rpart
@@ -149,7 +149,7 @@ module _ {new : ℕ} {writes : Bool} {from : ℕ} {s : Bytes} {p : place.Place} 
         both_once : (u : ℕ) (z : Place) → u < new → Single u z (store_of s₂).slots
         both_once = single_after new rights (child_new right_here) writes y.bytes right_once
 
-        both_there : FoundIn (store_of s₂).slots v (place_of p) (F.At slot)
+        both_there : FoundIn (store_of s₂).slots v (place_of p) (Some slot)
         both_there = found_after new rights writes y.bytes v (place_of p) slot (both_once v (place_of p) is_older) still_there
 
         same_version : version_in s₂ slot ≡ v
@@ -187,7 +187,7 @@ module _ {new : ℕ} {writes : Bool} {from : ℕ} {s : Bytes} {p : place.Place} 
           marks = m;
           standing =
               child_standing (changed_stored y.bytes) p w.here.standing.proper whole (same_version ∙ sym w.here.standing.top) both_stand;
-          there = subst (λ u. FoundIn (store_of s₂).slots u (place_of p) (F.At slot)) (sym same_version) both_there;
+          there = subst (λ u. FoundIn (store_of s₂).slots u (place_of p) (Some slot)) (sym same_version) both_there;
           short = is_short;
           inner = rw read_again w.inner;
           number = w.here.number;
@@ -233,30 +233,30 @@ module _ {new : ℕ} {writes : Bool} {from : ℕ} {s : Bytes} {p : place.Place} 
             (subst₂ (λ (t : Bool) (u : ℕ). SettledTo (settled_says l r) new t s₂ s₃ p u z.left_child z.right_child z.lefts z.rights l r o) (sym same) same_version z.settled))
 
 -- by what was found
-module _ {new : ℕ} {writes : Bool} {from : ℕ} {s : Bytes} {p : place.Place} {v : ℕ} {part : Bytes} (w : Here new writes from s p v part) (o : found.Found)
+module _ {new : ℕ} {writes : Bool} {from : ℕ} {s : Bytes} {p : place.Place} {v : ℕ} {part : Bytes} (w : Here new writes from s p v part) (o : option.Option ℕ)
     (f : FoundIn (store_of s).slots v (place_of p) o) where
   pub found_used : UsedAt s o
   found_used = go o refl
     where
-      go : (d : found.Found) → o ≡ d → UsedAt s d
-      go F.Nothing e = tt
-      go (F.At i) e = slot_used w.standing f e
+      go : (d : option.Option ℕ) → o ≡ d → UsedAt s d
+      go None e = tt
+      go (Some i) e = slot_used w.standing f e
 
   pub at_tip_here : {d : onward.Onward} → d ≡ End → GoesOn s o d → AtTip new writes from s p v o part
   at_tip_here {d} e g = record { here = w; there = f; tip = go o refl g }
     where
-      go : (c : found.Found) → o ≡ c → GoesOn s c d → is_inner (tree_here s p v) ≡ false
-      go F.Nothing i h = ap is_inner (node_none w.standing f i)
-      go (F.At i) j h = ends_there w.standing f j e h
+      go : (c : option.Option ℕ) → o ≡ c → GoesOn s c d → is_inner (tree_here s p v) ≡ false
+      go None i h = ap is_inner (node_none w.standing f i)
+      go (Some i) j h = ends_there w.standing f j e h
 
   module _ {d : onward.Onward} {i l r : ℕ} (e : d ≡ Inner i l r) (g : GoesOn s o d) where
-    found_there : (o ≡ F.At i) × (is_inner (tree_here s p v) ≡ true) × (l ≡ top_version (kid left (tree_here s p v))) × (r ≡ top_version (kid right (tree_here s p v)))
+    found_there : (o ≡ Some i) × (is_inner (tree_here s p v) ≡ true) × (l ≡ top_version (kid left (tree_here s p v))) × (r ≡ top_version (kid right (tree_here s p v)))
     found_there = go o refl g
       where
-        go : (c : found.Found) → o ≡ c → GoesOn s c d →
-            (o ≡ F.At i) × (is_inner (tree_here s p v) ≡ true) × (l ≡ top_version (kid left (tree_here s p v))) × (r ≡ top_version (kid right (tree_here s p v)))
-        go F.Nothing j h = let z : ◌≡◌ {A = ℕ} 0 1 = cc in absurd (omega arith)
-        go (F.At k) j h = let t = goes_there w.standing f j e h in (j ∙ ap F.At (sym t.0), t.1, t.2, t.3)
+        go : (c : option.Option ℕ) → o ≡ c → GoesOn s c d →
+            (o ≡ Some i) × (is_inner (tree_here s p v) ≡ true) × (l ≡ top_version (kid left (tree_here s p v))) × (r ≡ top_version (kid right (tree_here s p v)))
+        go None j h = let z : ◌≡◌ {A = ℕ} 0 1 = cc in absurd (omega arith)
+        go (Some k) j h = let t = goes_there w.standing f j e h in (j ∙ ap Some (sym t.0), t.1, t.2, t.3)
 
     its_version : version_in s i ≡ v
     its_version = slot_version w.standing f found_there.0
@@ -266,7 +266,7 @@ module _ {new : ℕ} {writes : Bool} {from : ℕ} {s : Bytes} {p : place.Place} 
         let back = sym its_version in
         record {
           here = subst (λ u. Here new writes from s p u part) back w;
-          there = subst (λ u. FoundIn (store_of s).slots u (place_of p) (F.At i)) back (subst (FoundIn (store_of s).slots v (place_of p)) found_there.0 f);
+          there = subst (λ u. FoundIn (store_of s).slots u (place_of p) (Some i)) back (subst (FoundIn (store_of s).slots v (place_of p)) found_there.0 f);
           inner = subst (λ u. is_inner (tree_here s p u) ≡ true) back found_there.1;
           left_is = subst (λ u. l ≡ top_version (kid left (tree_here s p u))) back found_there.2;
           right_is = subst (λ u. r ≡ top_version (kid right (tree_here s p u))) back found_there.3;
@@ -280,7 +280,7 @@ module _ {new : ℕ} {writes : Bool} {from : ℕ} {s : Bytes} {p : place.Place} 
 pub did_when : {new : ℕ} {from : ℕ} {s s' : Bytes} {o : step.Outcome} {r : declared.Outcome} (w w₂ : Bool) → w ≡ w₂ → Did new w₂ from s s' o r → Did new w from s s' o r
 did_when {new} {from} {s} {s'} {o} {r} w w₂ e d = subst (λ t. Did new t from s s' o r) (sym e) d
 
-pub tip_when : {new from : ℕ} {s : Bytes} {p : place.Place} {v : ℕ} {o : found.Found} {part : Bytes} (w w₂ : Bool) → w ≡ w₂ → AtTip new w from s p v o part →
+pub tip_when : {new from : ℕ} {s : Bytes} {p : place.Place} {v : ℕ} {o : option.Option ℕ} {part : Bytes} (w w₂ : Bool) → w ≡ w₂ → AtTip new w from s p v o part →
     AtTip new w₂ from s p v o part
 tip_when {new} {from} {s} {p} {v} {o} {part} w w₂ e h = subst (λ t. AtTip new t from s p v o part) e h
 

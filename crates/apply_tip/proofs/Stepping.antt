@@ -26,8 +26,8 @@ use Rattle.place.specs.Place.{place_of}
 use Rattle.place.proofs.Places.{proper_count}
 use Rattle.layout.specs.Sizes.{most_slots}
 use Rattle.layout.specs.Stores.{store_of}
-use Rattle.lookup.specs.declared.Found as found
-use Rattle.lookup.specs.declared.Found.TheVariants as F
+use Rattle.std.specs.declared.option.Option as option
+use Rattle.std.specs.Prelude.{Some, None}
 use Rattle.batch.specs.Sizes.{most_records}
 use Rattle.batch.specs.Batch.{asks}
 use Rattle.batch.proofs.Records.{asks_whole, length_asks}
@@ -48,7 +48,6 @@ use Rattle.apply_outcome.specs.declared.Outcome as declared
 use Rattle.apply_outcome.specs.Outcomes.{NodeSays, change_says, updated_says, Did}
 use Rattle.apply_outcome.proofs.Saying.{says_either}
 use Rattle.apply_outcome.proofs.Forms.{Numbered, given_shaped, given_numbered, given_form}
-use Rattle.apply_inserts.specs.declared.Stays.TheVariants as S
 use Rattle.apply_grow.specs.Growing.{Grows}
 use Rattle.apply_grow.proofs.Growing.{written_nothing}
 use Rattle.apply_leaf.specs.Leaf.{AtLeaf}
@@ -191,7 +190,7 @@ module _ {new : ℕ} {writes : Bool} {from : ℕ} {s : Bytes} {p : place.Place} 
   child_steps {s'} {r} d = subst (λ o. Did new writes from s s' o r) (sym child_is_node) d
 
   -- no node there
-  pub node_grows : Grows new writes from s p S.Nothing part
+  pub node_grows : Grows new writes from s p None part
   node_grows = record {
     stored = w.standing.stored;
     starts = w.starts;
@@ -233,12 +232,12 @@ module _ {new : ℕ} {writes : Bool} {from : ℕ} {s : Bytes} {p : place.Place} 
         ∙ step_leaf_lem new (place_of p) (asks part) (256 - p.count) u (grant (hash_bytes k) (hash_bytes x)))) d
 
 -- where no inner node stands
-module _ {new : ℕ} {writes : Bool} {from : ℕ} {s : Bytes} {p : place.Place} {v : ℕ} {o : found.Found} {part : Bytes}
+module _ {new : ℕ} {writes : Bool} {from : ℕ} {s : Bytes} {p : place.Place} {v : ℕ} {o : option.Option ℕ} {part : Bytes}
     (w : AtTip new writes from s p v o part) where
-  pub none_there : o ≡ F.Nothing → tree_here s p v ≡ vnone
+  pub none_there : o ≡ None → tree_here s p v ≡ vnone
   none_there e = node_none w.here.standing w.there e
 
-  module _ {i : ℕ} (e : o ≡ F.At i) where
+  module _ {i : ℕ} (e : o ≡ Some i) where
     pub tip_used : Used s i
     tip_used = slot_used w.here.standing w.there e
 

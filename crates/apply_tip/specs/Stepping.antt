@@ -5,7 +5,7 @@ use Rattle.nodehash.specs.Node.{leaf_hash, inner_hash}
 use Rattle.place.specs.declared.Place as place
 use Rattle.place.specs.Place.{place_of}
 use Rattle.layout.specs.Stores.{store_of}
-use Rattle.lookup.specs.declared.Found as found
+use Rattle.std.specs.declared.option.Option as option
 use Rattle.lookup.specs.Lookup.{FoundIn}
 use Rattle.batch.specs.Batch.{asks}
 use Rattle.batch.specs.Runs.{Run}
@@ -25,7 +25,7 @@ pub record Here (new : ℕ) (writes : Bool) (from : ℕ) (s : Bytes) (p : place.
   pub single : (w : ℕ) (q : Place) → w < new → Single w q (store_of s).slots
 
 -- No inner node stands there, and this was found.
-pub record AtTip (new : ℕ) (writes : Bool) (from : ℕ) (s : Bytes) (p : place.Place) (v : ℕ) (o : found.Found)
+pub record AtTip (new : ℕ) (writes : Bool) (from : ℕ) (s : Bytes) (p : place.Place) (v : ℕ) (o : option.Option ℕ)
     (part : Bytes) : Type 0 where
   pub here : Here new writes from s p v part
   pub there : FoundIn (store_of s).slots v (place_of p) o

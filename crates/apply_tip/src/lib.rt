@@ -5,12 +5,10 @@ ghost use Rattle.apply_outcome.specs.Outcomes.{Did};
 ghost use Rattle.apply_tip.specs.Stepping.{AtTip, at_node};
 
 use apply_grow::grow;
-use apply_inserts::Stays;
 use apply_leaf::at_leaf;
 use apply_outcome::Outcome;
 use apply_place::Node;
 use apply_read::node_in;
-use lookup::Found;
 use place::Place;
 
 pub fn at_tip(
@@ -20,14 +18,14 @@ pub fn at_tip(
     from: usize,
     place: Place,
     version: u32,
-    found: Found,
+    found: Option<usize>,
     run: &[u8],
 ) -> Outcome
     requires { AtTip new writes from store.old place version found run.now }
     ensures { Did new writes from store.old store.new (at_node new store.old place version run.now) result }
 {
-    let Found::At(i) = found else {
-        return grow(store, writes, new, from, place, Stays::Nothing, run);
+    let Some(i) = found else {
+        return grow(store, writes, new, from, place, None, run);
     };
     let node = node_in(store, i);
     let Node::Leaf {
@@ -36,7 +34,7 @@ pub fn at_tip(
         value,
     } = node
     else {
-        return grow(store, writes, new, from, place, Stays::Nothing, run);
+        return grow(store, writes, new, from, place, None, run);
     };
     at_leaf(store, writes, new, from, place, v, key, value, run)
 }

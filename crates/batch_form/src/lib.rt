@@ -80,12 +80,10 @@ pub fn batch_form(b: &[u8]) -> bool
     if MOST_RECORDS < n {
         return false;
     }
-    let mut i = 0;
-    while i < n {
+    for i in 0..n {
         if !record_form(record_at(b, i)) {
             return false;
         }
-        i += 1;
     }
     true
 }

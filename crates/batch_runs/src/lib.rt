@@ -14,14 +14,12 @@ pub fn batch_order(b: &[u8]) -> bool
     ensures { result ≡ ascending (asks b.now) }
 {
     let n = b.len() / RECORD_SIZE;
-    let mut i = 0;
-    while i + 1 < n {
-        let x = key(b, i);
-        let y = key(b, i + 1);
+    for i in 1..n {
+        let x = key(b, i - 1);
+        let y = key(b, i);
         if !before(x, y) {
             return false;
         }
-        i += 1;
     }
     true
 }
@@ -33,6 +31,7 @@ fn cut(run: &[u8], i: usize) -> usize
 {
     let mut low = 0;
     let mut high = run.len() / RECORD_SIZE;
+    // Halving, which is no count.
     while low < high {
         let middle = low + (high - low) / 2;
         if key_bit(key(run, middle), i) {

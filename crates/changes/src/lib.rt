@@ -4,10 +4,10 @@
 ghost use Rattle.promises.specs.Calls.{SoundBytes};
 ghost use Rattle.changes_kept.specs.Parts.{compared_says, Compares};
 
-use changes_kept::{Compared, changes_kept};
+use changes_kept::changes_kept;
 use check_store::check_with;
-use read_open::{Opened, open};
-use refusal_numbers::NOT_KEPT;
+use read_open::open;
+use refusal_numbers::Refusal;
 use terms::Form;
 
 // Compares two versions of a sound store, of which check left its guesses.
@@ -18,27 +18,26 @@ fn changes_sound(
     second: u32,
     limit: u32,
     room: &mut [u8],
-) -> Compared
+) -> Result<u32, Refusal>
     requires { SoundBytes store.now }
     ensures { Compares first second limit store.now room.old (compared_says result) room.new }
 {
-    let Opened::Kept = open(store, first) else {
-        return Compared::Refused(NOT_KEPT);
-    };
-    let Opened::Kept = open(store, second) else {
-        return Compared::Refused(NOT_KEPT);
-    };
+    open(store, first)?;
+    open(store, second)?;
     changes_kept(store, guess, first, second, limit, room)
 }
 
 // Compares two versions of a store, where check accepts it; refused, nothing is written.
-pub fn changes(store: &[u8], first: u32, second: u32, limit: u32, room: &mut [u8]) -> Compared
+pub fn changes(
+    store: &[u8],
+    first: u32,
+    second: u32,
+    limit: u32,
+    room: &mut [u8],
+) -> Result<u32, Refusal>
     ensures { Compares first second limit store.now room.old (compared_says result) room.new }
 {
     let mut guess = [0u16; 32768];
-    let refusal = check_with(Form::Counted, store, &mut guess);
-    if refusal != 0 {
-        return Compared::Refused(refusal);
-    }
+    check_with(Form::Counted, store, &mut guess)?;
     changes_sound(store, &guess, first, second, limit, room)
 }

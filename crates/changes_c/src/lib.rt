@@ -5,7 +5,6 @@
 ghost use Rattle.contracts.specs.Changes.{Changes};
 
 use changes::changes;
-use changes_kept::Compared;
 use fields::put_u32;
 
 // What changed from the first version to the second fills the front of the room, as records of 72 bytes; how many there are goes out in four
@@ -22,8 +21,8 @@ pub fn grants_changes(
 {
     let compared = changes(store, first, second, limit, room);
     match compared {
-        Compared::Refused(n) => n,
-        Compared::Listed(n) => {
+        Err(refusal) => refusal.number(),
+        Ok(n) => {
             put_u32(records, 0, n);
             0
         }

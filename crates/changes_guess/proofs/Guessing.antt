@@ -10,13 +10,13 @@ use Rattle.meaning.specs.Sound.{At}
 use Rattle.meaning.proofs.Finding.{is_node_eq}
 use Rattle.histories.proofs.Slots.{at_unique, unique_find}
 use Rattle.layout.specs.Stores.{store_of}
-use Rattle.lookup.specs.declared.Found.TheVariants.{At as Slot}
+use Rattle.std.specs.Prelude.{Some}
 use Rattle.lookup.specs.Lookup.{FoundIn}
 use Rattle.guess.specs.Guess.{NodeAt}
 use Rattle.changes_guess.specs.Apart.{Apart}
 
 pub guessed : (s : Bytes) (v : ℕ) (p : Place) {i : ℕ} {t : Bool} → Apart (store_of s) → t ≡ true → NodeAt s i v p t →
-    FoundIn (store_of s).slots v p (Slot i)
+    FoundIn (store_of s).slots v p (Some i)
 unfolding Apart At
 guessed s v p {i} apart e h =
     let (l, (r, u, n)) = subst (NodeAt s i v p) e h in

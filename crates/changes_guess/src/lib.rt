@@ -10,7 +10,7 @@ ghost use Rattle.lookup.specs.Lookup.{FoundIn};
 ghost use Rattle.changes_guess.specs.Apart.{Apart};
 
 use guess::holds;
-use lookup::{Found, find};
+use lookup::find;
 use place::Place;
 use store::wide;
 use terms::Form;
@@ -27,12 +27,12 @@ pub fn guess_of(guess: &[u16; 32768], i: usize, right: bool) -> usize {
 }
 
 // The slot of the node (version, place), which is there once at most: slot i, if it is guessed right, or what a search finds.
-pub fn find_near(store: &[u8], i: usize, version: u32, place: Place) -> Found
+pub fn find_near(store: &[u8], i: usize, version: u32, place: Place) -> Option<usize>
     requires { ((size_right Form.Counted (length store.now) ≡ true) × Apart (store_of store.now)) × Proper place }
     ensures { FoundIn (store_of store.now).slots version (place_of place) result }
 {
     if holds(store, i, version, place) {
-        return Found::At(i);
+        return Some(i);
     }
     find(Form::Counted, store, version, place)
 }

@@ -12,16 +12,9 @@ use changes_put::ITEM_SIZE;
 use changes_top::root_top;
 use changes_walk::{Walked, walk};
 use place::Place;
-use refusal_numbers::{NO_ROOM, TOO_MANY_VISITS};
+use refusal_numbers::Refusal;
 
-// A number of refusal, or how many records the list has.
-#[derive(Clone, Copy)]
-pub enum Compared {
-    Refused(u32),
-    Listed(u32),
-}
-
-// Compares two kept versions of a sound store, of which check left its guesses.
+// Compares two kept versions of a sound store, of which check left its guesses, and answers how many records the list has.
 pub fn changes_kept(
     store: &[u8],
     guess: &[u16; 32768],
@@ -29,7 +22,7 @@ pub fn changes_kept(
     second: u32,
     limit: u32,
     room: &mut [u8],
-) -> Compared
+) -> Result<u32, Refusal>
     requires { SoundBytes store.now × (is_kept (store_of store.now) first ≡ true) × (is_kept (store_of store.now) second ≡ true) }
     ensures { Compares first second limit store.now room.old (compared_says result) room.new }
 {
@@ -39,12 +32,12 @@ pub fn changes_kept(
     let Walked::Done { budget: _, next: n } = walk(
         store, guess, top, old, new, limit, false, room, 0,
     ) else {
-        return Compared::Refused(TOO_MANY_VISITS);
+        return Err(Refusal::TooManyVisits);
     };
     if room.len() / ITEM_SIZE < n {
-        return Compared::Refused(NO_ROOM);
+        return Err(Refusal::NoRoom);
     }
     walk(store, guess, top, old, new, limit, true, room, 0);
     let many = n as u32;
-    Compared::Listed(many)
+    Ok(many)
 }

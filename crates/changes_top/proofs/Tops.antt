@@ -31,8 +31,7 @@ use Rattle.layout.specs.Stores.{slot_in, store_of, SlotWithin}
 use Rattle.layout.proofs.Slots.{slot_form, record_is}
 use Rattle.layout.proofs.Stores.{slot_at_lem}
 use Rattle.store.proofs.Slots.{slots_many, slot_fits, slot_long, slot_bytes_lem}
-use Rattle.lookup.specs.declared.Found as found
-use Rattle.lookup.specs.declared.Found.TheVariants as F
+use Rattle.std.specs.declared.option.Option as option
 use Rattle.changed.specs.Visits.{no_deeper}
 use Rattle.changed.specs.Walk.{under}
 use Rattle.changes_top.specs.Tops.{grant_at, top_in, tree_here, top_tree, TopRight, TopSays, DeeperSays}

@@ -12,7 +12,6 @@ ghost use Rattle.changes_guess.specs.Apart.{Apart};
 ghost use Rattle.changes_top.specs.Tops.{top_in, tree_here, top_tree, TopRight, TopSays, DeeperSays};
 
 use changes_guess::{find_near, guess_of};
-use lookup::Found;
 use lookup_root::find_root;
 use place::{Place, key_bit};
 use slots::key_of;
@@ -60,7 +59,7 @@ pub fn root_top(store: &[u8], version: u32, top: Place) -> Top
     ensures { TopSays store.now top (tree_at_version (store_of store.now) version) result }
 {
     let found = find_root(Form::Counted, store, version);
-    let Found::At(i) = found else {
+    let Some(i) = found else {
         return Top::Nothing;
     };
     top_in(store, i)
@@ -75,7 +74,7 @@ fn top_at(store: &[u8], i: usize, version: u32, place: Place) -> Top
         return Top::Nothing;
     }
     let found = find_near(store, i, version, place);
-    let Found::At(j) = found else {
+    let Some(j) = found else {
         return Top::Nothing;
     };
     top_in(store, j)

@@ -7,7 +7,7 @@ use changes_put::put_ends;
 use changes_top::{Top, below, no_deeper};
 use place::Place;
 
-// How a walk ended.
+// How a walk ended. An Option of both numbers is 8 bytes longer, and each frame of the recursion would grow by 16.
 #[derive(Clone, Copy)]
 pub enum Walked {
     // There were more visits than the budget.

@@ -49,8 +49,7 @@ pub record Going (fm : Form) (s : Bytes) (n : ℕ) (xs slots links : List ℕ) :
   pub tied : AllLinks fm s links
 
 -- what holds at each link that is looked at
-pub record Looking (fm : Form) (s : Bytes) (n from w many : ℕ) (slots links : List ℕ) : Type 0 where
-  pub on : from ≤ w
+pub record Looking (fm : Form) (s : Bytes) (many : ℕ) (slots links : List ℕ) : Type 0 where
   pub few : many < 8
   pub fit : AllSlots fm s slots
   pub tied : AllLinks fm s links

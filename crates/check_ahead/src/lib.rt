@@ -2,7 +2,7 @@
 // looked at one by one. Which records are taken is a guess of anyone's; what is entered is right.
 #![tactic(auto)]
 
-ghost use Rattle.std.specs.Prelude.{◌≡◌, true, ◌+◌, ◌*◌, ◌<◌, ◌≤◌, length};
+ghost use Rattle.std.specs.Prelude.{◌≡◌, true, ◌+◌, ◌*◌, ◌<◌, ◌≤◌, length, IfSome};
 ghost use Rattle.terms.specs.declared.Form.{Form};
 ghost use Rattle.terms.specs.Bits.{Bytes};
 ghost use Rattle.hash.specs.Hash.{hash_bytes};
@@ -139,7 +139,8 @@ fn taken(
     many + 1
 }
 
-// The next eight links that are wanted, from link w + 1 on, and where those after them begin; 0 where there are no eight.
+// The next eight links that are wanted, from link `from` + 1 on, and where those after them begin; None where there are
+// no eight.
 fn next_eight(
     form: Form,
     store: &[u8],
@@ -149,21 +150,19 @@ fn next_eight(
     from: usize,
     slots: &mut [usize; 8],
     links: &mut [u16; 8],
-) -> usize
+) -> Option<usize>
     requires { Room form store.now n × AllSlots form store.now slots.old × AllLinks form store.now links.old }
     ensures all_slots { AllSlots form store.now slots.new × AllLinks form store.now links.new }
-    ensures lower_bound { 0 < result → from < result }
+    ensures lower_bound { IfSome result (λ next. from < next) }
 {
-    let mut w = from;
     let mut many = 0;
-    while w < 2 * n {
+    for w in from..2 * n {
         many = taken(form, store, n, w, wide(guess[w]), many, known, slots, links);
-        w += 1;
         if many == 8 {
-            return w;
+            return Some(w + 1);
         }
     }
-    0
+    None
 }
 
 // The links in their order, as long as each stores the hash of the record that is guessed. Where one doesn't, the look at the links one by one
@@ -176,13 +175,14 @@ pub fn hash_ahead(form: Form, store: &[u8], guess: &[u16; 32768], known: &mut [u
     let mut slots = [0usize; 8];
     let mut links = [1u16; 8];
     let mut w = 0;
+    // Steps of any length, which are no count.
     while w < 2 * n {
-        w = next_eight(form, store, n, guess, known, w, &mut slots, &mut links);
-        if w == 0 {
+        let Some(next) = next_eight(form, store, n, guess, known, w, &mut slots, &mut links) else {
             return;
-        }
+        };
         if !enter_eight(form, store, &slots, &links, known) {
             return;
         }
+        w = next;
     }
 }

@@ -23,7 +23,7 @@ use Rattle.layout.specs.Stores.{slot_in, store_in, slot_no, Has}
 use Rattle.store.proofs.Slots.{slot_is, slots_many}
 use Rattle.check_pass.specs.Passes.{kind_in}
 use Rattle.check_pass.proofs.Records.{kind_most, LeafHere, InnerHere, record_cases}
-use Rattle.lookup.specs.declared.Found.TheVariants.{At, Nothing}
+use Rattle.std.specs.Prelude.{Some, None}
 use Rattle.lookup.specs.Lookup.{FoundIn}
 use Rattle.check_counts.specs.Counts.{FitsAt}
 
@@ -42,14 +42,14 @@ module _ {fm : Form} {s : Bytes} {i : ℕ} (h : Has fm s i) (q : Record) (e : sl
   inner_weighs l = ⊎_elim (λ w. absurd (l w.0)) (λ w. sym (ap weight w.1)) cases
 
 -- a node that was found
-pub found_has : (fm : Form) (s : Bytes) (v : ℕ) (p : Place) (i : ℕ) → size_right fm (length s) ≡ true → FoundIn (store_in fm s).slots v p (At i) → Has fm s i
+pub found_has : (fm : Form) (s : Bytes) (v : ℕ) (p : Place) (i : ℕ) → size_right fm (length s) ≡ true → FoundIn (store_in fm s).slots v p (Some i) → Has fm s i
 found_has fm s v p i z f = record { size = z; inside = omega (arith, f.0, slots_many fm s) }
 
-pub found_weighs : (fm : Form) (s : Bytes) (v : ℕ) (p : Place) (i : ℕ) → FoundIn (store_in fm s).slots v p (At i) → {n : ℕ} →
+pub found_weighs : (fm : Form) (s : Bytes) (v : ℕ) (p : Place) (i : ℕ) → FoundIn (store_in fm s).slots v p (Some i) → {n : ℕ} →
     ((q : Record) → slot_no fm i s ≡ used q → n ≡ weight q) → n ≡ weighed (find v p (store_in fm s).slots)
 found_weighs fm s v p i f w = w f.1.0 f.1.1 ∙ sym (ap weighed f.1.2)
 
-pub nothing_weighs : (fm : Form) (s : Bytes) (v : ℕ) (p : Place) → FoundIn (store_in fm s).slots v p Nothing → 0 ≡ weighed (find v p (store_in fm s).slots)
+pub nothing_weighs : (fm : Form) (s : Bytes) (v : ℕ) (p : Place) → FoundIn (store_in fm s).slots v p None → 0 ≡ weighed (find v p (store_in fm s).slots)
 nothing_weighs fm s v p f = sym (ap weighed f)
 
 -- the counts of a record by those of its children, as the code compares them

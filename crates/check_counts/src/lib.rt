@@ -15,7 +15,7 @@ ghost use Rattle.layout.specs.Stores.{store_in, slot_no, Has};
 ghost use Rattle.check_counts.specs.Counts.{FitsAt};
 
 use layout::sizes::LEAF_KIND;
-use lookup::{Found, find};
+use lookup::find;
 use place::Place;
 use store::{child_count_at, kind_at};
 use terms::Form;
@@ -50,11 +50,11 @@ pub fn weigh(form: Form, store: &[u8], version: u32, place: Place) -> u64
     ensures { result ≡ weighed (find version (place_of place) (store_in form store.now).slots) }
 {
     match find(form, store, version, place) {
-        Found::At(i) => {
+        Some(i) => {
             let n = weight_at(form, store, i);
             n
         }
-        Found::Nothing => 0,
+        None => 0,
     }
 }
 

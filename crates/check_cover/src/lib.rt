@@ -28,12 +28,10 @@ pub fn covered(form: Form, store: &[u8], kept: Kept, sums: &[u32; 16384]) -> usi
     ensures { Each (CoveredAt form store.now sums.now) result }
 {
     let n = slot_count(form, store);
-    let mut i = 0;
-    while i < n {
+    for i in 0..n {
         if !slot_covered(form, store, kept, i, sums[i]) {
             return i;
         }
-        i += 1;
     }
-    i
+    n
 }

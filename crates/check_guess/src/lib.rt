@@ -1,9 +1,9 @@
-// A guess at the slot of each child that a record names, from a table of the slots in order. Nothing is promised of the guess but that it is
+// A guess at the slot of each child that a record names, from a row of the slots in order. Nothing is promised of the guess but that it is
 // made; who uses it looks at what it gives. The children on one side stand in the order of their parents where the store is sound, so the
 // search for one goes on from where the last one ended.
 #![tactic(auto)]
 
-ghost use Rattle.std.specs.Prelude.{◌≤◌, ◌<◌};
+ghost use Rattle.std.specs.Prelude.{◌≤◌, ◌<◌, length};
 ghost use Rattle.check_pass.specs.Passes.{Room};
 
 use hash::{Hash, hash_at};
@@ -49,24 +49,17 @@ fn stands_before(form: Form, store: &[u8], n: usize, i: usize, node: Node) -> bo
     version < node.version
 }
 
-// The first of the entries from `from` to `end` that does not stand before a node, by halving; `end` where there is none.
-fn halved(
-    form: Form,
-    store: &[u8],
-    n: usize,
-    table: &[u16; 16384],
-    from: usize,
-    end: usize,
-    node: Node,
-) -> usize
-    requires { Room form store.now n × (from ≤ end) × (end ≤ 16384) }
-    ensures { result ≤ end }
+// The first of a row's slots that does not stand before a node, by halving; their number where there is none.
+fn halved(form: Form, store: &[u8], n: usize, order: &[u16], node: Node) -> usize
+    requires { Room form store.now n }
+    ensures { result ≤ length order.now }
 {
-    let mut low = from;
-    let mut high = end;
+    let mut low = 0;
+    let mut high = order.len();
+    // By hand: `partition_point` compares once more in a short row, and check took longer by two in a hundred.
     while low < high {
         let middle = low + (high - low) / 2;
-        if stands_before(form, store, n, wide(table[middle]), node) {
+        if stands_before(form, store, n, wide(order[middle]), node) {
             low = middle + 1;
         } else {
             high = middle;
@@ -75,53 +68,38 @@ fn halved(
     low
 }
 
-// The same among the first `many` entries from `from` on, by steps that double and then by halving.
-fn galloped(
-    form: Form,
-    store: &[u8],
-    n: usize,
-    table: &[u16; 16384],
-    from: usize,
-    many: usize,
-    node: Node,
-) -> usize
-    requires { Room form store.now n × (from ≤ many) × (many ≤ 16384) }
-    ensures { result ≤ many }
+// The same by steps that double and then by halving.
+fn galloped(form: Form, store: &[u8], n: usize, order: &[u16], node: Node) -> usize
+    requires { Room form store.now n }
+    ensures { result ≤ length order.now }
 {
-    let mut low = from;
-    let mut high = from;
+    let mut low = 0;
+    let mut high = 0;
     let mut step = 1;
-    while high < many {
-        if !stands_before(form, store, n, wide(table[high]), node) {
-            return halved(form, store, n, table, low, high, node);
+    // Doubling, which is no count.
+    while high < order.len() {
+        if !stands_before(form, store, n, wide(order[high]), node) {
+            return low + halved(form, store, n, &order[low..high], node);
         }
         low = high + 1;
         high = high + step;
         step = step + step;
     }
-    halved(form, store, n, table, low, many, node)
+    low + halved(form, store, n, &order[low..], node)
 }
 
-// The first of the first `many` entries that does not stand before a node, looked for from a finger on; all of them are searched where the
-// finger is too far.
-fn searched(
-    form: Form,
-    store: &[u8],
-    n: usize,
-    table: &[u16; 16384],
-    finger: usize,
-    many: usize,
-    node: Node,
-) -> usize
-    requires { Room form store.now n × (finger ≤ many) × (many ≤ 16384) }
-    ensures { result ≤ many }
+// The same, looked for from a finger on; those before it are searched where the finger is too far.
+fn searched(form: Form, store: &[u8], n: usize, order: &[u16], finger: usize, node: Node) -> usize
+    requires { Room form store.now n × (finger ≤ length order.now) }
+    ensures { result ≤ length order.now }
 {
-    if 0 < finger {
-        if !stands_before(form, store, n, wide(table[finger - 1]), node) {
-            return halved(form, store, n, table, 0, finger - 1, node);
+    let (passed, rest) = order.split_at(finger);
+    if let Some((last, others)) = passed.split_last() {
+        if !stands_before(form, store, n, wide(*last), node) {
+            return halved(form, store, n, others, node);
         }
     }
-    galloped(form, store, n, table, finger, many, node)
+    finger + galloped(form, store, n, rest, node)
 }
 
 // The bits of a place of `count` bits, with a bit set behind them.
@@ -168,15 +146,14 @@ fn guess_side(
     form: Form,
     store: &[u8],
     n: usize,
-    table: &[u16; 16384],
+    order: &[u16],
     finger: usize,
-    many: usize,
     j: usize,
     right: bool,
     guess: &mut [u16; 32768],
 ) -> usize
-    requires { Room form store.now n × (finger ≤ many) × (many ≤ 16384) × (j < 65536) }
-    ensures { result ≤ many }
+    requires { Room form store.now n × (finger ≤ length order.now) × (j < 65536) }
+    ensures { result ≤ length order.now }
 {
     if n <= j {
         return finger;
@@ -200,34 +177,24 @@ fn guess_side(
         bits,
         version,
     };
-    let found = searched(form, store, n, table, finger, many, node);
-    let to = guess_at(j, right);
-    if found < many {
-        if to < 32768 {
-            guess[to] = table[found];
+    let found = searched(form, store, n, order, finger, node);
+    if let Some(slot) = order.get(found) {
+        if let Some(kid) = guess.get_mut(guess_at(j, right)) {
+            *kid = *slot;
         }
     }
     found
 }
 
-// Two guesses for each slot among the first `many` entries of the table: for its left child and for its right.
-pub fn guessed(
-    form: Form,
-    store: &[u8],
-    n: usize,
-    table: &[u16; 16384],
-    many: usize,
-    guess: &mut [u16; 32768],
-)
-    requires { Room form store.now n × (many ≤ 16384) }
+// Two guesses for each slot of the row: for its left child and for its right.
+pub fn guessed(form: Form, store: &[u8], n: usize, order: &[u16], guess: &mut [u16; 32768])
+    requires { Room form store.now n }
 {
     let mut left = 0;
     let mut right = 0;
-    let mut k = 0;
-    while k < many {
-        let j = wide(table[k]);
-        left = guess_side(form, store, n, table, left, many, j, false, guess);
-        right = guess_side(form, store, n, table, right, many, j, true, guess);
-        k += 1;
+    for i in order {
+        let j = wide(*i);
+        left = guess_side(form, store, n, order, left, j, false, guess);
+        right = guess_side(form, store, n, order, right, j, true, guess);
     }
 }

@@ -15,8 +15,8 @@ use Rattle.layout.specs.Sizes.{room_of}
 use Rattle.layout.specs.Headers.{size_right}
 use Rattle.layout.specs.Stores.{store_in, slot_no}
 use Rattle.store.proofs.Scans.{Scan, scan_start, scan_here, scan_next, scan_end}
-use Rattle.lookup.specs.declared.Found as declared-found
-use Rattle.lookup.specs.declared.Found.TheVariants.{At, Nothing}
+use Rattle.std.specs.declared.option.Option as option
+use Rattle.std.specs.Prelude.{Some, None}
 use Rattle.lookup.specs.Lookup.{FoundIn}
 use Rattle.agree.specs.Holding.{node_here}
 use Rattle.check_kin.specs.Kin.{count_node}
@@ -58,9 +58,9 @@ module _ {fm : Form} {s : Bytes} {v : ℕ} {p : Place} {n count j : ℕ} (w : Co
   count_end h = omega (arith, scan_end w.scan h)
 
 -- what a search says
-module _ (s : List Slot) (v : ℕ) (p : Place) (o : declared-found.Found) where
-  pub is_found_lem : {i : ℕ} → o ≡ At i → FoundIn s v p o → is_found (find v p s) ≡ true
+module _ (s : List Slot) (v : ℕ) (p : Place) (o : option.Option ℕ) where
+  pub is_found_lem : {i : ℕ} → o ≡ Some i → FoundIn s v p o → is_found (find v p s) ≡ true
   is_found_lem e f = ap is_found (subst (FoundIn s v p) e f).1.2
 
-  pub not_found : o ≡ Nothing → FoundIn s v p o → is_found (find v p s) ≡ false
+  pub not_found : o ≡ None → FoundIn s v p o → is_found (find v p s) ≡ false
   not_found e f = ap is_found (subst (FoundIn s v p) e f)

@@ -10,7 +10,7 @@ ghost use Rattle.layout.specs.Stores.{store_in, slot_no, Has};
 ghost use Rattle.check_kin.specs.Kin.{count_node};
 
 use agree::holds_node;
-use lookup::{Found, find};
+use lookup::find;
 use place::Place;
 use store::slot_count;
 use terms::Form;
@@ -33,10 +33,8 @@ pub fn holders(form: Form, store: &[u8], version: u32, place: Place) -> usize
 {
     let n = slot_count(form, store);
     let mut count = 0;
-    let mut j = 0;
-    while j < n {
+    for j in 0..n {
         count += holder(form, store, j, version, place);
-        j += 1;
     }
     count
 }
@@ -50,7 +48,7 @@ pub fn child_found(form: Form, store: &[u8], version: u32, place: Place) -> bool
         return true;
     }
     match find(form, store, version, place) {
-        Found::At(_) => true,
-        Found::Nothing => false,
+        Some(_) => true,
+        None => false,
     }
 }

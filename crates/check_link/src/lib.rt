@@ -21,15 +21,6 @@ pub struct Below {
     pub hash: Hash,
 }
 
-// What a slot says of a record below it.
-#[derive(Clone, Copy)]
-pub enum Said {
-    // How many kept versions it lives at as a parent; it is none, or all that it says is right.
-    Lived(u64),
-    // It is a parent, and the stored hash or the life isn't the record's, or the record is a lone leaf.
-    Wrong,
-}
-
 // Whether a record of that kind, beside a child of version `other`, is a lone leaf.
 fn lone_leaf(leaf: bool, other: u32) -> bool
     ensures { result ≡ cond leaf (eqb other 0) false }
@@ -40,22 +31,31 @@ fn lone_leaf(leaf: bool, other: u32) -> bool
     false
 }
 
-// What a parent of that version and end of life says, with the child that it names, beside a child of version `other`.
-pub fn link(kept: Kept, below: Below, version: u32, ends: u64, child: Child, other: u32) -> Said
+// What a parent of that version and end of life says, with the child that it names, beside a child of version
+// `other`: how many kept versions it lives at, or nothing, where the stored hash or the life isn't the record's, or
+// the record is a lone leaf.
+pub fn link(
+    kept: Kept,
+    below: Below,
+    version: u32,
+    ends: u64,
+    child: Child,
+    other: u32,
+) -> Option<u64>
     requires { ends ≤ 4294967296 }
     ensures { Short result × SaidOf (all_of (link_tests kept below version ends child other)) (ends - max kept.oldest version) result }
 {
     if !same_hash(below.hash, child.hash) {
-        return Said::Wrong;
+        return None;
     }
     if later(kept.oldest, version) < below.version {
-        return Said::Wrong;
+        return None;
     }
     if below.ends < ends {
-        return Said::Wrong;
+        return None;
     }
     if lone_leaf(below.leaf, other) {
-        return Said::Wrong;
+        return None;
     }
-    Said::Lived(kept_life(kept.oldest, version, ends))
+    Some(kept_life(kept.oldest, version, ends))
 }

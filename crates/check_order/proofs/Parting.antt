@@ -13,7 +13,7 @@ use Rattle.terms.specs.Bits.{Bytes, Byte, All, before}
 use Rattle.terms.specs.Records.{Record}
 use Rattle.meaning.specs.Sound.{At}
 use Rattle.meaning.specs.Local.{ends_before}
-use Rattle.layout.specs.Slots.{count_in, bits_in, version_in, since_in}
+use Rattle.layout.specs.Slots.{count_in, version_in, since_in}
 use Rattle.layout.specs.Headers.{size_right}
 use Rattle.layout.specs.Stores.{slot_in, store_in, Has}
 use Rattle.lookup.proofs.Matching.{count_is_lem}

@@ -1,8 +1,8 @@
-// The order of a store's records by bit count, bits and version: whether one slot stands before another, whether a table's entries ascend,
-// and whether they name each record. The roots stand first, by their versions; so that no two live together shows at each root and the next.
+// The order of a store's records by bit count, bits and version: whether one slot stands before another, whether a row of slots ascends,
+// and whether it names each record. The roots stand first, by their versions; so that no two live together shows at each root and the next.
 #![tactic(auto)]
 
-ghost use Rattle.std.specs.Prelude.{◌≡◌, true, ◌≤◌, length};
+ghost use Rattle.std.specs.Prelude.{◌≡◌, true, length};
 ghost use Rattle.terms.specs.Bits.{before};
 ghost use Rattle.layout.specs.Headers.{size_right};
 ghost use Rattle.layout.specs.Stores.{Has};
@@ -62,70 +62,51 @@ fn in_order(form: Form, store: &[u8], latest: u32, n: usize, a: usize, b: usize)
     parted(form, store, latest, a, b)
 }
 
-// How many of the first `many` entries of a table, from the first on, name slots in ascending order, roots parted.
-pub fn ascending(form: Form, store: &[u8], latest: u32, table: &[u16; 16384], many: usize) -> usize
-    requires { (size_right form (length store.now) ≡ true) × (many ≤ 16384) }
-    ensures { InOrder form latest store.now table.now result }
+// How many entries of a row, from the first on, name slots in ascending order, roots parted.
+pub fn ascending(form: Form, store: &[u8], latest: u32, order: &[u16]) -> usize
+    requires { size_right form (length store.now) ≡ true }
+    ensures { InOrder form latest store.now order.now result }
 {
     let n = slot_count(form, store);
-    let mut k = 1;
-    while k < many {
-        if !in_order(form, store, latest, n, wide(table[k - 1]), wide(table[k])) {
+    for k in 1..order.len() {
+        if !in_order(form, store, latest, n, wide(order[k - 1]), wide(order[k])) {
             return k;
         }
-        k += 1;
     }
-    k
+    order.len()
 }
 
 // Whether a slot is named where its rank says.
-fn is_named(table: &[u16; 16384], many: usize, rank: u16, i: usize) -> bool
-    requires { many ≤ 16384 }
-    ensures { Passed result (Named table.now many i) }
+fn is_named(order: &[u16], rank: u16, i: usize) -> bool
+    ensures { Passed result (Named order.now (length order.now) i) }
 {
-    let k = wide(rank);
-    if many <= k {
-        return false;
+    match order.get(wide(rank)) {
+        Some(named) => wide(*named) == i,
+        None => false,
     }
-    wide(table[k]) == i
 }
 
 // The same of slot i, unless its version says that it is free.
-fn slot_named(
-    form: Form,
-    store: &[u8],
-    table: &[u16; 16384],
-    many: usize,
-    rank: u16,
-    i: usize,
-) -> bool
-    requires { Has form store.now i × (many ≤ 16384) }
-    ensures { Passed result (NamedAt form store.now table.now many i) }
+fn slot_named(form: Form, store: &[u8], order: &[u16], rank: u16, i: usize) -> bool
+    requires { Has form store.now i }
+    ensures { Passed result (NamedAt form store.now order.now (length order.now) i) }
 {
     if version_at(form, store, i) == 0 {
         return true;
     }
-    is_named(table, many, rank, i)
+    is_named(order, rank, i)
 }
 
 // How many slots, from the first on, are free or named where their rank says.
-pub fn named(
-    form: Form,
-    store: &[u8],
-    table: &[u16; 16384],
-    many: usize,
-    ranks: &[u16; 16384],
-) -> usize
-    requires { (size_right form (length store.now) ≡ true) × (many ≤ 16384) }
-    ensures { Each (NamedAt form store.now table.now many) result }
+pub fn named(form: Form, store: &[u8], order: &[u16], ranks: &[u16; 16384]) -> usize
+    requires { size_right form (length store.now) ≡ true }
+    ensures { Each (NamedAt form store.now order.now (length order.now)) result }
 {
     let n = slot_count(form, store);
-    let mut i = 0;
-    while i < n {
-        if !slot_named(form, store, table, many, ranks[i], i) {
+    for i in 0..n {
+        if !slot_named(form, store, order, ranks[i], i) {
             return i;
         }
-        i += 1;
     }
-    i
+    n
 }

@@ -69,12 +69,10 @@ pub fn own_right(form: Form, store: &[u8], kept: Kept) -> usize
     ensures { Each (OwnAt (store_in form store.now)) result }
 {
     let n = slot_count(form, store);
-    let mut i = 0;
-    while i < n {
+    for i in 0..n {
         if !slot_right(form, store, kept, i) {
             return i;
         }
-        i += 1;
     }
-    i
+    n
 }

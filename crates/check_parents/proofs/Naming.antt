@@ -11,6 +11,7 @@ use lib.Dec.{eqb, leb}
 use borrow.Author.Tests.{eqb-true, eq-eqb}
 use types.Run.{OneOf}
 use denote.Enum.Declared.{tag_of}
+use Rattle.std.specs.Prelude.{Option, Some}
 use Rattle.terms.specs.declared.Form.{Form}
 use Rattle.terms.specs.Bits.{Bytes, Byte, All, Side, left, right, longer, same_bytes, pack}
 use Rattle.terms.specs.Fields.{all_of}
@@ -41,8 +42,6 @@ use Rattle.slots.specs.contracts.Kind as kind
 use Rattle.lookup.proofs.Matching.{says, count_is_lem, bits_are, place_is}
 use Rattle.check_kin.specs.declared.Kept as declared-kept
 use Rattle.check_link.specs.declared.Below as declared-below
-use Rattle.check_link.specs.declared.Said as declared-said
-use Rattle.check_link.specs.declared.Said.TheVariants.{Lived}
 use Rattle.check_kin.specs.Kin.{Keeps, ends_at, is_leaf_body}
 use Rattle.check_link.specs.Link.{link_tests, SaidOf}
 use Rattle.check_parents.specs.Parents.{Is, could_name, SlotSays}
@@ -160,11 +159,11 @@ lone_is : (d : Child) (o : Body) → lone_leaf d o ≡ cond (is_leaf_body o) (eq
 lone_is d (leaf_body k x) = refl
 lone_is d (inner_body l r) = refl
 
-said_as : {a c : Bool} {m n : ℕ} (t : declared-said.Said) → c ≡ a → n ≡ m → SaidOf a m t → SaidOf c n t
+said_as : {a c : Bool} {m n : ℕ} (t : Option ℕ) → c ≡ a → n ≡ m → SaidOf a m t → SaidOf c n t
 said_as t e f s = rw (e, f) s
 
 pub none_said : (st : Store) (r : Record) (y : Slot) → ((q : Record) → y ≡ used q → (b : Side) → names b q r ≡ false) →
-    SaidOf (by_record true (link_test leaf_hash inner_hash st r) y) (by_record 0 (life_above st r) y) (Lived 0)
+    SaidOf (by_record true (link_test leaf_hash inner_hash st r) y) (by_record 0 (life_above st r) y) (Some 0)
 none_said st r free f = (refl, refl)
 none_said st r (used q) f = (no_link st r q (f q refl), no_life st r q (f q refl))
 none_said st r (spoiled x) f = (refl, refl)
@@ -174,7 +173,7 @@ leaf_names q r k x e v b = is_false (names b q r) (λ n. omega (arith, (names_eq
 
 -- slot j says nothing by its fields
 module _ {fm : Form} {s : Bytes} {j : ℕ} (h : Has fm s j) (a : All Byte s) (b : declared-below.Below) (w : Proper b.up) where
-  pub no_parent : could_name b (slot_in fm j s) ≡ false → SlotSays fm s j b (Lived 0)
+  pub no_parent : could_name b (slot_in fm j s) ≡ false → SlotSays fm s j b (Some 0)
   no_parent f r i =
       none_said (store_in fm s) r (slot_no fm j s) (λ q e.
       not_named fm (slot_in fm j s) (slot_long fm j s (slot_within h)) (slot_bytes_lem fm j s a) q (sym (slot_is h) ∙ e) b w (store_in fm s) r i f)
@@ -183,7 +182,7 @@ module _ {fm : Form} {s : Bytes} {j : ℕ} (h : Has fm s j) (a : All Byte s) (b 
     abbrev says_as : declared-kind.Kind → Type 0
     says_as k = kind_says k t (slot_in fm j s) ≡ slot_no fm j s
 
-    pub no_inner : OneOf (0 ∷ 1 ∷ 3 ∷ []) (tag_of kind.the_type t.kind) → SlotSays fm s j b (Lived 0)
+    pub no_inner : OneOf (0 ∷ 1 ∷ 3 ∷ []) (tag_of kind.the_type t.kind) → SlotSays fm s j b (Some 0)
     unfolding slot_says kind_says record_says leaf_in
     no_inner o r i = go t.kind o (read.says ∙ sym (slot_is h))
       where
@@ -191,7 +190,7 @@ module _ {fm : Form} {s : Bytes} {j : ℕ} (h : Has fm s j) (a : All Byte s) (b 
         v = omega (arith, i.some, i.version)
 
         go : (k : declared-kind.Kind) → OneOf (0 ∷ 1 ∷ 3 ∷ []) (tag_of kind.the_type k) → says_as k →
-            SaidOf (by_record true (link_test leaf_hash inner_hash (store_in fm s) r) (slot_no fm j s)) (by_record 0 (life_above (store_in fm s) r) (slot_no fm j s)) (Lived 0)
+            SaidOf (by_record true (link_test leaf_hash inner_hash (store_in fm s) r) (slot_no fm j s)) (by_record 0 (life_above (store_in fm s) r) (slot_no fm j s)) (Some 0)
         go Free o e = rw (← e) (refl, refl)
         go Leaf o e = none_said (store_in fm s) r (slot_no fm j s) (λ q u.
             leaf_names q r (key_in (slot_in fm j s)) (value_inside (slot_in fm j s)) (ap (λ z. z.body) (used_eq q (record_says t (slot_in fm j s) (leaf_in (slot_in fm j s))) (sym u ∙ sym e))) v)
@@ -201,7 +200,7 @@ module _ {fm : Form} {s : Bytes} {j : ℕ} (h : Has fm s j) (a : All Byte s) (b 
     -- slot j is a parent
     pub parent_said : (k : declared-kept.Kept) → Keeps fm s k → could_name b (slot_in fm j s) ≡ true → (c d : declared-child.Child) → t.kind ≡ Inner c d →
         {x y : declared-child.Child} → x ≡ cond b.right d c → y ≡ cond (not b.right) d c → (ends : ℕ) → ends ≡ ends_at k.latest t.retired →
-        (z : declared-said.Said) → SaidOf (all_of (link_tests k b t.version ends x y.version)) (ends - max k.oldest t.version) z → SlotSays fm s j b z
+        (z : Option ℕ) → SaidOf (all_of (link_tests k b t.version ends x y.version)) (ends - max k.oldest t.version) z → SlotSays fm s j b z
     unfolding slot_says kind_says record_says child_says ends_before
     parent_said k keep could c d inner {x} {y} named-one beside-one ends ended z said r i =
         rw e

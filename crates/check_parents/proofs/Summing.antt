@@ -7,6 +7,7 @@ use mathlib.Core.Bool.{Bool, true, false}
 use mathlib.Core.List.{List, ◌∷◌}
 use lib.ListN.{length, drop}
 use lib.Dec.{leb}
+use Rattle.std.specs.Prelude.{Option, Some, None}
 use Rattle.terms.specs.declared.Form.{Form}
 use Rattle.terms.specs.Bits.{Bytes}
 use Rattle.terms.specs.Records.{Record, Slot}
@@ -17,8 +18,6 @@ use Rattle.layout.specs.Headers.{size_right}
 use Rattle.layout.specs.Stores.{store_in, slot_no}
 use Rattle.store.proofs.Scans.{Scan, scan_start, scan_here, scan_next, scan_end}
 use Rattle.check_link.specs.declared.Below as declared-below
-use Rattle.check_link.specs.declared.Said as declared-said
-use Rattle.check_link.specs.declared.Said.TheVariants.{Lived, Wrong}
 use Rattle.check_link.specs.Link.{Short}
 use Rattle.check_parents.specs.Parents.{Is, SlotSays, ParentsSay}
 
@@ -45,10 +44,10 @@ sum_start {fm} s b e m =
     record { scan = scan_start s (Rest fm s b 0) e m (λ r i. record { links = refl; life = rw zero-add }); fits = omega arith }
 
 module _ {fm : Form} {s : Bytes} {b : declared-below.Below} {n sum j : ℕ} (w : Summed fm s b n sum j) where
-  pub sum_short : {t : declared-said.Said} {m : ℕ} → t ≡ Lived m → Short t → m ≤ 4294967296
+  pub sum_short : {t : Option ℕ} {m : ℕ} → t ≡ Some m → Short t → m ≤ 4294967296
   sum_short e h = subst Short e h
 
-  pub sum_next : {t : declared-said.Said} {m : ℕ} → j < n → t ≡ Lived m → Short t → SlotSays fm s j b t → Summed fm s b n (sum + m) (j + 1)
+  pub sum_next : {t : Option ℕ} {m : ℕ} → j < n → t ≡ Some m → Short t → SlotSays fm s j b t → Summed fm s b n (sum + m) (j + 1)
   sum_next {t} {m} h e k f =
       let u = sum_short e k in
       record {
@@ -59,7 +58,7 @@ module _ {fm : Form} {s : Bytes} {b : declared-below.Below} {n sum j : ℕ} (w :
         fits = omega (arith, w.fits);
       }
 
-  pub sum_wrong : {t : declared-said.Said} → j < n → t ≡ Wrong → SlotSays fm s j b t → (life : ℕ) → ParentsSay fm s b life false
+  pub sum_wrong : {t : Option ℕ} → j < n → t ≡ None → SlotSays fm s j b t → (life : ℕ) → ParentsSay fm s b life false
   sum_wrong h e f life r i =
       let off : every (linked fm s r) (slot_no fm j s ∷ drop (j + 1) (store_in fm s).slots) ≡ false = rw (subst (SlotSays fm s j b) e f r i) in
       sym (rw ((scan_here w.scan h r i).links ∙ off))

@@ -1,6 +1,6 @@
 -- The parents of a record of a store, as the code asks them: what the helpers of the check promise each other. No
 -- public promise reaches this file. Assumes nothing.
-use Rattle.std.specs.Prelude.{ℕ, ◌≤◌, ◌≡◌, Bool, true, ◌&&◌, eqb, leb}
+use Rattle.std.specs.Prelude.{ℕ, ◌≤◌, ◌≡◌, Bool, true, ◌&&◌, eqb, leb, Option}
 use Rattle.terms.specs.declared.Form.{Form}
 use Rattle.terms.specs.Bits.{Bytes, longer, same_bytes}
 use Rattle.terms.specs.Records.{Record, Store}
@@ -15,7 +15,6 @@ use Rattle.layout.specs.Stores.{store_in, slot_no}
 use Rattle.check_kin.specs.Kin.{is_leaf_body}
 use Rattle.check_link.specs.Link.{SaidOf}
 use Rattle.check_link.specs.declared.Below as declared-below
-use Rattle.check_link.specs.declared.Said as declared-said
 
 -- A record of the store that stands below the root, as its parents are asked about it.
 pub record Is (st : Store) (b : declared-below.Below) (r : Record) : Type 0 where
@@ -33,7 +32,7 @@ could_name b x =
     same_bytes (bits_in x) b.up.bits)
 
 -- What slot j says of each record that is the one below.
-abbrev pub SlotSays : Form → Bytes → ℕ → declared-below.Below → declared-said.Said → Type 0
+abbrev pub SlotSays : Form → Bytes → ℕ → declared-below.Below → Option ℕ → Type 0
 SlotSays fm s j b t =
     (r : Record) → Is (store_in fm s) b r →
     SaidOf (by_record true (link_test leaf_hash inner_hash (store_in fm s) r) (slot_no fm j s))

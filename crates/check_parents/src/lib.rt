@@ -9,7 +9,7 @@ ghost use Rattle.check_link.specs.Link.{Short};
 ghost use Rattle.check_parents.specs.Parents.{could_name, SlotSays, ParentsSay};
 
 use check_kin::{Kept, ends_before};
-use check_link::{Below, Said, link};
+use check_link::{Below, link};
 use place::same;
 use slots::{Child, Kind, bits_of, read_slot};
 use store::{child_version_at, count_at, slot_count, slot_of};
@@ -38,18 +38,19 @@ fn on_side(side: bool, left: Child, right: Child) -> Child
     if side { right } else { left }
 }
 
-// What slot j says of a record.
-fn parent_says(form: Form, store: &[u8], j: usize, kept: Kept, below: Below) -> Said
+// What slot j says of a record: nothing, where it is a parent and what it says is wrong, else how many kept
+// versions it lives at as a parent.
+fn parent_says(form: Form, store: &[u8], j: usize, kept: Kept, below: Below) -> Option<u64>
     requires { Has form store.now j × Keeps form store.now kept × Proper below.up }
     ensures { Short result × SlotSays form store.now j below result }
 {
     if !could_name(form, store, j, below) {
-        return Said::Lived(0);
+        return Some(0);
     }
     let slot = read_slot(slot_of(form, store, j));
     let kind = slot.kind;
     let Kind::Inner { left, right } = kind else {
-        return Said::Lived(0);
+        return Some(0);
     };
     let version = slot.version;
     let ends = ends_before(kept.latest, slot.retired);
@@ -65,13 +66,11 @@ pub fn parents_right(form: Form, store: &[u8], kept: Kept, below: Below, life: u
 {
     let n = slot_count(form, store);
     let mut sum = 0;
-    let mut j = 0;
-    while j < n {
-        let Said::Lived(lived) = parent_says(form, store, j, kept, below) else {
+    for j in 0..n {
+        let Some(lived) = parent_says(form, store, j, kept, below) else {
             return false;
         };
         sum += lived;
-        j += 1;
     }
     life <= sum
 }

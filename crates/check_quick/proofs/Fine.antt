@@ -2,11 +2,12 @@
 use Prim.Native.Nat.{ℕ, zero, suc, ◌<◌, ◌≤◌}
 use native.Mathlib.Omega.{arith}
 use mathlib.Core.Path.{◌≡◌, refl, sym, ◌∙◌, subst}
-use mathlib.Core.Bool.{Bool, true, false, cond}
+use mathlib.Core.Bool.{Bool, true, false, cond, true≢false}
 use mathlib.Core.List.{List}
 use lib.ListN.{length, get_or, replicate}
 use lib.Dec.{eqb}
 use borrow.Author.Tests.{eqb-false}
+use Rattle.std.specs.Prelude.{Option, Some, None, is_some}
 use Rattle.terms.specs.declared.Form.{Form}
 use Rattle.terms.specs.Bits.{Bytes, Byte, All}
 use Rattle.terms.specs.Records.{Record, used}
@@ -33,16 +34,18 @@ use Rattle.check_pass.proofs.Records.{version_of_lem, retired_of, free_zero, rea
 use Rattle.check_seen.specs.Seen.{OwnAt}
 use Rattle.check_seen.proofs.Seen.{own_lives, seen_passes}
 use Rattle.check_seen.proofs.Sums.{under_start, under_end}
-use Rattle.check_quick.specs.declared.Look as declared
-use Rattle.check_quick.specs.declared.Look.TheVariants.{Fine, Suspect}
 use Rattle.check_quick.specs.Look.{Sure, Alone, Linked}
 
-pub sure_map : (q : declared.Look) {x y : Type 0} → (x → y) → Sure q x → Sure q y
-sure_map Fine f p = f p
-sure_map (Suspect i) f p = tt
+pub sure_map : (q : Option ℕ) {x y : Type 0} → (x → y) → Sure q x → Sure q y
+sure_map None f p = f p
+sure_map (Some i) f p = tt
 
-pub sure_is : {q : declared.Look} {a : Type 0} → q ≡ Fine → Sure q a → a
+pub sure_is : {q : Option ℕ} {a : Type 0} → q ≡ None → Sure q a → a
 sure_is {q} {a} e = subst (λ p. Sure p a) e
+
+pub sure_none : (q : Option ℕ) {a : Type 0} → is_some q ≡ false → Sure q a → a
+sure_none None e p = p
+sure_none (Some i) e p = absurd (true≢false e)
 
 pub zeros : (n i : ℕ) → get_or {A = ℕ} (replicate n 0) i 0 ≡ 0
 zeros zero i = refl

@@ -1,16 +1,14 @@
 -- What the passes leave where they find nothing wrong. Assumes nothing.
-use Rattle.std.specs.Prelude.{ℕ, ◌≡◌}
+use Rattle.std.specs.Prelude.{ℕ, ◌≡◌, Option, Some, None}
 use Rattle.terms.specs.Bits.{Bytes, Side}
 use Rattle.terms.specs.Records.{Record, Store}
 use Rattle.meaning.specs.Sound.{At}
 use Rattle.check_seen.specs.Seen.{Parted, Tied, Covered}
-use Rattle.check_quick.specs.declared.Look as declared
-use Rattle.check_quick.specs.declared.Look.TheVariants.{Fine, Suspect}
 
--- Where all is fine, so it is; of a suspect nothing is known.
-abbrev pub Sure : declared.Look → Type 0 → Type 0
-Sure Fine a = a
-Sure (Suspect i) a = Unit {0}
+-- Where no slot is named, all is fine; of a suspect nothing is known.
+abbrev pub Sure : Option ℕ → Type 0 → Type 0
+Sure None a = a
+Sure (Some i) a = Unit {0}
 
 -- No two records share version and place, and a root ends before a later one begins.
 pub record Alone (st : Store) : Type 0 where

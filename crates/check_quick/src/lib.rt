@@ -1,8 +1,9 @@
-// The check in few passes over the slots: own fields, order, links, lives. It says that all is fine, or which slot to look at. Only that all
-// is fine is promised; a slot that it names is a suspect, and the exact test decides.
+// The check in few passes over the slots: own fields, order, links, lives. Each pass answers a slot to look at, or
+// none where all is fine. Only that all is fine is promised; a slot that it names is a suspect, and the exact test
+// decides.
 #![tactic(auto)]
 
-ghost use Rattle.std.specs.Prelude.{◌≡◌, true, ◌≤◌, ◌<◌};
+ghost use Rattle.std.specs.Prelude.{◌≡◌, true, ◌<◌};
 ghost use Rattle.local.specs.Test.{slots_test};
 ghost use Rattle.nodehash.specs.Node.{leaf_hash, inner_hash};
 ghost use Rattle.layout.specs.Stores.{store_in, Has};
@@ -22,40 +23,32 @@ use check_tie::tie_all;
 use store::{slot_count, wide};
 use terms::Form;
 
-#[derive(Clone, Copy)]
-pub enum Look {
-    // Each slot passes.
-    Fine,
-    // The slot with this number may fail.
-    Suspect(usize),
-}
-
-// The slots in order: whether no two records share their node, and no two roots live together.
+// The slots in order: none where no two records share their node and no two roots live together, else a slot to
+// look at.
 fn in_order(
     form: Form,
     store: &[u8],
     kept: Kept,
-    many: usize,
-    table: &[u16; 16384],
+    order: &[u16],
     ranks: &[u16; 16384],
-) -> Look
-    requires { Ready form store.now kept × (many ≤ 16384) }
+) -> Option<usize>
+    requires { Ready form store.now kept }
     ensures { Sure result (Alone (store_in form store.now)) }
 {
     let n = slot_count(form, store);
-    let up = ascending(form, store, kept.latest, table, many);
-    if up < many {
-        return Look::Suspect(wide(table[up]));
+    let up = ascending(form, store, kept.latest, order);
+    if up < order.len() {
+        return Some(wide(order[up]));
     }
-    let i = named(form, store, table, many, ranks);
+    let i = named(form, store, order, ranks);
     if i < n {
-        return Look::Suspect(i);
+        return Some(i);
     }
-    Look::Fine
+    None
 }
 
-// Whether no two records share their node, and no two roots live together; and a guess at the slots of the children that they name.
-fn alone(form: Form, store: &[u8], kept: Kept, guess: &mut [u16; 32768]) -> Look
+// The same, the slots put in order first; and a guess at the slots of the children that they name.
+fn alone(form: Form, store: &[u8], kept: Kept, guess: &mut [u16; 32768]) -> Option<usize>
     requires { Ready form store.now kept }
     ensures { Sure result (Alone (store_in form store.now)) }
 {
@@ -63,9 +56,10 @@ fn alone(form: Form, store: &[u8], kept: Kept, guess: &mut [u16; 32768]) -> Look
     let mut table = [0u16; 16384];
     let mut ranks = [0u16; 16384];
     let many = sort(form, store, n, &mut table, &mut ranks);
-    rank(&table, many, &mut ranks);
-    guessed(form, store, n, &table, many, guess);
-    in_order(form, store, kept, many, &table, &ranks)
+    let order = &table[..many];
+    rank(order, &mut ranks);
+    guessed(form, store, n, order, guess);
+    in_order(form, store, kept, order, &ranks)
 }
 
 // Of a slot whose links are not right, the slot that fails the exact test: itself, or what was guessed for its children.
@@ -84,8 +78,9 @@ fn suspect(form: Form, store: &[u8], kept: Kept, j: usize, a: usize, b: usize) -
     b
 }
 
-// Whether each record is tied to the children that it names, and its life covered by its parents.
-fn linked(form: Form, store: &[u8], kept: Kept, guess: &[u16; 32768]) -> Look
+// None where each record is tied to the children that it names and its life is covered by its parents, else a slot
+// to look at.
+fn linked(form: Form, store: &[u8], kept: Kept, guess: &[u16; 32768]) -> Option<usize>
     requires { Ready form store.now kept }
     ensures { Sure result (Linked leaf_hash inner_hash (store_in form store.now)) }
 {
@@ -97,35 +92,34 @@ fn linked(form: Form, store: &[u8], kept: Kept, guess: &[u16; 32768]) -> Look
     if j < n {
         let a = wide(guess[2 * j]);
         let b = wide(guess[2 * j + 1]);
-        return Look::Suspect(suspect(form, store, kept, j, a, b));
+        return Some(suspect(form, store, kept, j, a, b));
     }
     let i = covered(form, store, kept, &sums);
     if i < n {
-        return Look::Suspect(i);
+        return Some(i);
     }
-    Look::Fine
+    None
 }
 
-// Whether each slot passes; own fields first, so that no spoiled slot stands beside a right one in the order. The guesses of the children's slots stay in
-// the caller's room.
-pub fn quick_with(form: Form, store: &[u8], kept: Kept, guess: &mut [u16; 32768]) -> Look
+// A slot that may fail, or none where each slot passes; own fields first, so that no spoiled slot stands beside a
+// right one in the order. The guesses of the children's slots stay in the caller's room.
+pub fn quick_with(form: Form, store: &[u8], kept: Kept, guess: &mut [u16; 32768]) -> Option<usize>
     requires { Keeps form store.now kept }
     ensures { Sure result (slots_test leaf_hash inner_hash (store_in form store.now) ≡ true) }
 {
     let n = slot_count(form, store);
     let i = own_right(form, store, kept);
     if i < n {
-        return Look::Suspect(i);
+        return Some(i);
     }
-    let first = alone(form, store, kept, guess);
-    match first {
-        Look::Fine => linked(form, store, kept, guess),
-        Look::Suspect(i) => Look::Suspect(i),
+    match alone(form, store, kept, guess) {
+        None => linked(form, store, kept, guess),
+        Some(i) => Some(i),
     }
 }
 
 // The same with room of its own for the guesses.
-pub fn quick(form: Form, store: &[u8], kept: Kept) -> Look
+pub fn quick(form: Form, store: &[u8], kept: Kept) -> Option<usize>
     requires { Keeps form store.now kept }
     ensures { Sure result (slots_test leaf_hash inner_hash (store_in form store.now) ≡ true) }
 {

@@ -45,12 +45,10 @@ pub fn roots_apart(form: Form, store: &[u8], kept: Kept, version: u32, ends: u64
     ensures { result ≡ every (by_record true (clear_of (store_in form store.now) version ends)) (store_in form store.now).slots }
 {
     let n = slot_count(form, store);
-    let mut j = 0;
-    while j < n {
+    for j in 0..n {
         if !root_apart(form, store, j, kept, version, ends) {
             return false;
         }
-        j += 1;
     }
     true
 }

@@ -5,7 +5,7 @@ use mathlib.Core.Path.{◌≡◌, ap, sym, ◌∙◌, subst}
 use mathlib.Core.Bool.{Bool, true, false}
 use Rattle.terms.specs.declared.Form.{Form}
 use Rattle.terms.specs.Bits.{Bytes, Byte, All}
-use Rattle.terms.specs.Records.{inner_body, Tally, no_tally, Slot}
+use Rattle.terms.specs.Records.{inner_body, Tally, no_tally}
 use Rattle.local.specs.Test.{record_test, slot_test}
 use Rattle.nodehash.specs.Node.{leaf_hash, inner_hash}
 use Rattle.place.proofs.Places.{proper_count}

@@ -106,12 +106,10 @@ pub fn each_passes(form: Form, store: &[u8], kept: Kept) -> bool
     ensures { result ≡ slots_test leaf_hash inner_hash (store_in form store.now) }
 {
     let n = slot_count(form, store);
-    let mut i = 0;
-    while i < n {
+    for i in 0..n {
         if !slot_passes(form, store, i, kept) {
             return false;
         }
-        i += 1;
     }
     true
 }

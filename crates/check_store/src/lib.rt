@@ -8,12 +8,13 @@ ghost use Rattle.nodehash.specs.Node.{leaf_hash, inner_hash};
 ghost use Rattle.layout.specs.Stores.{store_in};
 ghost use Rattle.check_kin.specs.Kin.{Keeps};
 ghost use Rattle.promises.specs.Check.{Checked};
+ghost use Rattle.refusal_numbers.specs.Refusals.{number_told};
 
 use check_kin::Kept;
-use check_quick::{Look, quick, quick_with};
+use check_quick::{quick, quick_with};
 use check_slot::{each_passes, slot_passes};
 use header::{Header, read_header};
-use refusal_numbers::NOT_SOUND;
+use refusal_numbers::Refusal;
 use store::slot_count;
 use terms::Form;
 
@@ -37,50 +38,32 @@ fn slots_pass(form: Form, store: &[u8], kept: Kept) -> bool
     requires { Keeps form store.now kept }
     ensures { result ≡ slots_test leaf_hash inner_hash (store_in form store.now) }
 {
-    let seen = quick(form, store, kept);
-    match seen {
-        Look::Fine => true,
-        Look::Suspect(i) => suspect_passes(form, store, kept, i),
+    match quick(form, store, kept) {
+        None => true,
+        Some(i) => suspect_passes(form, store, kept, i),
     }
 }
 
-// 0 where any bytes are a sound store, else the number of refusal.
-pub fn check(form: Form, store: &[u8]) -> u32
-    ensures { Checked form store.now result }
+// Whether any bytes are a sound store.
+pub fn check(form: Form, store: &[u8]) -> Result<(), Refusal>
+    ensures { Checked form store.now (number_told result) }
 {
-    let header = read_header(form, store);
-    match header {
-        Header::Refused(n) => n,
-        Header::Accepted {
-            capacity: _,
-            oldest,
-            latest,
-        } => {
-            let kept = Kept { oldest, latest };
-            if !slots_pass(form, store, kept) {
-                return NOT_SOUND;
-            }
-            0
-        }
+    let Header { oldest, latest, .. } = read_header(form, store)?;
+    let kept = Kept { oldest, latest };
+    if !slots_pass(form, store, kept) {
+        return Err(Refusal::NotSound);
     }
+    Ok(())
 }
 
-// The same, and where it is 0 check's guesses of the slots of the children that records name are left in the caller's room; nothing is promised of them.
-pub fn check_with(form: Form, store: &[u8], guess: &mut [u16; 32768]) -> u32
-    ensures { Checked form store.now result }
+// The same, and where it is accepted check's guesses of the slots of the children that records name are left in the caller's room; nothing is promised of them.
+pub fn check_with(form: Form, store: &[u8], guess: &mut [u16; 32768]) -> Result<(), Refusal>
+    ensures { Checked form store.now (number_told result) }
 {
-    let header = read_header(form, store);
-    let Header::Accepted {
-        capacity: _,
-        oldest,
-        latest,
-    } = header
-    else {
-        return check(form, store);
-    };
+    let Header { oldest, latest, .. } = read_header(form, store)?;
     let versions = Kept { oldest, latest };
-    let Look::Fine = quick_with(form, store, versions, guess) else {
+    if quick_with(form, store, versions, guess).is_some() {
         return check(form, store);
-    };
-    0
+    }
+    Ok(())
 }

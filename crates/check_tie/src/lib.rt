@@ -102,14 +102,12 @@ pub fn tie_all(
     ensures { TiedTo form store.now result sums.old sums.new }
 {
     let n = slot_count(form, store);
-    let mut j = 0;
-    while j < n {
+    for j in 0..n {
         let a = wide(guess[2 * j]);
         let b = wide(guess[2 * j + 1]);
         if !tie_slot(form, store, kept, j, a, b, known, sums) {
             return j;
         }
-        j += 1;
     }
-    j
+    n
 }

@@ -6,12 +6,13 @@ ghost use Rattle.layout.specs.Headers.{size_right};
 ghost use Rattle.check_kin.specs.Kin.{Keeps};
 
 use check_kin::Kept;
-use check_quick::{Look, quick};
+use check_quick::quick;
 use check_slot::slot_passes;
 use check_store::check;
 use header::{Header, read_header};
 use header_form::size_right;
 use nodehash::leaf_hash;
+use refusal_numbers::number_told;
 use slots::grant_of;
 use store::{kind_at, slot_count, slot_of};
 use terms::Form;
@@ -27,7 +28,7 @@ const NO_STORE: u32 = 3;
 // The check itself.
 #[unsafe(no_mangle)]
 pub extern "C" fn check_store(store: &[u8]) -> u32 {
-    check(Form::Counted, store)
+    number_told(check(Form::Counted, store))
 }
 
 // What came of the passes over the slots of a store that keeps these versions.
@@ -35,10 +36,9 @@ fn suspected(store: &[u8], kept: Kept) -> u32
     requires { Keeps Form.Counted store.now kept }
 {
     let n = slot_count(Form::Counted, store);
-    let seen = quick(Form::Counted, store, kept);
-    match seen {
-        Look::Fine => FINE,
-        Look::Suspect(i) => {
+    match quick(Form::Counted, store, kept) {
+        None => FINE,
+        Some(i) => {
             if n <= i {
                 return SUSPECT_PASSES;
             }
@@ -56,12 +56,8 @@ fn suspected(store: &[u8], kept: Kept) -> u32
 pub extern "C" fn check_suspect(store: &[u8]) -> u32 {
     let header = read_header(Form::Counted, store);
     match header {
-        Header::Refused(_) => NO_STORE,
-        Header::Accepted {
-            capacity: _,
-            oldest,
-            latest,
-        } => suspected(store, Kept { oldest, latest }),
+        Err(_) => NO_STORE,
+        Ok(Header { oldest, latest, .. }) => suspected(store, Kept { oldest, latest }),
     }
 }
 
@@ -71,13 +67,11 @@ fn hashed(store: &[u8]) -> u32
 {
     let n = slot_count(Form::Counted, store);
     let mut odd = 0u32;
-    let mut i = 0;
-    while i < n {
+    for i in 0..n {
         if kind_at(Form::Counted, store, i) != 0 {
             let h = leaf_hash(grant_of(slot_of(Form::Counted, store, i)));
-            odd = std::num::wrapping_add_u32(odd, (h.a % 2) as u32);
+            odd = odd.wrapping_add((h.a % 2) as u32);
         }
-        i += 1;
     }
     odd
 }

@@ -1,46 +1,55 @@
 // SHA-256 of a slice of bytes of any length.
 #![tactic(auto)]
 
-ghost use Rattle.std.specs.Prelude.{◌≡◌, ◌++◌, ◌∷◌, [], ◌+◌, ◌/◌, ◌<◌, ◌≤◌, length, get_or};
+ghost use Rattle.std.specs.Prelude.{◌≡◌, ◌++◌, ◌∷◌, [], ℕ, ◌+◌, ◌*◌, ◌/◌, ◌<◌, ◌≤◌, length, get_or};
+ghost use Rattle.terms.specs.Bits.{Bytes};
 ghost use Rattle.hash.specs.BigEndian.{word_at};
 ghost use Rattle.hash.specs.Hash.{hash_bytes};
 ghost use Rattle.sha256.specs.Sha256.{hash_value, padded, sha256};
 ghost use Rattle.sha256.specs.Rolling.{block_at};
 ghost use Rattle.digest.specs.Tail.{last_of};
 
-use hash::{Hash, pack, wide, word_at};
+use hash::{Hash, word_at};
 use sha256::{State, Words, compress, start, to_hash};
+
+// Sixteen words, each by its number.
+fn words_of<F: Fn(usize) -> u32>(word: F) -> Words
+    requires { (k : ℕ) → k < 16 → F.pre word k }
+    ensures { (m : Bytes) (p : ℕ) → ((k w : ℕ) → k < 16 → F.post word k w → w ≡ word_at m (p + k * 4)) → result ≡ block_at m p }
+{
+    Words {
+        w0: word(0),
+        w1: word(1),
+        w2: word(2),
+        w3: word(3),
+        w4: word(4),
+        w5: word(5),
+        w6: word(6),
+        w7: word(7),
+        w8: word(8),
+        w9: word(9),
+        w10: word(10),
+        w11: word(11),
+        w12: word(12),
+        w13: word(13),
+        w14: word(14),
+        w15: word(15),
+    }
+}
 
 fn words_at(b: &[u8], at: usize) -> Words
     requires { at + 64 ≤ length b.now }
     ensures { result ≡ block_at b.now at }
 {
-    Words {
-        w0: word_at(b, at),
-        w1: word_at(b, at + 4),
-        w2: word_at(b, at + 8),
-        w3: word_at(b, at + 12),
-        w4: word_at(b, at + 16),
-        w5: word_at(b, at + 20),
-        w6: word_at(b, at + 24),
-        w7: word_at(b, at + 28),
-        w8: word_at(b, at + 32),
-        w9: word_at(b, at + 36),
-        w10: word_at(b, at + 40),
-        w11: word_at(b, at + 44),
-        w12: word_at(b, at + 48),
-        w13: word_at(b, at + 52),
-        w14: word_at(b, at + 56),
-        w15: word_at(b, at + 60),
-    }
+    words_of(|k| word_at(b, at + k * 4))
 }
 
 // A byte of the message with the byte 128 after it, and then zeros for ever.
-fn tail_byte(b: &[u8], at: usize) -> u32
+fn tail_byte(b: &[u8], at: usize) -> u8
     ensures { (result ≡ get_or (b.now ++ (128 ∷ [])) at 0) × (result < 256) }
 {
     if at < b.len() {
-        return wide(b[at]);
+        return b[at];
     }
     if at == b.len() {
         return 128;
@@ -59,36 +68,19 @@ fn tail_word(b: &[u8], at: usize) -> u32
     if b.len() < at {
         return 0;
     }
-    pack(
+    u32::from_be_bytes([
         tail_byte(b, at),
         tail_byte(b, at + 1),
         tail_byte(b, at + 2),
         tail_byte(b, at + 3),
-    )
+    ])
 }
 
 fn tail_words(b: &[u8], at: usize) -> Words
     requires { at ≤ length b.now + 64 }
     ensures { result ≡ block_at (b.now ++ (128 ∷ [])) at }
 {
-    Words {
-        w0: tail_word(b, at),
-        w1: tail_word(b, at + 4),
-        w2: tail_word(b, at + 8),
-        w3: tail_word(b, at + 12),
-        w4: tail_word(b, at + 16),
-        w5: tail_word(b, at + 20),
-        w6: tail_word(b, at + 24),
-        w7: tail_word(b, at + 28),
-        w8: tail_word(b, at + 32),
-        w9: tail_word(b, at + 36),
-        w10: tail_word(b, at + 40),
-        w11: tail_word(b, at + 44),
-        w12: tail_word(b, at + 48),
-        w13: tail_word(b, at + 52),
-        w14: tail_word(b, at + 56),
-        w15: tail_word(b, at + 60),
-    }
+    words_of(|k| tail_word(b, at + k * 4))
 }
 
 // The last two words of the last block say how many bits a message of n bytes has.
@@ -104,12 +96,9 @@ fn last_words(x: Words, n: usize) -> Words
 fn whole_blocks(b: &[u8]) -> State
     ensures { result ≡ hash_value (padded b.now) (length b.now / 64) }
 {
-    let n = b.len() / 64;
     let mut s = start();
-    let mut i: usize = 0;
-    while i < n {
+    for i in 0..b.len() / 64 {
         s = compress(s, words_at(b, i * 64));
-        i += 1;
     }
     s
 }

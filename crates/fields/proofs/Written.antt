@@ -6,26 +6,11 @@ use native.Mathlib.Numerals.{add-one}
 use mathlib.Core.Path.{◌≡◌, refl, ap, ap₂, sym, ◌∙◌}
 use mathlib.Core.List.{List, [], ◌∷◌, ◌++◌, append_assoc, append-nil}
 use lib.ListN.{length, get_or, take, drop, set, length-append, length-take, length-drop, drop_of_length-le, take-append-drop}
-use lib.Seq.{sets, sets-eq, set_at, drop-cons, take-suc, append_snoc, take_all, length-take-le, take_at, drop_at, drop-append-add, drop-drop}
+use lib.Seq.{set_at, drop-cons, take-suc, append_snoc, take_all, length-take-le, take_at, drop_at, drop-append-add, drop-drop}
 use Rattle.terms.specs.Bits.{Bytes}
 use Rattle.terms.specs.Fields.{le, flat, slice}
 use Rattle.terms.proofs.Fields.{Sized, total, length_le, length_flat, length_slice, slice_rest}
 use Rattle.fields.specs.Written.{written}
-
--- stores one after the other
-sets_written : (f s : Bytes) (i : ℕ) → i + length f ≤ length s → sets s i f ≡ written i f s
-unfolding written
-sets_written f s i h = sets-eq f s i h ∙ append_assoc (take i s) f (drop (i + length f) s)
-
-pub set_two : (s : Bytes) (i a b : ℕ) → i + 2 ≤ length s → set (set s i a) (i + 1) b ≡ written i (a ∷ b ∷ []) s
-set_two s i a b h = rw add-one (sets_written (a ∷ b ∷ []) s i h)
-
-pub set_four : (s : Bytes) (i a b c d : ℕ) → i + 4 ≤ length s → set (set (set (set s i a) (i + 1) b) (i + 2) c) (i + 3) d ≡ written i (a ∷ b ∷ c ∷ d ∷ []) s
-set_four s i a b c d h =
-    let e₁ : i + 1 ≡ suc i = omega arith in
-    let e₂ : i + 2 ≡ suc (suc i) = omega arith in
-    let e₃ : i + 3 ≡ suc (suc (suc i)) = omega arith in
-    rw (e₁, e₂, e₃) (sets_written (a ∷ b ∷ c ∷ d ∷ []) s i h)
 
 pub length_written : (i : ℕ) (f s : Bytes) → i + length f ≤ length s → length (written i f s) ≡ length s
 unfolding written

@@ -13,8 +13,10 @@ use Rattle.meaning.specs.Calls.{Answer, refused, accepted}
 use Rattle.meaning.proofs.Told.{exported_refusal, exported_answer}
 use Rattle.quarter.specs.Figures.{Quarter}
 use Rattle.figures_sound.specs.Figures.{Totals, totals, figured_says, totals_of, Tells}
-use Rattle.figures_sound.specs.declared.Figured as declared
-use Rattle.figures_sound.specs.declared.Figured.TheVariants.{Refused, Told}
+use Rattle.std.specs.Prelude.{Result, Ok, Err}
+use Rattle.refusal_numbers.specs.Refusals.{number}
+use Rattle.refusal_numbers.specs.declared.Refusal.{Refusal}
+use Rattle.figures_sound.specs.declared.Totals as declared
 use Rattle.contracts.specs.Figures.{Figures}
 
 -- two numbers of four bytes
@@ -28,13 +30,13 @@ totals_put d n f f₁ f₂ l a b =
 same_totals : {x y : Totals} → ◌≡◌ {A = Answer Totals} (accepted x) (accepted y) → x ≡ y
 same_totals e = cc
 
-module _ {first last : ℕ} {s room after : Bytes} {r : declared.Figured} (w : Tells first last s room (figured_says r) after) (old : Bytes) where
-  pub figures_refused : {n : ℕ} → r ≡ Refused n → Figures first last s room old n after old
-  figures_refused {n} e = go w.answer refl (sym (ap figured_says e) ∙ w.says)
+module _ {first last : ℕ} {s room after : Bytes} {r : Result declared.Totals Refusal} (w : Tells first last s room (figured_says r) after) (old : Bytes) where
+  pub figures_refused : {x : Refusal} → r ≡ Err x → Figures first last s room old (number x) after old
+  figures_refused {x} e = go w.answer refl (sym (ap figured_says e) ∙ w.says)
     where
-      go : (a : Answer Quarter) → w.answer ≡ a → refused n ≡ totals_of a → Figures first last s room old n after old
+      go : (a : Answer Quarter) → w.answer ≡ a → refused (number x) ≡ totals_of a → Figures first last s room old (number x) after old
       go (refused m) f g =
-          let same : n ≡ m = cc in record {
+          let same : number x ≡ m = cc in record {
             answer = w.answer;
             does = w.does;
             exported = exported_refusal (ap refused same ∙ sym f);
@@ -42,15 +44,15 @@ module _ {first last : ℕ} {s room after : Bytes} {r : declared.Figured} (w : T
           }
       go (accepted q) f g = let z : ◌≡◌ {A = ℕ} 0 1 = cc in absurd (omega arith)
 
-  pub figures_told : {d n : ℕ} {new : Bytes} → r ≡ Told d n → new ≡ le 4 d ++ le 4 n → Figures first last s room old 0 after new
-  figures_told {d} {n} {new} e x = go w.answer refl (sym (ap figured_says e) ∙ w.says)
+  pub figures_told : {t : declared.Totals} {new : Bytes} → r ≡ Ok t → new ≡ le 4 t.distinct ++ le 4 t.records → Figures first last s room old 0 after new
+  figures_told {t} {new} e x = go w.answer refl (sym (ap figured_says e) ∙ w.says)
     where
-      go : (a : Answer Quarter) → w.answer ≡ a → accepted (totals d n) ≡ totals_of a → Figures first last s room old 0 after new
+      go : (a : Answer Quarter) → w.answer ≡ a → accepted (totals t.distinct t.records) ≡ totals_of a → Figures first last s room old 0 after new
       go (refused m) f g = let z : ◌≡◌ {A = ℕ} 0 1 = cc in absurd (omega arith)
       go (accepted q) f g =
           let same = same_totals g in
-          let d-is = ap (λ (t : Totals). t.distinct) same in
-          let n_is = ap (λ (t : Totals). t.records) same in
+          let d-is = ap (λ (u : Totals). u.distinct) same in
+          let n_is = ap (λ (u : Totals). u.records) same in
           record {
             answer = w.answer;
             does = w.does;

@@ -8,17 +8,15 @@ ghost use Rattle.contracts.specs.Figures as export;
 
 use check_store::check;
 use fields::put_u32;
-use figures_sound::{Figured, figures_sound};
+use figures_sound::{Totals, figures_sound};
+use refusal_numbers::Refusal;
 use terms::Form;
 
 // The figures of a range of versions, where check accepts the store; refused, nothing is written.
-pub fn figures(store: &[u8], first: u32, last: u32, room: &mut [u8]) -> Figured
+pub fn figures(store: &[u8], first: u32, last: u32, room: &mut [u8]) -> Result<Totals, Refusal>
     ensures { Tells first last store.now room.old (figured_says result) room.new }
 {
-    let refusal = check(Form::Counted, store);
-    if refusal != 0 {
-        return Figured::Refused(refusal);
-    }
+    check(Form::Counted, store)?;
     figures_sound(store, first, last, room)
 }
 
@@ -44,8 +42,8 @@ pub fn grants_figures(
 {
     let figured = figures(store, first, last, room);
     match figured {
-        Figured::Refused(n) => n,
-        Figured::Told { distinct, records } => {
+        Err(refusal) => refusal.number(),
+        Ok(Totals { distinct, records }) => {
             put_totals(totals, distinct, records);
             0
         }

@@ -1,8 +1,8 @@
 -- The slots from i on split, slot by slot, and the numbers of a version from a split. Assumes nothing.
-use Prim.Native.Nat.{ℕ, zero, suc, ◌+◌, ◌*◌, ◌-◌, ◌<◌, ◌≤◌}
+use Prim.Native.Nat.{ℕ, suc, ◌+◌, ◌*◌, ◌-◌, ◌<◌, ◌≤◌}
 use native.Mathlib.Omega.{arith}
 use mathlib.Core.Path.{◌≡◌, refl, ap, ap₂, sym, ◌∙◌, subst}
-use mathlib.Core.Bool.{Bool, true, false, cond}
+use mathlib.Core.Bool.{Bool, true, false}
 use mathlib.Core.List.{List, [], ◌∷◌}
 use lib.ListN.{length, get_or, set, drop}
 use lib.Seq.{get_or-set_same, get_or-set_other}
@@ -21,7 +21,7 @@ use Rattle.quarter.proofs.Theorems.{slot_added}
 use Rattle.figures_count.specs.Count.{figures_say, Plain, Countable, Whole}
 use Rattle.figures_count.specs.declared.Figures as declared
 use Rattle.figures_count.proofs.Slots.{holding, adds_few}
-use Rattle.figures_count.proofs.Backward.{Backward, backward_start, backward_slot, backward_next, backward_end, backward_few}
+use Rattle.figures_count.proofs.Backward.{Backward, backward_slot, backward_next, backward_end, backward_few}
 use Rattle.figures_block.specs.Block.{list_adds, Split, Counts}
 use Rattle.figures_block.proofs.Adding.{adds_at_each, adds_at_none, come_last, entry_apart}
 

@@ -53,9 +53,7 @@ fn split(store: &[u8], list: &mut [u16; 16384], first: u32, last: u32) -> Block
         sum: 0,
     };
     let mut listed = 0;
-    let mut i = n;
-    while 0 < i {
-        i -= 1;
+    for i in (0..n).rev() {
         if lives(store, i, last, first) {
             all = add_slot(store, i, first, all);
         } else if lives(store, i, first, last) {
@@ -108,11 +106,9 @@ pub fn figures_in(store: &[u8], list: &[u16; 16384], block: Block, version: u32)
     ensures { Counts store.now version result }
 {
     let mut f = block.all;
-    let mut j = 0;
-    while j < block.listed {
+    for j in 0..block.listed {
         let i = list[j] as usize;
         f = add_slot(store, i, version, f);
-        j += 1;
     }
     f
 }

@@ -1,8 +1,7 @@
 -- A loop over the slots from the last to the first: what holds of the slots from i on. Assumes nothing.
-use Prim.Native.Nat.{ℕ, suc, ◌+◌, ◌*◌, ◌-◌, ◌<◌, ◌≤◌}
+use Prim.Native.Nat.{ℕ, suc, ◌+◌, ◌-◌, ◌<◌, ◌≤◌}
 use native.Mathlib.Omega.{arith}
-use mathlib.Core.Path.{◌≡◌, refl, ap, sym, ◌∙◌, subst}
-use mathlib.Core.Bool.{true}
+use mathlib.Core.Path.{◌≡◌, ap, sym, ◌∙◌, subst}
 use mathlib.Core.List.{List, [], ◌∷◌}
 use lib.ListN.{length, drop, drop_of_length-le, length-drop}
 use lib.Seq.{drop-cons}
@@ -10,8 +9,7 @@ use Rattle.terms.specs.declared.Form.TheVariants.{Counted as counted}
 use Rattle.terms.specs.Bits.{Bytes}
 use Rattle.terms.specs.Records.{Slot, free}
 use Rattle.layout.specs.Sizes.{room_of}
-use Rattle.layout.specs.Headers.{size_right}
-use Rattle.layout.specs.Stores.{store_of, slot_no, Has}
+use Rattle.layout.specs.Stores.{store_of, slot_no}
 use Rattle.layout.proofs.Headers.{size_says}
 use Rattle.store.proofs.Slots.{slots_many}
 use Rattle.figures_count.specs.Count.{Plain, Whole}

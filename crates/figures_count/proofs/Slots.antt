@@ -1,22 +1,20 @@
 -- What the fields of a slot's bytes say of the record in it, and so whether it lives and what it adds. Assumes nothing.
 use Prim.Native.Nat.{ℕ, suc, ◌+◌, ◌≤◌, ◌<◌, max}
 use native.Mathlib.Omega.{arith}
-use mathlib.Core.Path.{◌≡◌, refl, ap, ap₂, sym, ◌∙◌, subst}
-use mathlib.Core.Logic.{◌⊎◌, inl, inr}
-use mathlib.Core.Bool.{Bool, true, false, cond, ◌&&◌, not, false≢true}
+use mathlib.Core.Path.{◌≡◌, refl, ap, sym, ◌∙◌, subst}
+use mathlib.Core.Logic.{inl, inr}
+use mathlib.Core.Bool.{Bool, true, false, cond, false≢true}
 use lib.ListN.{length}
-use lib.Dec.{leb, ltb}
+use lib.Dec.{ltb}
 use borrow.Author.Tests.{le-leb, lt-leb, ltb-true, ltb-false}
 use Rattle.terms.specs.declared.Form.TheVariants.{Counted as counted}
 use Rattle.terms.specs.Bits.{Bytes, Byte, All}
-use Rattle.terms.specs.Fields.{field}
 use Rattle.terms.specs.Records.{Body, leaf_body, inner_body, Record, Slot, free, used, spoiled}
-use Rattle.terms.specs.Form.{RecordForm, place_limit}
-use Rattle.terms.proofs.Tests.{and_true}
+use Rattle.terms.specs.Form.{place_limit}
 use Rattle.meaning.specs.Store.{retired_by}
 use Rattle.layout.specs.Sizes.{slot_size, leaf_kind, inner_kind}
 use Rattle.layout.specs.Slots.{version_in, since_in, count_in, leaf_in, inner_in, record_in, slot_of}
-use Rattle.layout.specs.Stores.{slot_in, slot_no, Has}
+use Rattle.layout.specs.Stores.{slot_in, slot_no}
 use Rattle.store.proofs.Slots.{slot_long, slot_bytes_lem, slot_within, slot_is}
 use Rattle.lookup.proofs.Matching.{says, count_is_lem}
 use Rattle.check_pass.specs.Passes.{kind_in}
@@ -24,7 +22,7 @@ use Rattle.check_pass.proofs.Records.{kind_most, record_cases, version_of_lem, r
 use Rattle.quarter.specs.Figures.{Figures}
 use Rattle.quarter.specs.Living.{lives_in, with_leaf, with_inner, body_adds, slot_lives, slot_adds}
 use Rattle.quarter.proofs.Theorems.{four, same_four}
-use Rattle.figures_count.specs.Count.{figures_say, Plain, Few, Countable}
+use Rattle.figures_count.specs.Count.{figures_say, Plain}
 use Rattle.figures_count.specs.declared.Figures as declared
 
 -- what the body is, by its kind

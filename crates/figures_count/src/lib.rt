@@ -94,9 +94,7 @@ pub fn records_in(store: &[u8], first: u32, last: u32) -> u32
 {
     let n = slot_count(Form::Counted, store);
     let mut records = 0;
-    let mut i = n;
-    while 0 < i {
-        i -= 1;
+    for i in (0..n).rev() {
         if lives(store, i, first, last) {
             records += 1;
         }

@@ -1,14 +1,15 @@
 -- Document 02, request 2026-14: the figures of a range as the code answers them, the totals and what is left of the
 -- room. Within the code; the contract is in `contracts`. Assumes nothing.
-use Rattle.std.specs.Prelude.{ℕ, ◌≡◌, length}
+use Rattle.std.specs.Prelude.{ℕ, ◌≡◌, length, Result}
 use Rattle.terms.specs.Bits.{Bytes}
 use Rattle.meaning.specs.Calls.{Answer, refused, accepted}
 use Rattle.quarter.specs.Figures.{Quarter, figures}
 use Rattle.promises.specs.Calls.{Does}
 use Rattle.meaning.specs.Answers.{room_after}
 use Rattle.figures_write.specs.Parts.{each_bytes}
-use Rattle.figures_sound.specs.declared.Figured as declared
-use Rattle.figures_sound.specs.declared.Figured.TheVariants.{Refused, Told}
+use Rattle.refusal_numbers.specs.Refusals.{answer_of}
+use Rattle.refusal_numbers.specs.declared.Refusal.{Refusal}
+use Rattle.figures_sound.specs.declared.Totals as declared
 
 -- Over the range: distinct records, and the sum of records over versions.
 pub record Totals : Type 0 where
@@ -19,9 +20,8 @@ abbrev pub totals : ℕ → ℕ → Totals
 totals d n = record { distinct = d; records = n }
 
 -- What each case of the answer says.
-abbrev pub figured_says : declared.Figured → Answer Totals
-figured_says (Refused m) = refused m
-figured_says (Told d n) = accepted (totals d n)
+abbrev pub figured_says : Result declared.Totals Refusal → Answer Totals
+figured_says = answer_of (λ t. totals t.distinct t.records)
 
 abbrev pub totals_of : Answer Quarter → Answer Totals
 totals_of (refused m) = refused m

@@ -1,18 +1,16 @@
 -- A range test by test, and what sound bytes give the counting. Assumes nothing.
-use Prim.Native.Nat.{ℕ, suc, ◌+◌, ◌-◌, ◌<◌, ◌≤◌}
+use Prim.Native.Nat.{ℕ, ◌-◌, ◌<◌, ◌≤◌}
 use native.Mathlib.Omega.{arith}
-use mathlib.Core.Path.{◌≡◌, refl, ap, sym, ◌∙◌, subst}
-use mathlib.Core.Bool.{Bool, true, false, cond, ◌&&◌}
+use mathlib.Core.Path.{◌≡◌, refl}
+use mathlib.Core.Bool.{true, false}
 use lib.ListN.{length}
-use lib.Dec.{leb, ltb}
+use lib.Dec.{ltb}
 use borrow.Author.Tests.{le-leb, lt-leb}
 use Rattle.terms.specs.declared.Form.TheVariants.{Counted as counted}
 use Rattle.terms.specs.Bits.{Bytes}
 use Rattle.terms.specs.Records.{Store}
-use Rattle.terms.proofs.Tests.{and_comm}
 use Rattle.meaning.specs.Calls.{is_kept}
-use Rattle.layout.specs.Headers.{size_right, header_of, header}
-use Rattle.layout.specs.Stores.{store_of}
+use Rattle.layout.specs.Headers.{size_right}
 use Rattle.layout.proofs.Headers.{accepted as header-accepted, size_right_of}
 use Rattle.store.proofs.Slots.{slots_many}
 use Rattle.promises.specs.Calls.{SoundBytes}

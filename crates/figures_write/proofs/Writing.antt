@@ -1,13 +1,12 @@
 -- The numbers of the versions written one after the other: before version i the part is filled, from it on it is as it was. Assumes nothing.
 use Prim.Native.Nat.{ℕ, zero, suc, ◌+◌, ◌*◌, ◌-◌, ◌/◌, ◌<◌, ◌≤◌}
 use native.Mathlib.Omega.{arith}
-use mathlib.Core.Path.{◌≡◌, refl, ap, ap₂, sym, ◌∙◌, subst}
-use mathlib.Core.Bool.{true}
-use mathlib.Core.List.{List, [], ◌∷◌, ◌++◌, map, append-nil, append_assoc}
+use mathlib.Core.Path.{◌≡◌, refl, ap, ap₂, sym, ◌∙◌}
+use mathlib.Core.List.{List, [], ◌∷◌, ◌++◌, append-nil, append_assoc}
 use lib.ListN.{length, take, drop, length-append, length-drop, length-take, drop_of_length-le}
 use lib.Seq.{drop-drop, take_at, drop_at}
 use Rattle.terms.specs.Bits.{Bytes}
-use Rattle.terms.specs.Fields.{le, flat}
+use Rattle.terms.specs.Fields.{le}
 use Rattle.terms.specs.Records.{Store}
 use Rattle.terms.proofs.Fields.{length_le}
 use Rattle.meaning.specs.Store.{tree_at_version}
@@ -15,9 +14,8 @@ use Rattle.nodehash.specs.Node.{leaf_hash, inner_hash}
 use Rattle.fields.specs.Written.{written}
 use Rattle.fields.proofs.Written.{fields_fill}
 use Rattle.layout.specs.Stores.{store_of}
-use Rattle.promises.specs.Calls.{SoundBytes}
-use Rattle.quarter.specs.Figures.{Figures, figures_of, figures_bytes, leaves, inners, range_right, versions_from, versions, records_over}
-use Rattle.quarter.specs.Living.{living_figures, figures_over}
+use Rattle.quarter.specs.Figures.{Figures, figures_of, figures_bytes, leaves, inners, versions_from, versions, records_over}
+use Rattle.quarter.specs.Living.{figures_over}
 use Rattle.quarter.proofs.Theorems.{RangeRight, range_right_lem, living_counts}
 use Rattle.figures_count.specs.Count.{figures_say}
 use Rattle.figures_count.specs.declared.Figures as declared

@@ -61,8 +61,7 @@ pub fn write_each(
     let n = part.len() / FIGURES_SIZE;
     let mut block = no_block();
     let mut records = 0;
-    let mut i = 0;
-    while i < n {
+    for i in 0..n {
         let more = i as u32;
         let version = first + more;
         block = block_with(store, list, block, version, last);
@@ -72,7 +71,6 @@ pub fn write_each(
         put_figures(&mut part[at..end], f);
         let nodes = f.leaves + f.inners;
         records += nodes;
-        i += 1;
     }
     records
 }

@@ -18,8 +18,10 @@ use Rattle.proofrecords.specs.ProofBytes.{is_presence, presence_in, is_absence, 
 use Rattle.hash.specs.declared.Hash as declared-hash
 use Rattle.verify_rules.specs.Reading.{judged, verified}
 use Rattle.verify.specs.Says.{says}
-use Rattle.verify.specs.declared.Checked as declared
-use Rattle.verify.specs.declared.Checked.TheVariants.{Refused, Present, Absent}
+use Rattle.std.specs.Prelude.{Result, Some, None, Ok, Err}
+use Rattle.std.specs.declared.option.Option as option
+use Rattle.refusal_numbers.specs.Refusals.{number}
+use Rattle.refusal_numbers.specs.declared.Refusal.{Refusal}
 use Rattle.forgery.specs.Messages.{leaf_hash, inner_hash}
 use Rattle.forgery.specs.Finding.{Finding, finding}
 use Rattle.finding_rules.proofs.Hashes.{leaf_is, inner_is}
@@ -90,22 +92,22 @@ module _ (st : Store) (v : ℕ) (k x : Bytes) where
   as_absence p a = rw (p, a)
 
   -- the same by the case of the code's answer
-  module _ (c : declared.Checked) (answered : says c ≡ judged root k (proof_in x)) where
-    pub refusal_found : {n : ℕ} → c ≡ Refused n → refused n ≡ found_against sha256 st v k (proof_in x)
+  module _ (c : Result (option.Option declared-hash.Hash) Refusal) (answered : says c ≡ judged root k (proof_in x)) where
+    pub refusal_found : {r : Refusal} → c ≡ Err r → refused (number r) ≡ found_against sha256 st v k (proof_in x)
     refusal_found e = refusal_passed (sym (ap says e) ∙ answered)
 
-    pub present_is_presence : {h : declared-hash.Hash} → c ≡ Present h → is_presence x ≡ true
+    pub present_is_presence : {h : declared-hash.Hash} → c ≡ Ok (Some h) → is_presence x ≡ true
     present_is_presence e = present_is (sym (ap says e) ∙ answered)
 
-    pub absent_is_absence : c ≡ Absent → is_absence x ≡ true
+    pub absent_is_absence : c ≡ Ok None → is_absence x ≡ true
     absent_is_absence e = (absent_is (sym (ap says e) ∙ answered)).1
 
-    pub present_found : {h : declared-hash.Hash} {f : Finding} → c ≡ Present h → f ≡ finding sha256 st v (presence (presence_in x)) →
+    pub present_found : {h : declared-hash.Hash} {f : Finding} → c ≡ Ok (Some h) → f ≡ finding sha256 st v (presence (presence_in x)) →
         accepted f ≡ found_against sha256 st v k (proof_in x)
     present_found e g =
         ap accepted g ∙ accepted_found (presence (presence_in x)) (as_presence (present_is_presence e)) (sym (ap says e) ∙ answered)
 
-    pub absent_found : {f : Finding} → c ≡ Absent → f ≡ finding sha256 st v (absence (absence_in x)) →
+    pub absent_found : {f : Finding} → c ≡ Ok None → f ≡ finding sha256 st v (absence (absence_in x)) →
         accepted f ≡ found_against sha256 st v k (proof_in x)
     absent_found e g =
         let a = absent_is (sym (ap says e) ∙ answered) in

@@ -24,8 +24,8 @@ use Rattle.read_step.specs.declared.Seen as declared
 use Rattle.read_step.specs.declared.Seen.TheVariants.{Gap, Stopped, Leaf, Inner}
 use Rattle.read_step.specs.declared.Trouble as declared-trouble
 use Rattle.read_root.specs.Parts.{root_says}
-use Rattle.read_root.specs.declared.RootRead as declared-root
-use Rattle.read_root.specs.declared.RootRead.TheVariants as root
+use Rattle.std.specs.Prelude.{Result, Ok, Err}
+use Rattle.refusal_numbers.specs.declared.ReadRefusal.{ReadRefusal}
 use Rattle.finding_rules.specs.Reading.{no_grant}
 use Rattle.finding_rules.proofs.Hashes.{leaf_is, inner_is}
 use Rattle.finding_rules.proofs.Told.{some_granted}
@@ -82,11 +82,11 @@ module _ {s : Bytes} {v : ℕ} (w : SoundVersion s v) where
       ap (root_read node.leaf_hash node.inner_hash) (root_without_table (store_of s) v)
       ∙ version_hash node.leaf_hash node.inner_hash (store_of s) w.sound.sound v w.kept
 
-  module _ (r : declared-root.RootRead) (says : root_says r ≡ root_read node.leaf_hash node.inner_hash (root_by [] (store_of s) v)) where
-    pub root_not_refused : {A : Type 0} {n : ℕ} → r ≡ root.Refused n → A
+  module _ (r : Result declared-hash.Hash ReadRefusal) (says : root_says r ≡ root_read node.leaf_hash node.inner_hash (root_by [] (store_of s) v)) where
+    pub root_not_refused : {A : Type 0} {n : ReadRefusal} → r ≡ Err n → A
     unfolding root_says
     root_not_refused e = not_both (sym (ap root_says e) ∙ says ∙ sighted)
 
-    pub root_is : {h : declared-hash.Hash} → r ≡ root.Hash h → hash_bytes h ≡ root_at s v
+    pub root_is : {h : declared-hash.Hash} → r ≡ Ok h → hash_bytes h ≡ root_at s v
     unfolding root_says
     root_is e = same_root (sym (ap root_says e) ∙ says ∙ sighted) ∙ hash_of_tree

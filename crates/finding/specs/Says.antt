@@ -1,20 +1,20 @@
--- Document 01, 'Forms to follow': what each case of the code's answer says, and the root of a version. No public
--- promise reaches this file. Assumes nothing.
-use Rattle.std.specs.Prelude.{ℕ}
+-- Document 01, 'Forms to follow': what the code's answer says, and the root of a version. No public promise reaches
+-- this file. Assumes nothing.
+use Rattle.std.specs.Prelude.{ℕ, Result}
 use Rattle.terms.specs.Bits.{Bytes}
-use Rattle.meaning.specs.Calls.{Answer, refused, accepted}
+use Rattle.meaning.specs.Calls.{Answer}
 use Rattle.sha256.specs.Sha256.{sha256}
 use Rattle.layout.specs.Stores.{store_of}
 use Rattle.forgery.specs.Finding.{Finding}
 use Rattle.forged_nodes.specs.Nodes.{named_says}
 use Rattle.finding_rules.specs.Reading.{version_root}
-use Rattle.finding.specs.declared.Found as declared
-use Rattle.finding.specs.declared.Found.TheVariants.{Refused, Of}
+use Rattle.forged_nodes.specs.declared.Named.{Named}
+use Rattle.refusal_numbers.specs.Refusals.{answer_of}
+use Rattle.refusal_numbers.specs.declared.Refusal.{Refusal}
 
--- What each case of the answer says.
-abbrev pub found_says : declared.Found → Answer Finding
-found_says (Refused n) = refused n
-found_says (Of m) = accepted (named_says m)
+-- What the answer says.
+abbrev pub found_says : Result Named Refusal → Answer Finding
+found_says = answer_of named_says
 
 -- The root of a version of the store that bytes hold.
 abbrev pub root_at : Bytes → ℕ → Bytes

@@ -25,18 +25,11 @@ use forged_proof::{in_absence, in_presence};
 use forged_truth::{absence_true, presence_true};
 use hash::{Hash, put_hash};
 use prune_free::is_kept;
-use read_root::{RootRead, root_hash};
+use read_root::root_hash;
 use read_step::Seen;
-use refusal_numbers::{EMPTY_VERSION, NOT_32_BYTES, NOT_KEPT, NOT_SOUND};
+use refusal_numbers::Refusal;
 use terms::Form;
-use verify::{Checked, verify};
-
-// A number of refusal, or what is found: nothing where the proof tells the truth.
-#[derive(Clone, Copy)]
-pub enum Found {
-    Refused(u32),
-    Of(Named),
-}
+use verify::verify;
 
 // What is found of a presence proof.
 fn of_presence(store: &[u8], version: u32, proof: &[u8]) -> Named
@@ -75,7 +68,7 @@ fn holds_none(store: &[u8], version: u32) -> bool
 }
 
 // What the proof check answers against a root.
-fn check_under(root: Hash, key: &[u8], proof: &[u8]) -> Checked
+fn check_under(root: Hash, key: &[u8], proof: &[u8]) -> Result<Option<Hash>, Refusal>
     requires { length key.now ≡ 32 }
     ensures { says result ≡ judged (hash_bytes root) key.now (proof_in proof.now) }
 {
@@ -85,68 +78,63 @@ fn check_under(root: Hash, key: &[u8], proof: &[u8]) -> Checked
 }
 
 // What it answers against the version's root.
-fn check_against(store: &[u8], version: u32, key: &[u8], proof: &[u8]) -> Checked
+fn check_against(
+    store: &[u8],
+    version: u32,
+    key: &[u8],
+    proof: &[u8],
+) -> Result<Option<Hash>, Refusal>
     requires { SoundVersion store.now version × (length key.now ≡ 32) }
     ensures { says result ≡ judged (root_at store.now version) key.now (proof_in proof.now) }
 {
     let read = root_hash(store, &[], version);
     match read {
-        RootRead::Refused(_) => Checked::Refused(NOT_SOUND),
-        RootRead::Hash(root) => check_under(root, key, proof),
+        Err(_) => Err(Refusal::NotSound),
+        Ok(root) => check_under(root, key, proof),
     }
 }
 
-// What is found of a proof in a version that holds a grant.
-fn found_against(store: &[u8], version: u32, key: &[u8], proof: &[u8]) -> Found
+// What is found of a proof in a version that holds a grant: nothing where it tells the truth.
+fn found_against(store: &[u8], version: u32, key: &[u8], proof: &[u8]) -> Result<Named, Refusal>
     requires { SoundVersion store.now version × (length key.now ≡ 32) }
     ensures { found_says result ≡ found_against sha256 (store_of store.now) version key.now (proof_in proof.now) }
 {
-    let checked = check_against(store, version, key, proof);
+    let checked = check_against(store, version, key, proof)?;
     match checked {
-        Checked::Refused(n) => Found::Refused(n),
-        Checked::Present(_) => {
-            let named = of_presence(store, version, proof);
-            Found::Of(named)
-        }
-        Checked::Absent => {
-            let named = of_absence(store, version, proof);
-            Found::Of(named)
-        }
+        Some(_) => Ok(of_presence(store, version, proof)),
+        None => Ok(of_absence(store, version, proof)),
     }
 }
 
 // What is found of a proof in a kept version.
-fn found_kept(store: &[u8], version: u32, key: &[u8], proof: &[u8]) -> Found
+fn found_kept(store: &[u8], version: u32, key: &[u8], proof: &[u8]) -> Result<Named, Refusal>
     requires { SoundVersion store.now version × (length key.now ≡ 32) }
     ensures { found_says result ≡ cond (no_grant (grants_at store.now version)) (refused 14) (found_against sha256 (store_of store.now) version key.now (proof_in proof.now)) }
 {
     if holds_none(store, version) {
-        return Found::Refused(EMPTY_VERSION);
+        return Err(Refusal::EmptyVersion);
     }
     found_against(store, version, key, proof)
 }
 
 // What is found of a proof in a version of a sound store.
-fn found_sound(store: &[u8], version: u32, key: &[u8], proof: &[u8]) -> Found
+fn found_sound(store: &[u8], version: u32, key: &[u8], proof: &[u8]) -> Result<Named, Refusal>
     requires { SoundBytes store.now × (length key.now ≡ 32) }
     ensures { found_says result ≡ finds sha256 version key.now (proof_in proof.now) (store_of store.now) }
 {
     if !is_kept(store, version) {
-        return Found::Refused(NOT_KEPT);
+        return Err(Refusal::NotKept);
     }
     found_kept(store, version, key, proof)
 }
 
 // What is found of a proof for a key in a version, where check accepts the store. Any bytes may be handed in; nothing is written.
-pub fn finding(store: &[u8], version: u32, key: &[u8], proof: &[u8]) -> Found
+pub fn finding(store: &[u8], version: u32, key: &[u8], proof: &[u8]) -> Result<Named, Refusal>
     ensures { Answers store.now version key.now proof.now (found_says result) }
 {
     if key.len() != 32 {
-        return Found::Refused(NOT_32_BYTES);
+        return Err(Refusal::Not32Bytes);
     }
-    let refusal = check(Form::Counted, store);
-    if refusal != 0 {
-        return Found::Refused(refusal);
-    }
+    check(Form::Counted, store)?;
     found_sound(store, version, key, proof)
 }

@@ -14,8 +14,9 @@ use Rattle.forged_message.specs.Parts.{message_bytes}
 use Rattle.finding_rules.specs.Call.{finding_bytes}
 use Rattle.contracts.specs.Finds.{Answers, Finds}
 use Rattle.finding.specs.Says.{found_says}
-use Rattle.finding.specs.declared.Found as declared
-use Rattle.finding.specs.declared.Found.TheVariants.{Refused, Of}
+use Rattle.std.specs.Prelude.{Result, Ok, Err}
+use Rattle.refusal_numbers.specs.Refusals.{number}
+use Rattle.refusal_numbers.specs.declared.Refusal.{Refusal}
 
 -- what is named, case by case
 module _ (m : declared-named.Named) where
@@ -32,9 +33,9 @@ module _ (m : declared-named.Named) where
   unfolding named_says
   zero_named e w = w ∙ sym (ap (λ x. finding_bytes (named_says x)) e)
 
-module _ (a : declared.Found) {s : Bytes} {v : ℕ} {k x : Bytes} (answers : Answers s v k x (found_says a)) (f : Bytes) where
-  pub finding_refused : {n : ℕ} → a ≡ Refused n → Finds s v k x f n f
+module _ (a : Result declared-named.Named Refusal) {s : Bytes} {v : ℕ} {k x : Bytes} (answers : Answers s v k x (found_says a)) (f : Bytes) where
+  pub finding_refused : {r : Refusal} → a ≡ Err r → Finds s v k x f (number r) f
   finding_refused e = exports (found_says a) answers (exported_refusal (sym (ap found_says e)))
 
-  pub finding_given : {m : declared-named.Named} {g : Bytes} → a ≡ Of m → g ≡ finding_bytes (named_says m) → Finds s v k x f 0 g
+  pub finding_given : {m : declared-named.Named} {g : Bytes} → a ≡ Ok m → g ≡ finding_bytes (named_says m) → Finds s v k x f 0 g
   finding_given e w = exports (found_says a) answers (exported_answer (sym (ap found_says e)) w)

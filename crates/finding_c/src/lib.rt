@@ -8,7 +8,7 @@ ghost use Rattle.finding_rules.specs.Call.{finding_bytes};
 ghost use Rattle.contracts.specs.Finds.{Finds};
 
 use fields::clear;
-use finding::{Found, finding};
+use finding::finding;
 use finding_put::{put_one, put_two};
 use forged_nodes::Named;
 
@@ -36,8 +36,8 @@ pub fn grants_finding(
 {
     let found = finding(store, version, key, proof);
     match found {
-        Found::Refused(n) => n,
-        Found::Of(named) => {
+        Err(refusal) => refusal.number(),
+        Ok(named) => {
             put_named(answer, named);
             0
         }

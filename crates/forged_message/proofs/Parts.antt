@@ -1,16 +1,15 @@
 -- Messages by their parts: SHA-256 of one is the hash of its node, and two are the same if their parts are. Assumes nothing.
-use Prim.Native.Nat.{ℕ}
 use native.Mathlib.Omega.{arith}
-use mathlib.Core.Path.{◌≡◌, refl, ap, sym, ◌∙◌}
+use mathlib.Core.Path.{◌≡◌, refl, ap, ap₂, sym, ◌∙◌}
 use mathlib.Core.Bool.{Bool, true, false, cond, ◌&&◌, not, beq, false≢true}
-use mathlib.Core.List.{List, [], ◌∷◌, ◌++◌}
+use mathlib.Core.List.{[], ◌∷◌, ◌++◌}
 use lib.ListN.{length}
 use lib.Dec.{eqb}
 use Rattle.terms.specs.Bits.{Bytes, same_bytes}
 use Rattle.terms.proofs.Tests.{and_assoc}
 use Rattle.hash.specs.declared.Hash.{Hash}
 use Rattle.hash.specs.Hash.{hash_bytes, hash_of, Fits}
-use Rattle.hash.proofs.Laws.{hash_of_bytes}
+use Rattle.hash.proofs.Laws.{hash_of_bytes, same_by_numbers}
 use Rattle.sha256.specs.Sha256.{sha256}
 use Rattle.nodehash.specs.Node.{leaf_hash, inner_hash}
 use Rattle.forged_message.specs.declared.Message.{Message}
@@ -51,16 +50,17 @@ by_parts m n =
     (same_append (hash_bytes m.first) (hash_bytes m.second) (hash_bytes n.first) (hash_bytes n.second)
     (hash_long m.first ∙ sym (hash_long n.first)))
 
-pub other_kind : (m n : Message) → beq m.leaf n.leaf ≡ false → same_bytes (message_bytes m) (message_bytes n) ≡ false
-other_kind m n e = by_parts m n ∙ rw e
-
-pub other_first : (m n : Message) → beq m.leaf n.leaf ≡ true → same_bytes (hash_bytes m.first) (hash_bytes n.first) ≡ false →
-    same_bytes (message_bytes m) (message_bytes n) ≡ false
-other_first m n e f = by_parts m n ∙ rw (e, f)
-
-pub same_first : (m n : Message) → beq m.leaf n.leaf ≡ true → same_bytes (hash_bytes m.first) (hash_bytes n.first) ≡ true →
-    same_bytes (message_bytes m) (message_bytes n) ≡ same_bytes (hash_bytes m.second) (hash_bytes n.second)
-same_first m n e f = by_parts m n ∙ rw (e, f)
+-- what `==` answers, number by number
+pub same_by_parts : (m n : Message) → Fits m.first → Fits n.first → Fits m.second → Fits n.second → (t : Bool) →
+    t ≡ beq m.leaf n.leaf
+    && ((eqb m.first.a n.first.a && (eqb m.first.b n.first.b && (eqb m.first.c n.first.c && eqb m.first.d n.first.d)))
+    && (eqb m.second.a n.second.a && (eqb m.second.b n.second.b && (eqb m.second.c n.second.c && eqb m.second.d n.second.d)))) →
+    t ≡ same_bytes (message_bytes m) (message_bytes n)
+same_by_parts m n fm fn gm gn t e =
+    e
+    ∙ ap (beq m.leaf n.leaf &&◌)
+    (ap₂ (λ a b. a && b) (same_by_numbers m.first n.first fm fn _ refl) (same_by_numbers m.second n.second gm gn _ refl))
+    ∙ sym (by_parts m n)
 
 -- its hash is that of its node
 pub leaf_hashed : (m : Message) → m.leaf ≡ true → sha256 (message_bytes m) ≡ leaf_hash (hash_bytes m.first) (hash_bytes m.second)

@@ -13,7 +13,7 @@ use hash::{Hash, is_zero, same_hash};
 use nodehash::{grant_hash, inner_hash};
 
 // Of a leaf its key and value; of an inner node the hashes of its left and right child.
-#[derive(Clone, Copy)]
+#[derive(Clone, Copy, PartialEq, Eq)]
 pub struct Message {
     pub leaf: bool,
     pub first: Hash,
@@ -42,13 +42,7 @@ pub fn hash_word(m: Message) -> u64
 pub fn same_message(m: Message, n: Message) -> bool
     ensures { result ≡ same_bytes (message_bytes m) (message_bytes n) }
 {
-    if m.leaf != n.leaf {
-        return false;
-    }
-    if !same_hash(m.first, n.first) {
-        return false;
-    }
-    same_hash(m.second, n.second)
+    m == n
 }
 
 // Whether a message is another than m and has the same hash.

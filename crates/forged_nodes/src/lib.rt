@@ -40,10 +40,8 @@ pub fn note_words(store: &[u8], version: u32, words: &mut [u64; 16384])
     ensures { Noted version store.now words.new }
 {
     let n = slot_count(Form::Counted, store);
-    let mut i = 0;
-    while i < n {
+    for i in 0..n {
         words[i] = word_here(store, i, version);
-        i += 1;
     }
 }
 
@@ -67,13 +65,11 @@ pub fn zero_node(store: &[u8], version: u32, words: &[u64; 16384]) -> Named
     ensures { named_says result ≡ zero_among sha256 (node_messages version (store_of store.now).slots) }
 {
     let n = slot_count(Form::Counted, store);
-    let mut i = 0;
-    while i < n {
+    for i in 0..n {
         if zero_here(store, i, version, words[i]) {
             let node = record_message(slot_of(Form::Counted, store, i));
             return Named::Zero(node);
         }
-        i += 1;
     }
     Named::Nothing
 }

@@ -38,13 +38,11 @@ pub fn partner(store: &[u8], version: u32, words: &[u64; 16384], m: Message) -> 
 {
     let n = slot_count(Form::Counted, store);
     let word = hash_word(m);
-    let mut i = 0;
-    while i < n {
+    for i in 0..n {
         if partner_here(store, i, version, words[i], word, m) {
             let node = record_message(slot_of(Form::Counted, store, i));
             return Named::Two { node, checked: m };
         }
-        i += 1;
     }
     Named::Nothing
 }

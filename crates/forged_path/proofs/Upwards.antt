@@ -29,13 +29,11 @@ pub told_nothing : (x : declared.Named) → x ≡ Nothing → true ≡ is_nothin
 unfolding named_says
 told_nothing x e = rw e
 
-pub told_two : (x : declared.Named) {a b : Message} → x ≡ Two a b → false ≡ is_nothing (named_says x)
+pub told_something : (x : declared.Named) → (x ≡ Nothing → ⊥) → false ≡ is_nothing (named_says x)
 unfolding named_says
-told_two x e = rw e
-
-pub told_zero : (x : declared.Named) {a : Message} → x ≡ Zero a → false ≡ is_nothing (named_says x)
-unfolding named_says
-told_zero x e = rw e
+told_something Nothing n = absurd (n refl)
+told_something (Two a b) n = refl
+told_something (Zero a) n = refl
 
 -- at one message
 pub zero_named : (nodes : List Bytes) (m : Message) → same_bytes (sha256 (message_bytes m)) zeros ≡ true →
@@ -56,6 +54,11 @@ pub or_second : (f g : Finding) → is_nothing f ≡ true → or_else f g ≡ g
 or_second nothing g e = refl
 or_second (two_equal m n) g e = absurd (false≢true e)
 or_second (one_zero m) g e = absurd (false≢true e)
+
+or_nothing : (f : Finding) → or_else f nothing ≡ f
+or_nothing nothing = refl
+or_nothing (two_equal m n) = refl
+or_nothing (one_zero m) = refl
 
 or_assoc : (f g h : Finding) → or_else (or_else f g) h ≡ or_else f (or_else g h)
 or_assoc nothing g h = refl
@@ -94,13 +97,12 @@ module _ (nodes : List Bytes) (m : Bytes) (i n : ℕ) (x : Bytes) where
   here [] e = or_first_lem (at_message nodes m) nothing e
   here (s ∷ steps) e = or_first_lem (at_message nodes m) (looked nodes (upwards sha256 (parent_message sha256 (sha256 m) s) steps)) e
 
-  -- something here, nothing at the last message, and nothing here with a step to go
+  -- something here, the last message, and nothing here with a step to go
   pub named_here : is_nothing (at_message nodes m) ≡ false → looked nodes (upwards sha256 m rest) ≡ at_message nodes m
   named_here e = here rest e
 
-  pub named_nowhere : is_nothing (at_message nodes m) ≡ true → n ≤ i → looked nodes (upwards sha256 m rest) ≡ nothing
-  named_nowhere e h =
-      ap (λ steps. looked nodes (upwards sha256 m steps)) (no_steps_left i n x h) ∙ or_second (at_message nodes m) nothing e
+  pub named_last : n ≤ i → looked nodes (upwards sha256 m rest) ≡ at_message nodes m
+  named_last h = ap (λ steps. looked nodes (upwards sha256 m steps)) (no_steps_left i n x h) ∙ or_nothing (at_message nodes m)
 
   pub named_above : is_nothing (at_message nodes m) ≡ true → i < n →
       looked nodes (upwards sha256 m rest)

@@ -53,14 +53,7 @@ fn at_message(store: &[u8], version: u32, words: &[u64; 16384], m: Message) -> N
 pub fn is_nothing(named: Named) -> bool
     ensures { result ≡ is_nothing (named_says named) }
 {
-    match named {
-        Named::Nothing => true,
-        Named::Two {
-            node: _,
-            checked: _,
-        } => false,
-        Named::Zero(_) => false,
-    }
+    matches!(named, Named::Nothing)
 }
 
 // What is named first on the way up the first n steps of a presence proof.
@@ -75,16 +68,12 @@ pub fn along(store: &[u8], version: u32, words: &[u64; 16384], p: &[u8], n: usiz
         first,
         second,
     };
-    let mut i = 0;
-    loop {
+    for i in 0..n {
         let named = at_message(store, version, words, m);
         if !is_nothing(named) {
             return named;
         }
-        if n <= i {
-            return Named::Nothing;
-        }
         m = parent_message(p, i, hash_of(m));
-        i += 1;
     }
+    at_message(store, version, words, m)
 }

@@ -20,8 +20,8 @@ use Rattle.layout.specs.Stores.{store_of}
 use Rattle.layout.proofs.Headers.{accepted as header-accepted, size_right_of}
 use Rattle.promises.specs.Calls.{SoundBytes}
 use Rattle.read_key.specs.Parts.{read_says, walk_read}
-use Rattle.read_key.specs.declared.KeyRead as declared
-use Rattle.read_key.specs.declared.KeyRead.TheVariants.{Refused, Present, Absent}
+use Rattle.std.specs.Prelude.{Option, Result, Some, None, Ok, Err}
+use Rattle.refusal_numbers.specs.declared.ReadRefusal.{ReadRefusal}
 use Rattle.forgery.specs.Finding.{same_verdict}
 use Rattle.forged_truth.specs.Truth.{SoundVersion, grants_at}
 
@@ -45,36 +45,36 @@ module _ {s : Bytes} {v : ℕ} (w : SoundVersion s v) (k : Bytes) (whole : Whole
       ∙ rw (le-leb (store_of s).oldest v w.kept.0, le-leb v (store_of s).latest w.kept.1) at
       (key_read_is_answer leaf_hash inner_hash (store_of s) w.sound.sound v w.kept k whole)
 
-  module _ (r : declared.KeyRead) (says : read_says r ≡ walk_read s [] v k) where
-    not_refused : {A : Type 0} {n : ℕ} → r ≡ Refused n → A
+  module _ (r : Result (Option declared-hash.Hash) ReadRefusal) (says : read_says r ≡ walk_read s [] v k) where
+    not_refused : {A : Type 0} {n : ReadRefusal} → r ≡ Err n → A
     unfolding read_says
     not_refused e = refused_not_accepted (sym (ap read_says e) ∙ says ∙ walked)
 
-    has : {h : declared-hash.Hash} → r ≡ Present h → answer_of k (grants_at s v) ≡ present (hash_bytes h)
+    has : {h : declared-hash.Hash} → r ≡ Ok (Some h) → answer_of k (grants_at s v) ≡ present (hash_bytes h)
     unfolding read_says
     has e = sym (accepted_same (sym (ap read_says e) ∙ says ∙ walked))
 
-    lacks : r ≡ Absent → answer_of k (grants_at s v) ≡ absent
+    lacks : r ≡ Ok None → answer_of k (grants_at s v) ≡ absent
     unfolding read_says
     lacks e = sym (accepted_same (sym (ap read_says e) ∙ says ∙ walked))
 
     -- whether it is this value
-    pub refused_value : {n : ℕ} (x : Bytes) → r ≡ Refused n → false ≡ same_verdict (answer_of k (grants_at s v)) (present x)
+    pub refused_value : {n : ReadRefusal} (x : Bytes) → r ≡ Err n → false ≡ same_verdict (answer_of k (grants_at s v)) (present x)
     refused_value x e = not_refused e
 
-    pub same_value : {h : declared-hash.Hash} (x : Bytes) → r ≡ Present h →
+    pub same_value : {h : declared-hash.Hash} (x : Bytes) → r ≡ Ok (Some h) →
         same_bytes (hash_bytes h) x ≡ same_verdict (answer_of k (grants_at s v)) (present x)
     same_value x e = sym (ap (λ a. same_verdict a (present x)) (has e))
 
-    pub no_value : (x : Bytes) → r ≡ Absent → false ≡ same_verdict (answer_of k (grants_at s v)) (present x)
+    pub no_value : (x : Bytes) → r ≡ Ok None → false ≡ same_verdict (answer_of k (grants_at s v)) (present x)
     no_value x e = sym (ap (λ a. same_verdict a (present x)) (lacks e))
 
     -- whether it is absent
-    pub refused_absent : {n : ℕ} → r ≡ Refused n → false ≡ same_verdict (answer_of k (grants_at s v)) absent
+    pub refused_absent : {n : ReadRefusal} → r ≡ Err n → false ≡ same_verdict (answer_of k (grants_at s v)) absent
     refused_absent e = not_refused e
 
-    pub there : {h : declared-hash.Hash} → r ≡ Present h → false ≡ same_verdict (answer_of k (grants_at s v)) absent
+    pub there : {h : declared-hash.Hash} → r ≡ Ok (Some h) → false ≡ same_verdict (answer_of k (grants_at s v)) absent
     there e = sym (ap (λ a. same_verdict a absent) (has e))
 
-    pub not_there : r ≡ Absent → true ≡ same_verdict (answer_of k (grants_at s v)) absent
+    pub not_there : r ≡ Ok None → true ≡ same_verdict (answer_of k (grants_at s v)) absent
     not_there e = sym (ap (λ a. same_verdict a absent) (lacks e))

@@ -12,7 +12,7 @@ ghost use Rattle.forged_truth.specs.Truth.{SoundVersion, grants_at, leaf_true, n
 use hash::{Hash, hash_at, same_hash};
 use neighbour_parts::{is_lone, left_part, lone_part, right_part};
 use proofrecords::{KEY_AT, VALUE_AT};
-use read_key::{KeyRead, walk_read};
+use read_key::walk_read;
 
 // Whether the version has the key with this value.
 fn has_value(store: &[u8], version: u32, key: &[u8], value: Hash) -> bool
@@ -21,9 +21,9 @@ fn has_value(store: &[u8], version: u32, key: &[u8], value: Hash) -> bool
 {
     let read = walk_read(store, &[], version, key);
     match read {
-        KeyRead::Refused(_) => false,
-        KeyRead::Present(held) => same_hash(held, value),
-        KeyRead::Absent => false,
+        Err(_) => false,
+        Ok(Some(held)) => same_hash(held, value),
+        Ok(None) => false,
     }
 }
 
@@ -34,9 +34,9 @@ fn lacks_key(store: &[u8], version: u32, key: &[u8]) -> bool
 {
     let read = walk_read(store, &[], version, key);
     match read {
-        KeyRead::Refused(_) => false,
-        KeyRead::Present(_) => false,
-        KeyRead::Absent => true,
+        Err(_) => false,
+        Ok(Some(_)) => false,
+        Ok(None) => true,
     }
 }
 

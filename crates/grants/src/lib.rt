@@ -6,6 +6,7 @@ ghost use Rattle.std.specs.Prelude.{[], ◌∷◌};
 ghost use Rattle.std.proofs.Math.Option.{some};
 ghost use Rattle.contracts.specs.Contracts.{Formats, Checks, Indexes, TellsIndex, FormatsIndexed, AppliesIndexed, PrunesIndexed, Applies, Prunes, ReadsRoot, ReadsKey, Counts, ReadsAt, Proves, Palettes, ReadsRootBy, ReadsKeyBy, CountsBy, ReadsAtBy, ProvesBy, PalettesBy, Changes, Rescues, MovesOver, MovesBack, Finds, Figures, PocketProves, Verifies, PocketVerifies, ShelfVerifies, VerifiesMany, WritesMessage, ReadsMessage, TellsVersion, Hashes};
 
+use refusal_numbers::number_told;
 use terms::Form;
 
 // Makes a fresh store of any bytes of the right length.
@@ -19,7 +20,7 @@ pub fn grants_format(store: &mut [u8]) -> u32
 pub fn grants_check(store: &[u8]) -> u32
     ensures { Checks store.now result }
 {
-    check_store::check(Form::Counted, store)
+    number_told(check_store::check(Form::Counted, store))
 }
 
 // Makes the version of a number above latest of a batch; answer: version, root and count of new records, little-endian.
@@ -40,21 +41,21 @@ pub fn grants_prune(store: &mut [u8], version: u32, freed: &mut [u8; 4]) -> u32
 pub fn grants_index(store: &[u8], index: &mut [u32]) -> u32
     ensures { Indexes store.now index.old result index.new }
 {
-    index_open::built(store, index)
+    number_told(index_open::built(store, index))
 }
 
 // Whether a table of slot numbers is the right one of a sound store.
 pub fn grants_index_check(store: &[u8], index: &[u32]) -> u32
     ensures { TellsIndex store.now index.now result }
 {
-    index_open::told(store, index)
+    number_told(index_open::told(store, index))
 }
 
 // Makes a fresh store of any bytes of the right length, and its table.
 pub fn grants_format_indexed(store: &mut [u8], index: &mut [u32]) -> u32
     ensures { FormatsIndexed store.old index.old result store.new index.new }
 {
-    index_open::formatted(store, index)
+    number_told(index_open::formatted(store, index))
 }
 
 // As grants_apply, with the store's table kept right.

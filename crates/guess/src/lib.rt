@@ -12,12 +12,6 @@ use place::Place;
 use store::slot_count;
 use terms::Form;
 
-fn wide(x: u8) -> u64
-    ensures { (result ≡ x) × (result < 256) }
-{
-    x as u64
-}
-
 // A number for a node, spread out: by the first three bytes of its place, the last two, the bit count and the version.
 pub fn spread(version: u32, count: usize, bits: &[u8]) -> u64
     requires { length bits.now ≡ 32 }
@@ -26,8 +20,8 @@ pub fn spread(version: u32, count: usize, bits: &[u8]) -> u64
     let many = count % 512;
     let last = (many + 255) % 256 / 8;
     let before = (last + 31) % 32;
-    let front = wide(bits[0]) + wide(bits[1]) * 256 + wide(bits[2]) * 65536;
-    let back = wide(bits[last]) + wide(bits[before]) * 256;
+    let front = u64::from(bits[0]) + u64::from(bits[1]) * 256 + u64::from(bits[2]) * 65536;
+    let back = u64::from(bits[last]) + u64::from(bits[before]) * 256;
     let mixed = front + back * 65599 + many as u64 * 16777619 + version as u64 * 40503;
     mixed % 4294967296 * 2654435761 / 4294967296
 }

@@ -1,14 +1,16 @@
 -- A hash and its 32 bytes: each is got back from the other, eight bytes at a time.
 -- Assumes nothing.
-use Prim.Native.Nat.{ℕ, zero, suc, ◌+◌, ◌*◌, ◌/◌, ◌%◌, ◌^◌, ◌≤◌, ◌<◌}
+use Prim.Native.Nat.{ℕ, zero, suc, ◌+◌, ◌*◌, ◌-◌, ◌/◌, ◌%◌, ◌^◌, ◌≤◌, ◌<◌}
 use mathlib.Core.Path.{◌≡◌, refl, ap, ◌∙◌, sym}
-use mathlib.Core.Bool.{true, false}
-use mathlib.Core.List.{[], ◌∷◌, ◌++◌, append_assoc, append-nil}
+use mathlib.Core.Bool.{Bool, true, false, ◌&&◌, false≢true}
+use lib.Dec.{eqb}
+use borrow.Author.Tests.{eqb-true, eq-eqb}
+use Rattle.terms.proofs.Tests.{and_left, and_right}
+use mathlib.Core.List.{[], ◌∷◌, ◌++◌, append-nil}
 use native.Mathlib.Omega.{arith}
 use native.Mathlib.Nat.{mod-eq_of_lt, div-one}
-use lib.ListN.{length, take, drop, get_or, set, length-take, length-drop, take-append-drop, drop_of_length-le}
-use native.Mathlib.Numerals.{add-one, add-two, add-three, add-four, add_five, add_six, add_seven}
-use lib.Seq.{drop-drop, take_all, take-take, take-add, drop_at, sets-eq}
+use lib.ListN.{length, take, drop, get_or, length-take, length-drop, take-append-drop, drop_of_length-le}
+use lib.Seq.{drop-drop, take_all, take-take, take-add, drop_at}
 use Rattle.terms.specs.Bits.{Bytes, Byte, All, Whole32, same_bytes}
 use Rattle.hash.specs.declared.Hash.{Hash}
 use Rattle.hash.specs.BigEndian.{big, number, word_at}
@@ -92,14 +94,28 @@ same_hashes h g ea eb ec ed = rw (ea, eb, ec, ed) (same_self (hash_bytes g))
 pub other_hashes : (h g : Hash) → Fits h → Fits g → (h ≡ g → ⊥) → same_bytes (hash_bytes h) (hash_bytes g) ≡ false
 other_hashes h g fh fg n = same_not (hash_bytes h) (hash_bytes g) (λ e. n (hash_bytes_injective h g fh fg e))
 
--- Eight stores in a row write the eight bytes of a number.
-pub eight_stores : (s : Bytes) (at x : ℕ) → at + 8 ≤ length s
-    → set (set (set (set (set (set (set (set s at (x / 2 ^ 56 % 256)) (at + 1) (x / 2 ^ 48 % 256)) (at + 2) (x / 2 ^ 40 % 256)) (at + 3)
-    (x / 2 ^ 32 % 256)) (at + 4) (x / 2 ^ 24 % 256)) (at + 5) (x / 2 ^ 16 % 256)) (at + 6) (x / 2 ^ 8 % 256)) (at + 7) (x % 256)
-    ≡ take at s ++ (big 8 x ++ drop (at + 8) s)
-eight_stores s at x h =
-    rw (add-one at, add-two at, add-three at, add-four at, add_five at, add_six at, add_seven at, div-one x)
-    (rw (div-one x) at (sets-eq (big 8 x) s at h ∙ append_assoc (take at s) (big 8 x) (drop (at + 8) s)))
+-- Two hashes are compared number by number.
+pub same_by_numbers : (h g : Hash) → Fits h → Fits g → (t : Bool) → t ≡ (eqb h.a g.a && (eqb h.b g.b && (eqb h.c g.c && eqb h.d g.d))) → t ≡ same_bytes (hash_bytes h) (hash_bytes g)
+same_by_numbers h g fh fg true e =
+    let b = and_right (eqb h.a g.a) (eqb h.b g.b && (eqb h.c g.c && eqb h.d g.d)) (sym e) in
+    let c = and_right (eqb h.b g.b) (eqb h.c g.c && eqb h.d g.d) b in
+    sym (same_hashes h g (eqb-true h.a g.a (and_left (eqb h.a g.a) (eqb h.b g.b && (eqb h.c g.c && eqb h.d g.d)) (sym e)))
+    (eqb-true h.b g.b (and_left (eqb h.b g.b) (eqb h.c g.c && eqb h.d g.d) b))
+    (eqb-true h.c g.c (and_left (eqb h.c g.c) (eqb h.d g.d) c))
+    (eqb-true h.d g.d (and_right (eqb h.c g.c) (eqb h.d g.d) c)))
+same_by_numbers h g fh fg false e = sym (other_hashes h g fh fg (λ q. false≢true (e ∙ all q)))
+  where
+    all : h ≡ g → (eqb h.a g.a && (eqb h.b g.b && (eqb h.c g.c && eqb h.d g.d))) ≡ true
+    all q =
+        rw (eq-eqb h.a g.a (ap (λ (x : Hash). x.a) q), eq-eqb h.b g.b (ap (λ (x : Hash). x.b) q), eq-eqb h.c g.c (ap (λ (x : Hash). x.c) q), eq-eqb h.d g.d (ap (λ (x : Hash). x.d) q))
+
+-- The eight bytes of a number, as the library divides them out.
+pub big_eight : (x : ℕ) → x / 2 ^ 56 % 256 ∷ x / 2 ^ 48 % 256 ∷ x / 2 ^ 40 % 256 ∷ x / 2 ^ 32 % 256 ∷ x / 2 ^ 24 % 256 ∷ x / 2 ^ 16 % 256 ∷ x / 2 ^ 8 % 256 ∷ x % 256 ∷ [] ≡ big 8 x
+big_eight x = rw (div-one x)
+
+-- A part of a slice, lent and given back, was written in its place.
+pub part_put : (at : ℕ) (f s : Bytes) → take at s ++ (f ++ drop (at + 8 - at) (drop at s)) ≡ take at s ++ (f ++ drop (at + 8) s)
+part_put at f s = let k : at + (at + 8 - at) ≡ at + 8 = omega arith in rw (drop-drop (at + 8 - at) at s, k)
 
 -- Four numbers one after another are the bytes of a hash.
 pub four_puts : (h : Hash) (s s1 s2 s3 s4 : Bytes) → s1 ≡ take 0 s ++ (big 8 h.a ++ drop 8 s)

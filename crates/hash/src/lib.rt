@@ -1,14 +1,14 @@
 // A hash as four numbers: read from a slice, written to one, compared.
 #![tactic(auto)]
 
-ghost use Rattle.std.specs.Prelude.{◌≡◌, ◌++◌, ◌+◌, ◌*◌, ◌<◌, ◌≤◌, length, take, drop};
+ghost use Rattle.std.specs.Prelude.{◌≡◌, ◌++◌, ◌+◌, ◌*◌, ◌≤◌, length, take, drop};
 ghost use Rattle.terms.specs.Bits.{same_bytes};
 ghost use Rattle.terms.specs.Records.{zeros};
 ghost use Rattle.hash.specs.BigEndian.{big, number, word_at};
 ghost use Rattle.hash.specs.Hash.{hash_bytes, hash_of};
 
 // Thirty-two bytes, eight to a number, the top byte first.
-#[derive(Clone, Copy)]
+#[derive(Clone, Copy, PartialEq, Eq)]
 pub struct Hash {
     pub a: u64,
     pub b: u64,
@@ -16,31 +16,12 @@ pub struct Hash {
     pub d: u64,
 }
 
-pub fn wide(x: u8) -> u32
-    ensures { (result ≡ x) × (result < 256) }
-{
-    x as u32
-}
-
-// The four bytes as one word, the first on top.
-pub fn pack(a: u32, b: u32, c: u32, d: u32) -> u32
-    requires { ((a < 256) × (b < 256)) × ((c < 256) × (d < 256)) }
-    ensures { result ≡ a * 16777216 + b * 65536 + c * 256 + d }
-{
-    a * 0x100_0000 + b * 0x1_0000 + c * 0x100 + d
-}
-
 // The word that begins at a byte.
 pub fn word_at(s: &[u8], at: usize) -> u32
     requires { at + 4 ≤ length s.now }
     ensures { result ≡ word_at s.now at }
 {
-    pack(
-        wide(s[at]),
-        wide(s[at + 1]),
-        wide(s[at + 2]),
-        wide(s[at + 3]),
-    )
+    u32::from_be_bytes([s[at], s[at + 1], s[at + 2], s[at + 3]])
 }
 
 // Two words as one number.
@@ -76,14 +57,7 @@ fn put_number(s: &mut [u8], at: usize, x: u64)
     requires { at + 8 ≤ length s.old }
     ensures { s.new ≡ take at s.old ++ (big 8 x ++ drop (at + 8) s.old) }
 {
-    s[at] = (x / 0x100_0000_0000_0000 % 256) as u8;
-    s[at + 1] = (x / 0x1_0000_0000_0000 % 256) as u8;
-    s[at + 2] = (x / 0x100_0000_0000 % 256) as u8;
-    s[at + 3] = (x / 0x1_0000_0000 % 256) as u8;
-    s[at + 4] = (x / 0x100_0000 % 256) as u8;
-    s[at + 5] = (x / 0x1_0000 % 256) as u8;
-    s[at + 6] = (x / 0x100 % 256) as u8;
-    s[at + 7] = (x % 256) as u8;
+    s[at..at + 8].copy_from_slice(&x.to_be_bytes());
 }
 
 // Writes the 32 bytes at the front.
@@ -101,19 +75,7 @@ pub fn put_hash(s: &mut [u8], h: Hash)
 pub fn same_hash(x: Hash, y: Hash) -> bool
     ensures { result ≡ same_bytes (hash_bytes x) (hash_bytes y) }
 {
-    if x.a != y.a {
-        return false;
-    }
-    if x.b != y.b {
-        return false;
-    }
-    if x.c != y.c {
-        return false;
-    }
-    if x.d != y.d {
-        return false;
-    }
-    true
+    x == y
 }
 
 // 32 zero bytes, which stand for a child that is missing and for the root of no grants.

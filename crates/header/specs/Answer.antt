@@ -1,9 +1,11 @@
--- Document 01, 'Forms to follow': what each case of an answer says, in the paper's numbers and values. Assumes nothing.
+-- What each case of an answer says, in numbers and values. Assumes nothing.
+use Rattle.std.specs.Prelude.{Result, Ok, Err}
 use Rattle.layout.specs.Headers.{Headed, refusal, header}
-use Rattle.header.specs.declared.Header as declared
-use Rattle.header.specs.declared.Header.TheVariants.{Refused, Accepted}
+use Rattle.refusal_numbers.specs.Refusals.{number}
+use Rattle.refusal_numbers.specs.declared.Refusal.{Refusal}
+use Rattle.header.specs.declared.Header.{Header}
 
 -- What the answer of reading a header says.
-unfoldable pub header_says : declared.Header → Headed
-header_says (Refused n) = refusal n
-header_says (Accepted n oldest latest) = header n oldest latest
+unfoldable pub header_says : Result Header Refusal → Headed
+header_says (Ok h) = header h.capacity h.oldest h.latest
+header_says (Err r) = refusal (number r)

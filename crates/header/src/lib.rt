@@ -10,35 +10,32 @@ ghost use Rattle.header.specs.Answer.{header_says};
 use fields::{get_u32, put_u16, put_u32};
 use header_form::{header_kind, header_right, size_right};
 use layout::sizes;
-use refusal_numbers::{WRONG_HEADER, WRONG_SIZE};
+use refusal_numbers::Refusal;
 use terms::Form;
 
-// What reading a header answers.
-#[derive(Clone, Copy)]
-pub enum Header {
-    Refused(u32),
-    Accepted {
-        capacity: u32,
-        oldest: u32,
-        latest: u32,
-    },
+// What a header says: how many slots the store has, and its kept versions.
+#[derive(Clone, Copy, Debug, PartialEq, Eq)]
+pub struct Header {
+    pub capacity: u32,
+    pub oldest: u32,
+    pub latest: u32,
 }
 
 // Reads the header of any bytes.
-pub fn read_header(form: Form, store: &[u8]) -> Header
+pub fn read_header(form: Form, store: &[u8]) -> Result<Header, Refusal>
     ensures { header_says result ≡ header_of form store.now }
 {
     if !size_right(form, store.len()) {
-        return Header::Refused(WRONG_SIZE);
+        return Err(Refusal::WrongSize);
     }
     if !header_right(form, store) {
-        return Header::Refused(WRONG_HEADER);
+        return Err(Refusal::WrongHeader);
     }
-    Header::Accepted {
+    Ok(Header {
         capacity: get_u32(store, sizes::CAPACITY_AT),
         oldest: get_u32(store, sizes::OLDEST_AT),
         latest: get_u32(store, sizes::LATEST_AT),
-    }
+    })
 }
 
 // Writes the 24 bytes of a header, and nothing else.

@@ -20,12 +20,12 @@ use Rattle.lookup.specs.Lookup.{is_used}
 use Rattle.lifetime.specs.Lifetime.{covers}
 use Rattle.lookup.proofs.Matching.{version_is, retired_is, count_is_lem, no_bits}
 use Rattle.index_node.specs.Looks.{look_says}
-use Rattle.index_node.specs.declared.Look.TheVariants.{Small, Great, Meets}
-use Rattle.index_node.specs.declared.Look as declared
+use Rattle.std.specs.declared.cmp.Ordering.{Ordering}
+use Rattle.std.specs.declared.cmp.Ordering.TheVariants.{Less, Equal, Greater}
 use Rattle.index_node.proofs.Looked.{by_slot, off_form}
 
 -- an entry beyond the slots names none
-pub beyond : (look : Record → Look) (s : List Slot) (e : ℕ) → length s ≤ e → Great ≡ look_says (look_at look (get_or s e free))
+pub beyond : (look : Record → Look) (s : List Slot) (e : ℕ) → length s ≤ e → Greater ≡ look_says (look_at look (get_or s e free))
 beyond look s e l = ap (λ y. look_says (look_at look y)) (sym (get_or-eq_default s free l))
 
 -- the look for a root
@@ -59,7 +59,7 @@ module _ {s : Bytes} {i : ℕ} (has : Has counted s i) (b : All Byte s) (v : ℕ
   abbrev y : Bytes
   y = slot_in counted i s
 
-  abbrev SaysRoot : declared.Look → Type 0
+  abbrev SaysRoot : Ordering → Type 0
   SaysRoot l = l ≡ look_says (look_at (root_look v) (slot_no counted i s))
 
   lasting : length y ≡ slot_size counted
@@ -68,16 +68,16 @@ module _ {s : Bytes} {i : ℕ} (has : Has counted s i) (b : All Byte s) (v : ℕ
   all : All Byte y
   all = slot_bytes_lem counted i s b
 
-  root_says_lem : (l : declared.Look) → is_used (slot_of y) ≡ true → ((r : Record) → slot_of y ≡ used r → look_says (root_look v r) ≡ l) → SaysRoot l
+  root_says_lem : (l : Ordering) → is_used (slot_of y) ≡ true → ((r : Record) → slot_of y ≡ used r → look_says (root_look v r) ≡ l) → SaysRoot l
   root_says_lem l e f = by_slot (root_look v) l (slot_of y) e f ∙ ap (λ x. look_says (look_at (root_look v) x)) (sym (slot_is has))
 
-  pub root_unformed : is_used (slot_of y) ≡ false → SaysRoot Great
+  pub root_unformed : is_used (slot_of y) ≡ false → SaysRoot Greater
   root_unformed e = off_form (root_look v) (slot_of y) e ∙ ap (λ x. look_says (look_at (root_look v) x)) (sym (slot_is has))
 
   module _ (form : is_used (slot_of y) ≡ true) where
-    pub root_deep : (count_in y ≡ 0 → ⊥) → SaysRoot Great
+    pub root_deep : (count_in y ≡ 0 → ⊥) → SaysRoot Greater
     unfolding count_in
-    root_deep n = root_says_lem Great form (λ r u. ap look_says (off_top v r (λ e. n (count_is_lem counted y lasting all r u ∙ ap length e))))
+    root_deep n = root_says_lem Greater form (λ r u. ap look_says (off_top v r (λ e. n (count_is_lem counted y lasting all r u ∙ ap length e))))
 
     module _ (top : count_in y ≡ 0) where
       at_top : (r : Record) → slot_of y ≡ used r → r.place ≡ []
@@ -87,8 +87,8 @@ module _ {s : Bytes} {i : ℕ} (has : Has counted s i) (b : All Byte s) (v : ℕ
       its_version : (r : Record) → slot_of y ≡ used r → version_in y ≡ r.version
       its_version r u = version_is counted y lasting all r u
 
-      pub root_later : v < version_in y → SaysRoot Great
-      root_later l = root_says_lem Great form (λ r u. ap look_says (later v r (at_top r u) (omega (arith, its_version r u))))
+      pub root_later : v < version_in y → SaysRoot Greater
+      root_later l = root_says_lem Greater form (λ r u. ap look_says (later v r (at_top r u) (omega (arith, its_version r u))))
 
       module _ (begun : version_in y ≤ v) where
         its_end : (r : Record) → slot_of y ≡ used r → (c : Bool) → covers (version_in y) (since_in y) v ≡ c → retired_by v r ≡ not c
@@ -96,8 +96,8 @@ module _ {s : Bytes} {i : ℕ} (has : Has counted s i) (b : All Byte s) (v : ℕ
             not_of (retired_by v r) c
             (sym (life v r (omega (arith, its_version r u))) ∙ (sym (ap₂ (λ x z. covers x z v) (its_version r u) (retired_is counted y lasting all r u)) ∙ e))
 
-        pub root_ended : covers (version_in y) (since_in y) v ≡ false → SaysRoot Small
-        root_ended e = root_says_lem Small form (λ r u. ap look_says (ended v r (at_top r u) (omega (arith, its_version r u)) (its_end r u false e)))
+        pub root_ended : covers (version_in y) (since_in y) v ≡ false → SaysRoot Less
+        root_ended e = root_says_lem Less form (λ r u. ap look_says (ended v r (at_top r u) (omega (arith, its_version r u)) (its_end r u false e)))
 
-        pub root_covered : covers (version_in y) (since_in y) v ≡ true → SaysRoot Meets
-        root_covered e = root_says_lem Meets form (λ r u. ap look_says (covered v r (at_top r u) (omega (arith, its_version r u)) (its_end r u true e)))
+        pub root_covered : covers (version_in y) (since_in y) v ≡ true → SaysRoot Equal
+        root_covered e = root_says_lem Equal form (λ r u. ap look_says (covered v r (at_top r u) (omega (arith, its_version r u)) (its_end r u true e)))

@@ -11,32 +11,33 @@ ghost use Rattle.layout.specs.Stores.{store_of, slot_no, Has};
 ghost use Rattle.index_node.specs.Looks.{look_says};
 ghost use Rattle.index_entry.specs.Entries.{look_for};
 
-use index_node::{Look, look_node};
+use index_node::look_node;
 use lifetime::covers;
 use lookup::holds_record;
 use place::Place;
+use std::cmp::Ordering;
 use store::{count_at, retired_at, slot_of, version_at};
 use terms::Form;
 
 // How slot i stands to the root of a version: other places and later versions are too great, a root retired by then too small.
-fn look_root(store: &[u8], i: usize, version: u32) -> Look
+fn look_root(store: &[u8], i: usize, version: u32) -> Ordering
     requires { Has Form.Counted store.now i }
     ensures { result ≡ look_says (look_at (root_look version) (slot_no Form.Counted i store.now)) }
 {
     if !holds_record(slot_of(Form::Counted, store, i)) {
-        return Look::Great;
+        return Ordering::Greater;
     }
     if count_at(Form::Counted, store, i) != 0 {
-        return Look::Great;
+        return Ordering::Greater;
     }
     let from = version_at(Form::Counted, store, i);
     if version < from {
-        return Look::Great;
+        return Ordering::Greater;
     }
     if !covers(from, retired_at(Form::Counted, store, i), version) {
-        return Look::Small;
+        return Ordering::Less;
     }
-    Look::Meets
+    Ordering::Equal
 }
 
 // A look for a root or for a node at an entry, which may name no slot.
@@ -47,12 +48,12 @@ pub fn look_entry(
     version: u32,
     place: Place,
     root: bool,
-) -> Look
+) -> Ordering
     requires { (size_right Form.Counted (length store.now) ≡ true) × (n ≡ room_of Form.Counted (length store.now)) × Proper place }
     ensures { result ≡ look_says (look_at (look_for root version (place_of place)) (get_or (store_of store.now).slots entry free)) }
 {
     if n <= entry {
-        return Look::Great;
+        return Ordering::Greater;
     }
     if root {
         return look_root(store, entry, version);

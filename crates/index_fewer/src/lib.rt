@@ -8,17 +8,13 @@ ghost use Rattle.check_pass.specs.Passes.{Room};
 use store::kind_at;
 use terms::Form;
 
-fn wide(x: u32) -> usize {
-    x as usize
-}
-
 // Entry k moved down to the first `kept`, if the slot it names isn't free; answers how many entries there are then.
 fn moved_down(store: &[u8], n: usize, table: &mut [u32], kept: usize, k: usize) -> usize
     requires { Room Form.Counted store.now n × (length table.old ≡ n) × (kept ≤ k) × (k < n) }
     ensures { result ≤ k + 1 }
 {
     let x = table[k];
-    let i = wide(x);
+    let i = x as usize;
     if n <= i {
         return kept;
     }
@@ -29,24 +25,13 @@ fn moved_down(store: &[u8], n: usize, table: &mut [u32], kept: usize, k: usize) 
     kept + 1
 }
 
-// The entries from a position on set to a number.
-fn set_from(table: &mut [u32], from: usize, x: u32) {
-    let mut k = from;
-    while k < table.len() {
-        table[k] = x;
-        k += 1;
-    }
-}
-
 // The entries that name free slots taken out.
 pub fn fewer(store: &[u8], n: usize, table: &mut [u32])
     requires { Room Form.Counted store.now n × (n ≤ 16384) × (length table.old ≡ n) }
 {
     let mut kept = 0;
-    let mut k = 0;
-    while k < n {
+    for k in 0..n {
         kept = moved_down(store, n, table, kept, k);
-        k += 1;
     }
-    set_from(table, kept, n as u32);
+    table[kept..].fill(n as u32);
 }

@@ -10,7 +10,7 @@ ghost use Rattle.promises.specs.Calls.{SoundBytes};
 use index_fewer::fewer;
 use index_look::is_right;
 use index_more::more;
-use index_pick::{fill, pick};
+use index_pick::pick;
 use store::slot_count;
 use terms::Form;
 
@@ -20,7 +20,7 @@ pub fn build(store: &[u8], table: &mut [u32])
     ensures { Right (store_of store.now) table.new }
 {
     let n = slot_count(Form::Counted, store);
-    fill(table, n as u32);
+    table.fill(n as u32);
     more(store, n, table, 1);
     if is_right(store, table) {
         return;

@@ -16,12 +16,6 @@ use slots::bits_of;
 use store::{count_at, kind_at, slot_count, slot_of, version_at};
 use terms::Form;
 
-fn wide(x: u32) -> usize
-    ensures { result ≡ x }
-{
-    x as usize
-}
-
 // Of two slots with the same bits, whether the first stands before the second: by the bit count, then by the version.
 fn ahead_there(store: &[u8], i: usize, j: usize) -> bool
     requires { Has Form.Counted store.now i × Has Form.Counted store.now j }
@@ -64,12 +58,10 @@ pub fn used_slots(store: &[u8]) -> usize
 {
     let n = slot_count(Form::Counted, store);
     let mut many = 0;
-    let mut i = 0;
-    while i < n {
+    for i in 0..n {
         if in_use(store, i) {
             many += 1;
         }
-        i += 1;
     }
     many
 }
@@ -79,7 +71,7 @@ fn follows(store: &[u8], n: usize, table: &[u32], k: usize) -> bool
     requires { SoundBytes store.now × (n ≡ room_of Form.Counted (length store.now)) × (length table.now ≡ n) × (k < n) × Began store.now table.now k }
     ensures { Decided result (Follows store.now table.now k) }
 {
-    let i = wide(table[k]);
+    let i = table[k] as usize;
     if n <= i {
         return false;
     }
@@ -89,7 +81,7 @@ fn follows(store: &[u8], n: usize, table: &[u32], k: usize) -> bool
     if k == 0 {
         return true;
     }
-    ahead(store, wide(table[k - 1]), i)
+    ahead(store, table[k - 1] as usize, i)
 }
 
 // Whether each of the first `many` entries does.
@@ -97,12 +89,10 @@ fn ascending(store: &[u8], n: usize, table: &[u32], many: usize) -> bool
     requires { SoundBytes store.now × (n ≡ room_of Form.Counted (length store.now)) × (length table.now ≡ n) × (many ≤ n) }
     ensures { Decided result (Ascending store.now table.now many) }
 {
-    let mut k = 0;
-    while k < many {
+    for k in 0..many {
         if !follows(store, n, table, k) {
             return false;
         }
-        k += 1;
     }
     true
 }
@@ -112,14 +102,7 @@ fn rest_empty(n: usize, table: &[u32], many: usize) -> bool
     requires { (length table.now ≡ n) × (many ≤ n) }
     ensures { Decided result (RestEmpty table.now many) }
 {
-    let mut k = many;
-    while k < n {
-        if wide(table[k]) != n {
-            return false;
-        }
-        k += 1;
-    }
-    true
+    table[many..].iter().all(|entry| *entry as usize == n)
 }
 
 // Whether a table is the right one of a sound store.

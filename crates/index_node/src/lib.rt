@@ -10,20 +10,13 @@ ghost use Rattle.index_node.specs.Looks.{look_says};
 use lookup::holds_record;
 use place::{Place, before};
 use slots::bits_of;
+use std::cmp::Ordering;
 use store::{count_at, slot_of, version_at};
 use terms::Form;
 
-// What a look at an entry says.
-#[derive(Clone, Copy)]
-pub enum Look {
-    Small,
-    Great,
-    Meets,
-}
-
 // How slot i stands to a version and place: the bits first, then the bit count, then the version. Greater bits are too great in form or not, so half of the
 // looks need not ask whether the slot is in form.
-pub fn look_node(store: &[u8], i: usize, version: u32, place: Place) -> Look
+pub fn look_node(store: &[u8], i: usize, version: u32, place: Place) -> Ordering
     requires { Has Form.Counted store.now i × Proper place }
     ensures { result ≡ look_says (look_at (node_look version (place_of place)) (slot_no Form.Counted i store.now)) }
 {
@@ -31,27 +24,15 @@ pub fn look_node(store: &[u8], i: usize, version: u32, place: Place) -> Look
     let bits = place.bits;
     let count = place.count;
     if before(&bits, bits_of(slot)) {
-        return Look::Great;
+        return Ordering::Greater;
     }
     if !holds_record(slot) {
-        return Look::Great;
+        return Ordering::Greater;
     }
     if before(bits_of(slot), &bits) {
-        return Look::Small;
+        return Ordering::Less;
     }
     let its = count_at(Form::Counted, store, i) as usize;
-    if its < count {
-        return Look::Small;
-    }
-    if count < its {
-        return Look::Great;
-    }
-    let own = version_at(Form::Counted, store, i);
-    if own < version {
-        return Look::Small;
-    }
-    if version < own {
-        return Look::Great;
-    }
-    Look::Meets
+    its.cmp(&count)
+        .then_with(|| version_at(Form::Counted, store, i).cmp(&version))
 }

@@ -5,6 +5,7 @@ use mathlib.Core.Path.{◌≡◌, refl, ap, sym, ◌∙◌, subst, subst₂}
 use mathlib.Core.Bool.{Bool, true, false, true≢false}
 use mathlib.Core.List.{List, []}
 use lib.ListN.{length, get_or, replicate, length-replicate}
+use Rattle.std.proofs.lemmas.List.{get_or-replicate}
 use lib.Dec.{eqb}
 use borrow.Author.Tests.{eqb-true, eqb-false}
 use Rattle.terms.specs.declared.Form.TheVariants.{Counted as counted}
@@ -23,7 +24,6 @@ use Rattle.layout.proofs.Headers.{size_says}
 use Rattle.layout.proofs.Stores.{store_said}
 use Rattle.promises.specs.Check as check
 use Rattle.contracts.specs.Format.{format_answer, format_bytes}
-use Rattle.index_pick.proofs.Filling.{filled_entry}
 use Rattle.index_rules.specs.Tables.{Fits, RightFor, Opened, other_length, checked, FormatsBoth, wrong_size, both_fresh}
 
 -- a store of another size gives 1, whatever the table
@@ -61,7 +61,7 @@ fresh_right n = record {
   names = λ k l. absurd (omega arith);
   named = λ i r a. free_used r (sym (free_here n i) ∙ a.1);
   order = λ j k q r l m a b. absurd (omega arith);
-  rest = λ k l m. filled_entry n n k _ (omega (arith, length-replicate n n, m)) ∙ sym (length-replicate n free);
+  rest = λ k l m. get_or-replicate n k n _ (omega (arith, length-replicate n n, m)) ∙ sym (length-replicate n free);
 }
 
 module _ (s : Bytes) (table : List ℕ) where

@@ -3,6 +3,7 @@
 #![tactic(auto)]
 
 ghost use Rattle.std.specs.Prelude.{◌≡◌};
+ghost use Rattle.refusal_numbers.specs.Refusals.{number_told};
 ghost use Rattle.index_rules.specs.Tables.{Opened, Builds, Tells, FormatsBoth};
 
 use check_store::check;
@@ -10,61 +11,54 @@ use format::format;
 use header_form::size_right;
 use index_keep::build;
 use index_look::is_right;
-use index_pick::fill;
-use refusal_numbers::{WRONG_INDEX, WRONG_SIZE};
+use refusal_numbers::Refusal;
 use store::slot_count;
 use terms::Form;
 
-// 0 where the store is sound and the table as long as its capacity, else 1, 2 or 3.
-fn opened(store: &[u8], table: &[u32]) -> u32
-    ensures { Opened store.now table.now result }
+// Whether the store is sound and the table as long as its capacity: refused by 1, 2 or 3.
+fn opened(store: &[u8], table: &[u32]) -> Result<(), Refusal>
+    ensures { Opened store.now table.now (number_told result) }
 {
     if !size_right(Form::Counted, store.len()) {
-        return WRONG_SIZE;
+        return Err(Refusal::WrongSize);
     }
     if table.len() != slot_count(Form::Counted, store) {
-        return WRONG_SIZE;
+        return Err(Refusal::WrongSize);
     }
     check(Form::Counted, store)
 }
 
-// 0 where the table is the right one of a sound store, else the number of refusal.
-pub fn told(store: &[u8], table: &[u32]) -> u32
-    ensures { Tells store.now table.now result }
+// Whether the table is the right one of a sound store.
+pub fn told(store: &[u8], table: &[u32]) -> Result<(), Refusal>
+    ensures { Tells store.now table.now (number_told result) }
 {
-    let refusal = opened(store, table);
-    if refusal != 0 {
-        return refusal;
-    }
+    opened(store, table)?;
     if !is_right(store, table) {
-        return WRONG_INDEX;
+        return Err(Refusal::WrongIndex);
     }
-    0
+    Ok(())
 }
 
 // Writes the right table of a sound store; refused, nothing is written.
-pub fn built(store: &[u8], table: &mut [u32]) -> u32
-    ensures { Builds store.now table.old result table.new }
+pub fn built(store: &[u8], table: &mut [u32]) -> Result<(), Refusal>
+    ensures { Builds store.now table.old (number_told result) table.new }
 {
-    let refusal = opened(store, table);
-    if refusal != 0 {
-        return refusal;
-    }
+    opened(store, table)?;
     build(store, table);
-    0
+    Ok(())
 }
 
 // Makes a fresh store of any contents, and its table; refused, nothing is written.
-pub fn formatted(store: &mut [u8], table: &mut [u32]) -> u32
-    ensures { FormatsBoth store.old table.old result store.new table.new }
+pub fn formatted(store: &mut [u8], table: &mut [u32]) -> Result<(), Refusal>
+    ensures { FormatsBoth store.old table.old (number_told result) store.new table.new }
 {
     if !size_right(Form::Counted, store.len()) {
-        return WRONG_SIZE;
+        return Err(Refusal::WrongSize);
     }
     let n = slot_count(Form::Counted, store);
     if table.len() != n {
-        return WRONG_SIZE;
+        return Err(Refusal::WrongSize);
     }
-    fill(table, n as u32);
+    table.fill(n as u32);
     format(store)
 }

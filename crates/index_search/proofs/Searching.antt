@@ -11,22 +11,22 @@ use Rattle.indexed.specs.Index.{Look, too_small, too_great, meets, look_at}
 use Rattle.indexed.proofs.Halving.{in_middle}
 use Rattle.indexed.proofs.Searching.{node_met, root_met}
 use Rattle.index_node.specs.Looks.{look_says}
-use Rattle.index_node.specs.declared.Look.TheVariants.{Small, Great, Meets}
-use Rattle.index_node.specs.declared.Look as declared
+use Rattle.std.specs.declared.cmp.Ordering.{Ordering}
+use Rattle.std.specs.declared.cmp.Ordering.TheVariants.{Less, Equal, Greater}
 use Rattle.index_entry.specs.Entries.{look_for}
 
 -- what a look says, back
-pub was_small : (l : Look) (r : declared.Look) → r ≡ look_says l → r ≡ Small → l ≡ too_small
+pub was_small : (l : Look) (r : Ordering) → r ≡ look_says l → r ≡ Less → l ≡ too_small
 was_small too_small x e f = refl
 was_small too_great x e f = let z : ◌≡◌ {A = ℕ} 0 1 = cc in absurd (omega arith)
 was_small (meets r) x e f = let z : ◌≡◌ {A = ℕ} 0 1 = cc in absurd (omega arith)
 
-pub was_great : (l : Look) (r : declared.Look) → r ≡ look_says l → r ≡ Great → l ≡ too_great
+pub was_great : (l : Look) (r : Ordering) → r ≡ look_says l → r ≡ Greater → l ≡ too_great
 was_great too_small x e f = let z : ◌≡◌ {A = ℕ} 0 1 = cc in absurd (omega arith)
 was_great too_great x e f = refl
 was_great (meets r) x e f = let z : ◌≡◌ {A = ℕ} 0 1 = cc in absurd (omega arith)
 
-pub was_met : (l : Look) (k : declared.Look) → k ≡ look_says l → k ≡ Meets → (r : Record) × (l ≡ meets r)
+pub was_met : (l : Look) (k : Ordering) → k ≡ look_says l → k ≡ Equal → (r : Record) × (l ≡ meets r)
 was_met too_small x e f = let z : ◌≡◌ {A = ℕ} 0 1 = cc in absurd (omega arith)
 was_met too_great x e f = let z : ◌≡◌ {A = ℕ} 0 1 = cc in absurd (omega arith)
 was_met (meets r) x e f = (r, refl)

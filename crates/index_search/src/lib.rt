@@ -10,9 +10,8 @@ ghost use Rattle.lookup.specs.Lookup.{Located};
 ghost use Rattle.index_entry.specs.Entries.{look_for};
 
 use index_entry::look_entry;
-use index_node::Look;
-use lookup::Found;
 use place::Place;
+use std::cmp::Ordering;
 use store::slot_count;
 use terms::Form;
 
@@ -27,31 +26,32 @@ fn entry_at(table: &[u32], k: usize, n: usize) -> usize
 }
 
 // The slot on which the search for a root or for a node ends. A table may have any length; in one without entries nothing is looked at.
-fn search(store: &[u8], table: &[u32], version: u32, place: Place, root: bool) -> Found
+fn search(store: &[u8], table: &[u32], version: u32, place: Place, root: bool) -> Option<usize>
     requires { (size_right Form.Counted (length store.now) ≡ true) × Proper place }
     ensures { Located (store_of store.now).slots (search (look_for root version (place_of place)) table.now (store_of store.now).slots) result }
 {
     if table.len() == 0 {
-        return Found::Nothing;
+        return None;
     }
     let n = slot_count(Form::Counted, store);
     let mut lo = 0;
     let mut hi = n;
+    // Halving, which is no count.
     while lo < hi {
         let middle = (lo + hi) / 2;
         let entry = entry_at(table, middle, n);
         let look = look_entry(store, n, entry, version, place, root);
         match look {
-            Look::Small => lo = middle + 1,
-            Look::Great => hi = middle,
-            Look::Meets => return Found::At(entry),
+            Ordering::Less => lo = middle + 1,
+            Ordering::Greater => hi = middle,
+            Ordering::Equal => return Some(entry),
         }
     }
-    Found::Nothing
+    None
 }
 
 // The slot on which the search for a version and place ends.
-pub fn search_node(store: &[u8], table: &[u32], version: u32, place: Place) -> Found
+pub fn search_node(store: &[u8], table: &[u32], version: u32, place: Place) -> Option<usize>
     requires { (size_right Form.Counted (length store.now) ≡ true) × Proper place }
     ensures { Located (store_of store.now).slots (search (node_look version (place_of place)) table.now (store_of store.now).slots) result }
 {
@@ -59,7 +59,7 @@ pub fn search_node(store: &[u8], table: &[u32], version: u32, place: Place) -> F
 }
 
 // The slot on which the search for the root of a version ends.
-pub fn search_root(store: &[u8], table: &[u32], version: u32) -> Found
+pub fn search_root(store: &[u8], table: &[u32], version: u32) -> Option<usize>
     requires { size_right Form.Counted (length store.now) ≡ true }
     ensures { Located (store_of store.now).slots (search (root_look version) table.now (store_of store.now).slots) result }
 {

@@ -9,7 +9,6 @@ ghost use Rattle.layout.specs.Stores.{store_of};
 ghost use Rattle.sights.specs.Sights.{Sighted};
 
 use index_search::{search_node, search_root};
-use lookup::Found;
 use place::Place;
 use sights::{Sight, look, look_root};
 use terms::Form;
@@ -19,11 +18,10 @@ pub fn look_by(store: &[u8], table: &[u32], version: u32, place: Place) -> Sight
     requires { (size_right Form.Counted (length store.now) ≡ true) × Proper place }
     ensures { Sighted (store_of store.now).slots (node_by table.now (store_of store.now) version (place_of place)) result }
 {
-    let found = search_node(store, table, version, place);
-    if let Found::At(i) = found {
-        return Sight::Matches(i);
-    }
-    look(store, version, place)
+    search_node(store, table, version, place).map_or_else(
+        || look(store, version, place),
+        Sight::Matches,
+    )
 }
 
 // What is found of the root of a version.
@@ -31,9 +29,5 @@ pub fn look_root_by(store: &[u8], table: &[u32], version: u32) -> Sight
     requires { size_right Form.Counted (length store.now) ≡ true }
     ensures { Sighted (store_of store.now).slots (root_by table.now (store_of store.now) version) result }
 {
-    let found = search_root(store, table, version);
-    if let Found::At(i) = found {
-        return Sight::Matches(i);
-    }
-    look_root(store, version)
+    search_root(store, table, version).map_or_else(|| look_root(store, version), Sight::Matches)
 }

@@ -10,7 +10,7 @@ use apply_sound::apply_sound;
 use fields::put_u32;
 use index_keep::{keep_fewer, keep_more};
 use index_open::told;
-use prune_sound::{Pruned, prune_sound};
+use prune_sound::prune_sound;
 
 // Applies a batch to a store as a number; version, root and count of new records go out in 40 bytes.
 pub fn apply_both(
@@ -22,18 +22,19 @@ pub fn apply_both(
 ) -> u32
     ensures { AppliesBoth number batch.now store.old table.old answer.old result store.new table.new answer.new }
 {
-    let refusal = told(store, table);
-    if refusal != 0 {
-        return refusal;
+    if let Err(refusal) = told(store, table) {
+        return refusal.number();
     }
     let applied = apply_sound(store, number, batch);
     match applied {
-        Applied::Refused(own) => own,
-        Applied::Made {
-            version,
-            root,
-            count,
-        } => {
+        Err(own) => own.number(),
+        Ok(
+            Applied {
+                version,
+                root,
+                count,
+            },
+        ) => {
             keep_more(store, table, version);
             put_answer(answer, version, root, count);
             0
@@ -45,14 +46,13 @@ pub fn apply_both(
 pub fn prune_both(store: &mut [u8], table: &mut [u32], version: u32, freed: &mut [u8; 4]) -> u32
     ensures { PrunesBoth version store.old table.old freed.old result store.new table.new freed.new }
 {
-    let refusal = told(store, table);
-    if refusal != 0 {
-        return refusal;
+    if let Err(refusal) = told(store, table) {
+        return refusal.number();
     }
     let pruned = prune_sound(store, version);
     match pruned {
-        Pruned::Refused(own) => own,
-        Pruned::Freed(count) => {
+        Err(own) => own.number(),
+        Ok(count) => {
             keep_fewer(store, table);
             put_u32(freed, 0, count);
             0

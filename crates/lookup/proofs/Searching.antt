@@ -23,7 +23,7 @@ use Rattle.layout.proofs.Headers.{size_small}
 use Rattle.store.proofs.Slots.{slot_long, slot_bytes_lem, slot_within, slot_is, field_at}
 use Rattle.store.proofs.Scans.{Scan, scan_start, scan_many, scan_slot, scan_here, scan_next, scan_end}
 use Rattle.lookup.specs.Lookup.{is_used, FoundIn}
-use Rattle.lookup.specs.declared.Found.TheVariants.{At, Nothing}
+use Rattle.std.specs.Prelude.{Some, None}
 use Rattle.lookup.proofs.Matching.{NoNode, off_version, off_count, off_byte, is_here}
 
 -- the search past a slot that does not match
@@ -92,7 +92,7 @@ module _ {fm : Form} {s : Bytes} {v : ℕ} {b : Bytes} {count n i : ℕ} (w : Sl
   other_count h at e f =
       next h (off_count fm (slot_in fm i s) (long h) (slot_bytes_lem fm i s w.bytes) v (take count (bits b)) (λ k. f (field_at fm i count_at 2 s e (omega arith) ∙ k ∙ w.long)))
 
-  pub none_left : n ≤ i → FoundIn (store_in fm s).slots v (take count (bits b)) Nothing
+  pub none_left : n ≤ i → FoundIn (store_in fm s).slots v (take count (bits b)) None
   none_left h = scan_end w.scan h
 
 -- before the first slot
@@ -139,7 +139,7 @@ module _ {fm : Form} {s : Bytes} {v : ℕ} {b : Bytes} {count n i at k : ℕ} (w
   its_slot q = rw (q, part_slice at (slot_size fm) s, w.here)
 
   -- all agrees, and the slot holds a record: it is found
-  pub found_here : {e : ℕ} → e ≡ at + slot_size fm → 32 ≤ k → is_used (slot_of (take (e - at) (drop at s))) ≡ true → FoundIn (store_in fm s).slots v (take count (bits b)) (At i)
+  pub found_here : {e : ℕ} → e ≡ at + slot_size fm → 32 ≤ k → is_used (slot_of (take (e - at) (drop at s))) ≡ true → FoundIn (store_in fm s).slots v (take count (bits b)) (Some i)
   found_here q h t =
       let x = slot_in fm i s in
       let u = used_or (slot_of x) (ap (λ y. is_used (slot_of y)) (sym (its_slot q)) ∙ t) in

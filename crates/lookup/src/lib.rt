@@ -26,15 +26,9 @@ pub fn holds_record(s: &[u8]) -> bool
     is_inner(s)
 }
 
-#[derive(Clone, Copy)]
-pub enum Found {
-    // The number of the slot.
-    At(usize),
-    Nothing,
-}
-
 // The lowest slot that matches a version and place: the cheap fields first, and the next slot at the first difference.
-pub fn find(form: Form, store: &[u8], version: u32, place: Place) -> Found
+// Its form is asked for (docs/TRACE.md, 'Forms to follow'): a loop that yields the slot by break, left by a label where a byte differs.
+pub fn find(form: Form, store: &[u8], version: u32, place: Place) -> Option<usize>
     requires { (size_right form (length store.now) ≡ true) × Proper place }
     ensures { FoundIn (store_in form store.now).slots version (place_of place) result }
 {
@@ -44,7 +38,7 @@ pub fn find(form: Form, store: &[u8], version: u32, place: Place) -> Found
     let mut i = 0;
     'slots: loop {
         if n <= i {
-            break 'slots Found::Nothing;
+            break 'slots None;
         }
         let at = slot_start(form, i);
         if get_u32(store, at + sizes::VERSION_AT) != version {
@@ -65,7 +59,7 @@ pub fn find(form: Form, store: &[u8], version: u32, place: Place) -> Found
         }
         let end = at + slot_size(form);
         if holds_record(&store[at..end]) {
-            break 'slots Found::At(i);
+            break 'slots Some(i);
         }
         i += 1;
     }

@@ -18,7 +18,7 @@ use Rattle.layout.specs.Stores.{slot_in, slot_no, store_in, Has}
 use Rattle.store.proofs.Slots.{slot_long, slot_bytes_lem, slot_within, slot_is}
 use Rattle.store.proofs.Scans.{Scan, scan_start, scan_inside, scan_here, scan_next, scan_end}
 use Rattle.lifetime.specs.Lifetime.{covers}
-use Rattle.lookup.specs.declared.Found.TheVariants.{At, Nothing}
+use Rattle.std.specs.Prelude.{Some, None}
 use Rattle.lookup.specs.Lookup.{is_used}
 use Rattle.lookup.proofs.Matching.{version_is, retired_is, count_is_lem, no_bits, and_false}
 use Rattle.lookup_root.specs.Roots.{root_here, RootIn}
@@ -89,12 +89,12 @@ module _ {fm : Form} {s : Bytes} (v : ℕ) {n i : ℕ} (w : Scan fm s (Ahead fm 
   pub root_next : i < n → root_here v (slot_no fm i s) ≡ false → Scan fm s (Ahead fm s v) n (i + 1)
   root_next h e = scan_next w h (Ahead fm s v) (scan_here w h ∙ past v (slot_no fm i s) (drop (i + 1) (store_in fm s).slots) e)
 
-  pub root_found : i < n → root_here v (slot_no fm i s) ≡ true → RootIn (store_in fm s) v (At i)
+  pub root_found : i < n → root_here v (slot_no fm i s) ≡ true → RootIn (store_in fm s) v (Some i)
   unfolding root_of
   root_found h e =
       let u = here v (slot_no fm i s) (drop (i + 1) (store_in fm s).slots) e in
       (scan_inside w h, (u.0, u.1, scan_here w h ∙ u.2))
 
-  pub root_nowhere : n ≤ i → RootIn (store_in fm s) v Nothing
+  pub root_nowhere : n ≤ i → RootIn (store_in fm s) v None
   unfolding root_of
   root_nowhere h = scan_end w h

@@ -7,7 +7,7 @@ ghost use Rattle.layout.specs.Stores.{store_in, slot_no, Has};
 ghost use Rattle.lookup_root.specs.Roots.{root_here, RootIn};
 
 use lifetime::covers;
-use lookup::{Found, holds_record};
+use lookup::holds_record;
 use store::{count_at, retired_at, slot_count, slot_of, version_at};
 use terms::Form;
 
@@ -30,17 +30,15 @@ fn root_here(form: Form, store: &[u8], i: usize, version: u32) -> bool
 }
 
 // The root of a version: the lowest slot with a root record whose lifetime covers it.
-pub fn find_root(form: Form, store: &[u8], version: u32) -> Found
+pub fn find_root(form: Form, store: &[u8], version: u32) -> Option<usize>
     requires { size_right form (length store.now) ≡ true }
     ensures { RootIn (store_in form store.now) version result }
 {
     let n = slot_count(form, store);
-    let mut j = 0;
-    while j < n {
+    for j in 0..n {
         if root_here(form, store, j, version) {
-            return Found::At(j);
+            return Some(j);
         }
-        j += 1;
     }
-    Found::Nothing
+    None
 }

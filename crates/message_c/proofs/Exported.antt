@@ -15,8 +15,9 @@ use Rattle.messages.specs.Lending.{Lent, LentBytes}
 use Rattle.message_rules.specs.Contracts.{written, WritesMessage}
 use Rattle.message_rules.specs.Answers.{written_into}
 use Rattle.message_rules.proofs.Ties.{number_of_message, room_of_message, told_of_message, writes_as}
-use Rattle.message_write.specs.declared.Wrote.{Wrote}
-use Rattle.message_write.specs.declared.Wrote.TheVariants.{Refused, Length}
+use Rattle.std.specs.Prelude.{Result, Ok, Err}
+use Rattle.refusal_numbers.specs.Refusals.{number}
+use Rattle.refusal_numbers.specs.declared.Refusal.{Refusal}
 use Rattle.message_write.specs.Wrote.{says, Writes}
 
 -- the answer of the code, by the proof that is made
@@ -37,13 +38,13 @@ written_so {x} {lent} {room} {t} {old} bytes lends number left told =
       message = left ∙ ap (λ o. room_after (λ m. m) o room) k.same ∙ room_of_message a room;
     }
 
-module _ {x : Bytes} (bytes : All Byte x) {lent : Lent} (lends : LentBytes lent) {room t : Bytes} {r : Wrote} (w : Writes (written_into (proof_in x) lent room) room r t) (old : Bytes) where
-  pub write_refused : {n : ℕ} → r ≡ Refused n →
-      WritesMessage x lent.asked (lent.first.key ∷ lent.first.value ∷ lent.second.key ∷ lent.second.value ∷ []) room old n t old
+module _ {x : Bytes} (bytes : All Byte x) {lent : Lent} (lends : LentBytes lent) {room t : Bytes} {r : Result ℕ Refusal} (w : Writes (written_into (proof_in x) lent room) room r t) (old : Bytes) where
+  pub write_refused : {n : Refusal} → r ≡ Err n →
+      WritesMessage x lent.asked (lent.first.key ∷ lent.first.value ∷ lent.second.key ∷ lent.second.value ∷ []) room old (number n) t old
   write_refused {n} e =
-      let k = told_refused length (written_into (proof_in x) lent room) n old (sym (ap says e) ∙ w.answer) in written_so bytes lends k.number w.bytes k.told
+      let k = told_refused length (written_into (proof_in x) lent room) (number n) old (sym (ap says e) ∙ w.answer) in written_so bytes lends k.number w.bytes k.told
 
-  pub write_given : {n : ℕ} {new : Bytes} → r ≡ Length n → length old ≡ 4 → new ≡ filled 0 (le 4 n) old →
+  pub write_given : {n : ℕ} {new : Bytes} → r ≡ Ok n → length old ≡ 4 → new ≡ filled 0 (le 4 n) old →
       WritesMessage x lent.asked (lent.first.key ∷ lent.first.value ∷ lent.second.key ∷ lent.second.value ∷ []) room old 0 t new
   write_given {n} {new} e l f =
       let k = told_given length (written_into (proof_in x) lent room) n old new (sym (ap says e) ∙ w.answer) (f ∙ number_fills n old l) in

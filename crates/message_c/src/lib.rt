@@ -6,7 +6,7 @@ ghost use Rattle.message_rules.specs.Contracts.{WritesMessage, ReadsMessage};
 
 use fields::put_u32;
 use message_read::grants_ics23_read;
-use message_write::{Wrote, write};
+use message_write::write;
 
 // Writes the message of a record to the front of the room; length: how long it is, 4 bytes little-endian. Lent are the raw key asked for, and raw key and value
 // of the leaf shown or the left of two, and of the right of two; a leaf not shown has no bytes.
@@ -24,8 +24,8 @@ pub fn grants_ics23_write(
 {
     let wrote = write(proof, asked, key1, value1, key2, value2, room);
     match wrote {
-        Wrote::Refused(n) => n,
-        Wrote::Length(n) => {
+        Err(refusal) => refusal.number(),
+        Ok(n) => {
             put_u32(length, 0, n);
             0
         }

@@ -1,7 +1,7 @@
 // A field and an inner op where they stand in the bytes of a message, document 02, request 2026-02. Any bytes may be handed in.
 #![tactic(auto)]
 
-ghost use Rattle.std.specs.Prelude.{◌≡◌, ◌≤◌, length, false};
+ghost use Rattle.std.specs.Prelude.{◌≡◌, ◌≤◌, length};
 ghost use Rattle.messages.specs.Reading.{step_in};
 ghost use Rattle.message_fields.specs.Standing.{Stands, step_by};
 
@@ -11,70 +11,48 @@ use place::same;
 // A field of bytes or of a message: where its bytes begin and end.
 #[derive(Clone, Copy)]
 pub struct Part {
-    pub found: bool,
     pub from: usize,
     pub to: usize,
 }
 
-// On which side of its parent an inner op puts a node.
-#[derive(Clone, Copy)]
-pub enum Inner {
-    Left,
-    Right,
-    Neither,
-}
-
-fn no_part() -> Part
-    ensures { result.found ≡ false }
-{
-    Part {
-        found: false,
-        from: 0,
-        to: 0,
-    }
-}
-
 // Field n of bytes or of a message, which begins there.
-pub fn field(m: &[u8], at: usize, n: u8) -> Part
+pub fn field(m: &[u8], at: usize, n: u8) -> Option<Part>
     requires { (at ≤ length m.now) × (n ≤ 15) }
     ensures { Stands n m.now at result }
 {
     if m.len() <= at {
-        return no_part();
+        return None;
     }
     if m[at] != 8 * n + 2 {
-        return no_part();
+        return None;
     }
-    let size = varint(m, at + 1);
-    if !size.found {
-        return no_part();
-    }
+    let size = varint(m, at + 1)?;
     if m.len() - size.next < size.value {
-        return no_part();
+        return None;
     }
-    Part {
-        found: true,
+    Some(Part {
         from: size.next,
         to: size.next + size.value,
-    }
+    })
 }
 
-// What an inner op says, by its head and its length: 32 bytes follow the head.
-pub fn inner_op(x: &[u8]) -> Inner
+// Whether an inner op puts its node on the right, by its head and its length: 32 bytes follow the head.
+// Nothing where it is no inner op of ours.
+pub fn inner_op(x: &[u8]) -> Option<bool>
     ensures { step_in x.now ≡ step_by x.now result }
 {
     if x.len() == 39 {
         let left: [u8; 7] = [8, 1, 18, 1, 0, 26, 32];
         if same(&x[0..7], &left) {
-            return Inner::Left;
+            return Some(false);
         }
-        return Inner::Neither;
+        return None;
     }
     if x.len() == 37 {
         let right: [u8; 5] = [8, 1, 18, 33, 0];
         if same(&x[0..5], &right) {
-            return Inner::Right;
+            return Some(true);
         }
     }
-    Inner::Neither
+    None
 }

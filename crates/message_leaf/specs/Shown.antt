@@ -1,6 +1,7 @@
 -- What an existence proof that was read from lent bytes is, beside `messages/Reading`: where its parts stand instead of
 -- the bytes themselves. No public promise reaches this file. Assumes nothing.
-use Rattle.std.specs.Prelude.{ℕ, ◌+◌, ◌-◌, ◌≤◌, ◌≡◌, Bool, true, false, cond, List, [], ◌∷◌, length, drop}
+use Rattle.std.specs.declared.option.Option as option
+use Rattle.std.specs.Prelude.{ℕ, ◌+◌, ◌-◌, ◌≤◌, ◌≡◌, Bool, true, false, List, [], ◌∷◌, length, drop, Some, None}
 use Rattle.std.proofs.Math.Option.{Option, none, some}
 use Rattle.terms.specs.Bits.{Bytes}
 use Rattle.terms.specs.Fields.{slice, all_of}
@@ -8,7 +9,6 @@ use Rattle.terms.specs.Records.{Step, Presence}
 use Rattle.messages.specs.Raws.{leaf_op, most_key, most_value}
 use Rattle.messages.specs.Reading.{onward, only_if, step_in, path_in, length_right, existence_in}
 use Rattle.messages.specs.Spots.{key_spot, value_spot}
-use Rattle.message_leaf.specs.declared.Walked.{Walked}
 use Rattle.message_leaf.specs.declared.Shown.{Shown}
 
 -- The bytes from one place up to another.
@@ -28,10 +28,15 @@ steps_of (some steps) = steps
 unfoldable pub steps_from : ℕ → Bytes → List Step
 steps_from from x = steps_of (path_in 256 (drop from x))
 
+-- The steps that a walk tells: all from there on, or none.
+abbrev pub walked_steps : Bytes → ℕ → option.Option ℕ → Option (List Step)
+walked_steps x from None = none
+walked_steps x from (Some count) = some (steps_from from x)
+
 -- A path that was walked from there on.
-pub record Walks (x : Bytes) (from : ℕ) (r : Walked) : Type 0 where
-  pub is : path_in 256 (drop from x) ≡ cond r.found (some (steps_from from x)) none
-  pub count_is_lem : r.found ≡ true → length (steps_from from x) ≡ r.count
+pub record Walks (x : Bytes) (from : ℕ) (r : option.Option ℕ) : Type 0 where
+  pub is : path_in 256 (drop from x) ≡ walked_steps x from r
+  pub count_is_lem : (count : ℕ) → r ≡ Some count → length (steps_from from x) ≡ count
 
 -- Key, value and steps by their places.
 abbrev pub presence_at : Bytes → Shown → Presence
@@ -57,19 +62,22 @@ after_head x r =
     (onward (path_in 256 (drop r.path x)) λ steps.
     some (record { key = (presence_at x r).key; value = (presence_at x r).value; steps = steps }))
 
-pub record Heads (x : Bytes) (at : ℕ) (r : Shown) : Type 0 where
-  pub is : existence_in (drop at x) ≡ cond r.found (after_head x r) none
-  pub inside : r.found ≡ true → Inside x at r
+-- What a head says, if it is one.
+abbrev pub headed_in : Bytes → option.Option Shown → Option Presence
+headed_in x None = none
+headed_in x (Some s) = after_head x s
+
+pub record Heads (x : Bytes) (at : ℕ) (r : option.Option Shown) : Type 0 where
+  pub is : existence_in (drop at x) ≡ headed_in x r
+  pub inside : (s : Shown) → r ≡ Some s → Inside x at s
+
+-- An existence proof that is shown, by its places in bytes that it ends.
+abbrev pub shown_in : Bytes → option.Option Shown → Option Presence
+shown_in x None = none
+shown_in x (Some s) = some (presence_at x s)
 
 -- An existence proof from there on to the end.
-pub record Shows (x : Bytes) (at : ℕ) (r : Shown) : Type 0 where
-  pub is : existence_in (drop at x) ≡ cond r.found (some (presence_at x r)) none
-  pub inside : r.found ≡ true → Inside x at r
-  pub count_is_lem : r.found ≡ true → length (presence_at x r).steps ≡ r.count
-
--- Nothing that was found; its places are 0.
-pub record Nothing (r : Shown) : Type 0 where
-  pub not_found : r.found ≡ false
-  pub key_0 : (r.key ≡ 0) × (r.kstop ≡ 0)
-  pub value_0 : (r.value ≡ 0) × (r.vstop ≡ 0)
-  pub count_0 : r.count ≡ 0
+pub record Shows (x : Bytes) (at : ℕ) (r : option.Option Shown) : Type 0 where
+  pub is : existence_in (drop at x) ≡ shown_in x r
+  pub inside : (s : Shown) → r ≡ Some s → Inside x at s
+  pub count_is_lem : (s : Shown) → r ≡ Some s → length (presence_at x s).steps ≡ s.count

@@ -2,10 +2,10 @@
 // inside another message is read from the bytes up to its end, so that all places are places in the whole message.
 #![tactic(auto)]
 
-ghost use Rattle.std.specs.Prelude.{◌≡◌, false, ◌&&◌, ◌-◌, ◌≤◌, length, leb};
-ghost use Rattle.message_leaf.specs.Shown.{Stepped, Walks, Heads, Shows, Nothing};
+ghost use Rattle.std.specs.Prelude.{◌≡◌, ◌&&◌, ◌-◌, ◌≤◌, length, leb};
+ghost use Rattle.message_leaf.specs.Shown.{Stepped, Walks, Heads, Shows};
 
-use message_fields::{Inner, field, inner_op};
+use message_fields::{field, inner_op};
 use place::same;
 
 // No path is longer.
@@ -15,17 +15,9 @@ pub const MOST_KEY: usize = 256;
 // A raw value is no longer.
 pub const MOST_VALUE: usize = 4096;
 
-// A path that was walked: how many steps it has.
-#[derive(Clone, Copy)]
-pub struct Walked {
-    pub found: bool,
-    pub count: usize,
-}
-
 // An existence proof: where its key and its value begin and end, where its path begins, and how many steps it has.
 #[derive(Clone, Copy)]
 pub struct Shown {
-    pub found: bool,
     pub key: usize,
     pub kstop: usize,
     pub value: usize,
@@ -34,68 +26,33 @@ pub struct Shown {
     pub count: usize,
 }
 
-fn no_steps() -> Walked
-    ensures { result.found ≡ false }
-{
-    Walked {
-        found: false,
-        count: 0,
-    }
-}
-
-pub fn no_shown() -> Shown
-    ensures { Nothing result }
-{
-    Shown {
-        found: false,
-        key: 0,
-        kstop: 0,
-        value: 0,
-        vstop: 0,
-        path: 0,
-        count: 0,
-    }
-}
-
 // Whether an inner op is one of ours.
 fn is_step(x: &[u8]) -> bool
     ensures { Stepped x.now result }
 {
-    let op = inner_op(x);
-    match op {
-        Inner::Left => true,
-        Inner::Right => true,
-        Inner::Neither => false,
-    }
+    inner_op(x).is_some()
 }
 
-// The steps from there on to the end, at most 256.
-fn walk(x: &[u8], from: usize) -> Walked
+// How many steps there are from there on to the end, where they are a path: at most 256.
+fn walk(x: &[u8], from: usize) -> Option<usize>
     requires { from ≤ length x.now }
     ensures { Walks x.now from result }
 {
     let mut at = from;
     let mut count: usize = 0;
+    // A cursor in bytes: each field ends where it says.
     while at < x.len() {
         if MOST_STEPS <= count {
-            return no_steps();
+            return None;
         }
-        let part = field(x, at, 4);
-        if !part.found {
-            return no_steps();
+        let part = field(x, at, 4)?;
+        if !is_step(&x[part.from..part.to]) {
+            return None;
         }
-        let start = part.from;
-        let end = part.to;
-        if !is_step(&x[start..end]) {
-            return no_steps();
-        }
-        at = end;
+        at = part.to;
         count += 1;
     }
-    Walked {
-        found: true,
-        count: count,
-    }
+    Some(count)
 }
 
 // Whether bytes from one place to another are 1 to `most` many.
@@ -109,69 +66,40 @@ pub fn length_right(from: usize, end: usize, most: usize) -> bool
     end - from <= most
 }
 
-// Key, value and leaf op from there on; the path is not looked at.
-fn head(x: &[u8], at: usize) -> Shown
+// Key, value and leaf op from there on; the path is not looked at, and its steps are not counted.
+fn head(x: &[u8], at: usize) -> Option<Shown>
     requires { at ≤ length x.now }
     ensures { Heads x.now at result }
 {
-    let key = field(x, at, 1);
-    if !key.found {
-        return no_shown();
-    }
-    let key_end = key.to;
-    let value = field(x, key_end, 2);
-    if !value.found {
-        return no_shown();
-    }
-    let value_end = value.to;
-    let op = field(x, value_end, 3);
-    if !op.found {
-        return no_shown();
-    }
-    let start = op.from;
-    let end = op.to;
+    let key = field(x, at, 1)?;
+    let value = field(x, key.to, 2)?;
+    let op = field(x, value.to, 3)?;
     let leaf: [u8; 9] = [8, 1, 16, 1, 24, 1, 42, 1, 1];
-    if !same(&x[start..end], &leaf) {
-        return no_shown();
+    if !same(&x[op.from..op.to], &leaf) {
+        return None;
     }
-    Shown {
-        found: true,
+    Some(Shown {
         key: key.from,
-        kstop: key_end,
+        kstop: key.to,
         value: value.from,
-        vstop: value_end,
-        path: end,
+        vstop: value.to,
+        path: op.to,
         count: 0,
-    }
+    })
 }
 
 // The existence proof from there on to the end.
-pub fn existence(x: &[u8], at: usize) -> Shown
+pub fn existence(x: &[u8], at: usize) -> Option<Shown>
     requires { at ≤ length x.now }
     ensures { Shows x.now at result }
 {
-    let h = head(x, at);
-    if !h.found {
-        return no_shown();
-    }
+    let h = head(x, at)?;
     if !length_right(h.key, h.kstop, MOST_KEY) {
-        return no_shown();
+        return None;
     }
     if !length_right(h.value, h.vstop, MOST_VALUE) {
-        return no_shown();
+        return None;
     }
-    let path = h.path;
-    let walked = walk(x, path);
-    if !walked.found {
-        return no_shown();
-    }
-    Shown {
-        found: true,
-        key: h.key,
-        kstop: h.kstop,
-        value: h.value,
-        vstop: h.vstop,
-        path: path,
-        count: walked.count,
-    }
+    let count = walk(x, h.path)?;
+    Some(Shown { count: count, ..h })
 }

@@ -97,11 +97,9 @@ fn path_size(p: &[u8]) -> usize
 {
     let n = get_u16(p, STEPS_AT) as usize;
     let mut size = 0;
-    let mut i = 0;
-    while i < n {
+    for i in 0..n {
         let at = PRESENCE_HEAD + STEP_SIZE * i;
         size += step_size(p[at]);
-        i += 1;
     }
     size
 }

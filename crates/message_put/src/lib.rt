@@ -105,12 +105,10 @@ fn put_path(room: &mut [u8], at: usize, p: &[u8]) -> usize
 {
     let n = get_u16(p, STEPS_AT) as usize;
     let mut next = at;
-    let mut i = 0;
-    while i < n {
+    for i in 0..n {
         let from = PRESENCE_HEAD + STEP_SIZE * i;
         let end = from + STEP_SIZE;
         next = put_inner(room, next, &p[from..end]);
-        i += 1;
     }
     next
 }

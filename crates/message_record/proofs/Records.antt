@@ -2,9 +2,11 @@
 use Prim.Native.Nat.{ℕ, ◌+◌, ◌*◌, ◌-◌, ◌<◌, ◌≤◌}
 use native.Mathlib.Omega.{arith}
 use mathlib.Core.Path.{◌≡◌, refl, ap, ap₂, sym, ◌∙◌, subst}
-use mathlib.Core.Bool.{Bool, true, false, cond, false≢true}
 use mathlib.Core.List.{List, [], ◌∷◌, ◌++◌, append_assoc, append-nil}
 use mathlib.Core.Option.{Option, none, some}
+use Rattle.std.specs.declared.option.Option as option
+use Rattle.std.specs.Prelude.{Some, None}
+use Rattle.std.specs.Option.{ForSome}
 use lib.ListN.{length, take, drop, length-append}
 use Rattle.terms.specs.Bits.{Bytes, Whole32}
 use Rattle.terms.specs.Fields.{le, flat}
@@ -25,9 +27,10 @@ use Rattle.messages.proofs.Lending.{own_form}
 use Rattle.message_rules.proofs.Writing.{written_none, written_then}
 use Rattle.sha256.proofs.Digests.{digest_whole}
 use Rattle.message_leaf.specs.declared.Shown.{Shown}
-use Rattle.message_leaf.specs.Shown.{presence_at}
+use Rattle.message_leaf.specs.Shown.{presence_at, shown_in}
+use Rattle.message_leaf.proofs.Heads.{the_shown, no_shown}
 use Rattle.message_form.specs.declared.Absent.{Absent}
-use Rattle.message_form.specs.Said.{shown_in, Held, HeldOr, absent_at}
+use Rattle.message_form.specs.Said.{Held, absent_at}
 use Rattle.message_record.specs.Ready.{Ready, ReadyOr, AbsentReady, size_of, flag_of, absent_size, own_absence}
 
 pub digest_put : (at : ℕ) (x room t : Bytes) (h : Hash) → hash_bytes h ≡ sha256 x → length (take (at + 32 - at) (drop at room)) ≡ 32 →
@@ -77,53 +80,42 @@ presence_put {x} {p} at r0 r1 r2 r3 r4 r5 r6 ready room w1 w2 w3 w4 w5 w6 =
     ∙ ap (λ n. written at (flat (le 4 (72 + 33 * n) ∷ le 2 16 ∷ le 2 n ∷ sha256 (presence_at x p).key ∷ sha256 (presence_at x p).value ∷ steps_bytes (presence_at x p).steps ∷ [])) r0)
     (sym ready.count_is_lem)
 
--- a neighbour's record
-pub size_there : (p : Shown) → p.found ≡ true → size_of p ≡ 72 + 33 * p.count
-size_there p e = rw e
+-- a neighbour's record, if there is a neighbour
+abbrev pub beside_bytes : Bytes → option.Option Shown → Bytes
+beside_bytes x o = neighbour_bytes (own_neighbour sha256 (shown_in x o))
 
-pub size_none : (p : Shown) → p.found ≡ false → size_of p ≡ 0
-size_none p e = rw e
-
-pub neighbour_there : (x : Bytes) (p : Shown) → p.found ≡ true → neighbour_bytes (own_neighbour sha256 (shown_in x p)) ≡ presence_bytes (own_presence sha256 (presence_at x p))
-neighbour_there x p e = rw e
-
-pub neighbour_none : (x : Bytes) (p : Shown) → p.found ≡ false → neighbour_bytes (own_neighbour sha256 (shown_in x p)) ≡ []
-neighbour_none x p e = rw e
+pub ready_as : (x : Bytes) {r o : option.Option Shown} → r ≡ o → ReadyOr x r → ReadyOr x o
+ready_as x e s = subst (ReadyOr x) e s
 
 pub length_own : {x : Bytes} {p : Shown} → Ready x p → length (presence_bytes (own_presence sha256 (presence_at x p))) ≡ 72 + 33 * p.count
 length_own {x} {p} r = length_presence (own_presence sha256 (presence_at x p)) (own_form sha256 digest_whole (presence (presence_at x p)) r.raw) ∙ ap (λ n. 72 + 33 * n) r.count_is_lem
 
-pub length_neighbour : {x : Bytes} {p : Shown} → ReadyOr x p → length (neighbour_bytes (own_neighbour sha256 (shown_in x p))) ≡ size_of p
-length_neighbour {x} {p} r = go p.found refl
-  where
-    go : (b : Bool) → p.found ≡ b → length (neighbour_bytes (own_neighbour sha256 (shown_in x p))) ≡ size_of p
-    go true e = ap length (neighbour_there x p e) ∙ length_own (r.there e) ∙ sym (size_there p e)
-    go false e = ap length (neighbour_none x p e) ∙ sym (size_none p e)
+length_neighbour : (x : Bytes) (o : option.Option Shown) → ReadyOr x o → length (beside_bytes x o) ≡ size_of o
+length_neighbour x None r = refl
+length_neighbour x (Some p) r = length_own r
 
 -- the flags
-flags_are : (x y : Bytes) (l r : Shown) → flags_of (own_neighbour sha256 (shown_in x l)) (own_neighbour sha256 (shown_in y r)) ≡ flag_of l 1 + flag_of r 2
-flags_are x y l r = go l.found r.found
-  where
-    go : (b c : Bool) →
-        flags_of (own_neighbour sha256 (cond b (some (presence_at x l)) none)) (own_neighbour sha256 (cond c (some (presence_at y r)) none)) ≡ cond b 1 0 + cond c 2 0
-    go false false = refl
-    go false true = refl
-    go true false = refl
-    go true true = refl
+flags_are : (x y : Bytes) (l r : option.Option Shown) → flags_of (own_neighbour sha256 (shown_in x l)) (own_neighbour sha256 (shown_in y r)) ≡ flag_of l 1 + flag_of r 2
+flags_are x y None None = refl
+flags_are x y None (Some r) = refl
+flags_are x y (Some l) None = refl
+flags_are x y (Some l) (Some r) = refl
 
-pub few_flags : (p : Shown) (n : ℕ) → flag_of p n ≤ n
-few_flags p n = go p.found
-  where
-    go : (b : Bool) → cond b n 0 ≤ n
-    go false = omega arith
-    go true = omega arith
+pub few_flags : (o : option.Option Shown) (n : ℕ) → flag_of o n ≤ n
+few_flags None n = omega arith
+few_flags (Some p) n = omega arith
 
-pub few_bytes : {x : Bytes} {p : Shown} → ReadyOr x p → size_of p ≤ 8520
-few_bytes {x} {p} r = let f = r.few in go p.found
-  where
-    go : (b : Bool) → cond b (72 + 33 * p.count) 0 ≤ 8520
-    go false = omega arith
-    go true = omega (arith, r.few)
+-- few steps, and so few bytes
+pub few_or : (x : Bytes) (o : option.Option Shown) → ReadyOr x o → ForSome o (λ p. p.count ≤ 256)
+few_or x None r q e = no_shown e
+few_or x (Some p) r q e = subst (λ (s : Shown). s.count ≤ 256) (the_shown e) (few_steps r)
+
+pub few_size : (o : option.Option Shown) → ForSome o (λ p. p.count ≤ 256) → size_of o ≤ 8520
+few_size None h = omega arith
+few_size (Some p) h = omega (arith, h p refl)
+
+pub few_bytes : (x : Bytes) (o : option.Option Shown) → ReadyOr x o → size_of o ≤ 8520
+few_bytes x o r = few_size o (few_or x o r)
 
 pub absence_put : {x : Bytes} {a : Absent} (size flags after : ℕ) (r0 r1 r2 r3 r4 r5 r6 : Bytes) → AbsentReady x a → size ≡ absent_size a → flags ≡ flag_of a.left 1 + flag_of a.right 2 →
     after ≡ 40 + size_of a.left → size ≤ length r0 →
@@ -139,8 +131,8 @@ absence_put {x} {a} size flags after r0 r1 r2 r3 r4 r5 r6 ready s g t room w1 w2
     let a2 = length_le 2 17 in
     let a3 = length_le 2 flags in
     let a4 = (digest_whole (absent_at x a).key).0 in
-    let l = length_neighbour ready.left_ready in
-    let r = length_neighbour ready.right_ready in
+    let l = length_neighbour (take a.middle x) a.left ready.left_ready in
+    let r = length_neighbour x a.right ready.right_ready in
     let total : size ≡ 40 + length L + length R = s ∙ ap₂ (λ u v. 40 + u + v) (sym l) (sym r) in
     six (le 4 size) (le 2 17) (le 2 flags) (sha256 (absent_at x a).key) L R r0 r1 r2 r3 r4 r5 r6 0 4 6 8 40 after w1 w2 w3 w4 w5 w6 (omega arith) (omega arith) (omega arith)
     (omega arith) (omega arith) (omega arith)
@@ -171,16 +163,9 @@ length_absent {x} {a} ready =
       length_le 2 17,
       length_le 2 f,
       (digest_whole (absent_at x a).key).0,
-      length_neighbour ready.left_ready,
-      length_neighbour ready.right_ready,
+      length_neighbour (take a.middle x) a.left ready.left_ready,
+      length_neighbour x a.right ready.right_ready,
     ))
-
-pub few_size : (p : Shown) → p.count ≤ 256 → size_of p ≤ 8520
-few_size p h = go p.found
-  where
-    go : (b : Bool) → cond b (72 + 33 * p.count) 0 ≤ 8520
-    go false = omega arith
-    go true = omega arith
 
 pub size_is : (a : Absent) → absent_size a ≡ 40 + size_of a.left + size_of a.right
 unfolding absent_size

@@ -1,6 +1,8 @@
 -- The steps of a path, written from their inner ops. Assumes nothing.
 use Prim.Native.Nat.{ℕ, zero, suc, ◌+◌, ◌*◌, ◌-◌, ◌<◌, ◌≤◌}
 use native.Mathlib.Omega.{arith}
+use Rattle.std.specs.declared.option.Option as option
+use Rattle.std.specs.Prelude.{Some, None, is_some}
 use mathlib.Core.Path.{◌≡◌, refl, ap, ap₂, sym, ◌∙◌, subst}
 use mathlib.Core.Bool.{Bool, true, false, cond, ◌&&◌, false≢true}
 use mathlib.Core.List.{List, [], ◌∷◌, ◌++◌, append-nil, append_assoc}
@@ -78,20 +80,18 @@ no_more [] e = refl
 no_more (s ∷ more) e = absurd (omega arith)
 
 -- A path of which i steps are written.
-pub record Stepping (x : Bytes) (path at : ℕ) (s t : Bytes) (from to i : ℕ) : Type 0 where
+pub record Stepping (x : Bytes) (path at : ℕ) (s t : Bytes) (from i : ℕ) : Type 0 where
   pub walked : Walking x path from i
   pub bytes_are : t ≡ written at (steps_bytes walked.done) s
   pub long : length (steps_bytes walked.done) ≡ 33 * i
-  pub to_is : to ≡ at + 33 * i
 
-pub stepping_start : (x : Bytes) (path at : ℕ) (s : Bytes) → path ≤ length x → Stepping x path at s s path at 0
+pub stepping_start : (x : Bytes) (path at : ℕ) (s : Bytes) → path ≤ length x → Stepping x path at s s path 0
 stepping_start x path at s h =
     let w = walk_start x path h in
     let e = no_more w.done w.done_are in record {
       walked = w;
       bytes_are = written_none at s ∙ ap (λ d. written at (steps_bytes d) s) (sym e);
       long = ap (λ d. length (steps_bytes d)) e ∙ omega arith;
-      to_is = omega arith;
     }
 
 steps_after : (done : List Step) (s : Step) → steps_bytes (done ++ (s ∷ [])) ≡ steps_bytes done ++ (digit s.side ∷ s.sibling)
@@ -102,7 +102,6 @@ steps_after (d ∷ done) s =
 -- While steps are left, a field with a step stands there.
 pub record NextStep (x : Bytes) (from : ℕ) (part : Part) : Type 0 where
   pub inside : from < length x
-  pub found : part.found ≡ true
   pub one : (s : Step) × (step_in (slice part.from (part.to - part.from) x) ≡ some s)
 
 module _ {x : Bytes} {path from i count : ℕ} (w : Walking x path from i) (few : length (steps_from path x) ≡ count) (l : i < count) where
@@ -125,52 +124,49 @@ module _ {x : Bytes} {path from i count : ℕ} (w : Walking x path from i) (few 
       go zero z = not_none (path_too_long w is_inside (omega arith))
       go (suc k) z = omega arith
 
-  pub next_step : {part : Part} → Stands 4 x from part → NextStep x from part
+  pub field_there : (r : option.Option Part) → Stands 4 x from r → is_some r ≡ true
+  field_there None f = not_none (path_no_field w is_inside f)
+  field_there (Some part) f = refl
+
+  pub next_step : {part : Part} → Stands 4 x from (Some part) → NextStep x from part
   next_step {part} f = record {
     inside = is_inside;
-    found = found_so part.found refl;
     one = one_so (step_in (slice part.from (part.to - part.from) x)) refl;
   }
     where
-      found_so : (b : Bool) → part.found ≡ b → part.found ≡ true
-      found_so true e = e
-      found_so false e = not_none (path_no_field w is_inside f e)
-
       one_so : (o : Option Step) → step_in (slice part.from (part.to - part.from) x) ≡ o →
           (s : Step) × (step_in (slice part.from (part.to - part.from) x) ≡ some s)
-      one_so none e = not_none (path_no_step w is_inside f (found_so part.found refl) e)
+      one_so none e = not_none (path_no_step w is_inside f e)
       one_so (some s) e = (s, e)
 
-  walk_on : {part : Part} {s : Step} → Stands 4 x from part → part.found ≡ true → step_in (slice part.from (part.to - part.from) x) ≡ some s →
+  walk_on : {part : Part} {s : Step} → Stands 4 x from (Some part) → step_in (slice part.from (part.to - part.from) x) ≡ some s →
       (v : Walking x path part.to (i + 1)) × (v.done ≡ w.done ++ (s ∷ []))
-  walk_on f e k = walk_further w is_inside is_few f e k
+  walk_on f k = walk_further w is_inside is_few f k
 
-pub stepping_next : {x : Bytes} {path at from to i count : ℕ} {s t u : Bytes} {part : Part} (w : Stepping x path at s t from to i) (few : length (steps_from path x) ≡ count) (l : i < count)
-    (room : at + 33 * count ≤ length s) (f : Stands 4 x from part) (next : NextStep x from part) →
-    ((st : Step) → step_in (slice part.from (part.to - part.from) x) ≡ some st → u ≡ written to (digit st.side ∷ st.sibling) t) →
-    Stepping x path at s u part.to (to + 33) (i + 1)
-stepping_next {x} {path} {at} {from} {to} {i} {count} {s} {t} {u} {part} w few l room f next put =
+pub stepping_next : {x : Bytes} {path at from i count : ℕ} {s t u : Bytes} {part : Part} (w : Stepping x path at s t from i) (few : length (steps_from path x) ≡ count) (l : i < count)
+    (room : at + 33 * count ≤ length s) (f : Stands 4 x from (Some part)) (next : NextStep x from part) →
+    ((st : Step) → step_in (slice part.from (part.to - part.from) x) ≡ some st → u ≡ written (at + 33 * i) (digit st.side ∷ st.sibling) t) →
+    Stepping x path at s u part.to (i + 1)
+stepping_next {x} {path} {at} {from} {i} {count} {s} {t} {u} {part} w few l room f next put =
     let st = next.one.0 in
     let k = next.one.1 in
     let n = length_sibling (sided _ st k) in
     let bytes = digit st.side ∷ st.sibling in
     let j = w.long in
-    let o = w.to_is in
-    let v = walk_on w.walked few l f next.found k in
+    let v = walk_on w.walked few l f k in
     let all : steps_bytes v.0.done ≡ steps_bytes w.walked.done ++ bytes = ap steps_bytes v.1 ∙ steps_after w.walked.done st in
     record {
       walked = v.0;
       bytes_are =
           put st k
-          ∙ ap (written to bytes) w.bytes_are
-          ∙ written_then at to (steps_bytes w.walked.done) bytes s (omega arith) (omega arith)
+          ∙ ap (written (at + 33 * i) bytes) w.bytes_are
+          ∙ written_then at (at + 33 * i) (steps_bytes w.walked.done) bytes s (omega arith) (omega arith)
           ∙ ap (λ b. written at b s) (sym all);
       long = ap length all ∙ length-append (steps_bytes w.walked.done) bytes ∙ omega arith;
-      to_is = omega arith;
     }
 
-pub stepping_length : {x : Bytes} {path at from to i count : ℕ} {s t : Bytes} → Stepping x path at s t from to i → i ≤ count → at + 33 * count ≤ length s → length t ≡ length s
-stepping_length {x} {path} {at} {from} {to} {i} {count} {s} {t} w h room =
+pub stepping_length : {x : Bytes} {path at from i count : ℕ} {s t : Bytes} → Stepping x path at s t from i → i ≤ count → at + 33 * count ≤ length s → length t ≡ length s
+stepping_length {x} {path} {at} {from} {i} {count} {s} {t} w h room =
     let j = w.long in ap length w.bytes_are ∙ length_written at (steps_bytes w.walked.done) s (omega arith)
 
 all_walked : {x : Bytes} {path from i : ℕ} (w : Walking x path from i) → length (steps_from path x) ≡ i → steps_from path x ≡ w.done
@@ -187,7 +183,7 @@ all_walked {x} {path} {from} {i} w few = go (path_in (256 - i) (drop from x)) re
         let m = no_more more (omega (arith, ap length v, length-append w.done more, w.done_are)) in
         v ∙ ap (w.done ++◌) m ∙ append-nil w.done
 
-pub stepping_done : {x : Bytes} {path at from to i count : ℕ} {s t : Bytes} → Stepping x path at s t from to i → length (steps_from path x) ≡ count → i ≡ count →
+pub stepping_done : {x : Bytes} {path at from i count : ℕ} {s t : Bytes} → Stepping x path at s t from i → length (steps_from path x) ≡ count → i ≡ count →
     t ≡ written at (steps_bytes (steps_from path x)) s
-stepping_done {x} {path} {at} {from} {to} {i} {count} {s} {t} w few e =
+stepping_done {x} {path} {at} {from} {i} {count} {s} {t} w few e =
     w.bytes_are ∙ ap (λ steps. written at (steps_bytes steps) s) (sym (all_walked w.walked (few ∙ sym e)))

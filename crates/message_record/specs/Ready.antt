@@ -1,6 +1,7 @@
 -- What is known of the parts of a message when our own record is written from them. No public promise reaches this
 -- file. Assumes nothing.
-use Rattle.std.specs.Prelude.{ℕ, ◌+◌, ◌*◌, ◌≤◌, ◌≡◌, true, cond, length, take, ◌∷◌}
+use Rattle.std.specs.declared.option.Option as option
+use Rattle.std.specs.Prelude.{ℕ, ◌+◌, ◌*◌, ◌≤◌, ◌≡◌, length, take, ◌∷◌, Some, None}
 use Rattle.std.proofs.Math.Option.{some}
 use Rattle.terms.specs.Bits.{Bytes, digit}
 use Rattle.fields.specs.Written.{written}
@@ -28,15 +29,17 @@ pub record Ready (x : Bytes) (p : Shown) : Type 0 where
   pub raw : RawPresence (presence_at x p)
   pub count_is_lem : length (presence_at x p).steps ≡ p.count
 
-pub record ReadyOr (x : Bytes) (p : Shown) : Type 0 where
-  pub few : p.count ≤ 256
-  pub there : p.found ≡ true → Ready x p
+abbrev pub ReadyOr : Bytes → option.Option Shown → Type 0
+ReadyOr x None = Unit {0}
+ReadyOr x (Some p) = Ready x p
 
-abbrev pub size_of : Shown → ℕ
-size_of p = cond p.found (72 + 33 * p.count) 0
+abbrev pub size_of : option.Option Shown → ℕ
+size_of None = 0
+size_of (Some p) = 72 + 33 * p.count
 
-abbrev pub flag_of : Shown → ℕ → ℕ
-flag_of p bit = cond p.found bit 0
+abbrev pub flag_of : option.Option Shown → ℕ → ℕ
+flag_of None bit = 0
+flag_of (Some p) bit = bit
 
 unfoldable pub absent_size : Absent → ℕ
 absent_size a = 40 + size_of a.left + size_of a.right

@@ -2,13 +2,14 @@
 #![tactic(auto)]
 
 ghost use Rattle.std.specs.Prelude.{◌≡◌, cond, ◌+◌, ◌*◌, ◌≤◌, length, eqb};
+ghost use Rattle.std.specs.Option.{ForSome};
 ghost use Rattle.fields.specs.Written.{written};
 ghost use Rattle.sha256.specs.Sha256.{sha256};
 ghost use Rattle.proofrecords.specs.ProofBytes.{steps_bytes, presence_bytes, neighbour_bytes, absence_bytes};
 ghost use Rattle.messages.specs.Message.{own_presence};
 ghost use Rattle.messages.specs.Raws.{own_neighbour};
-ghost use Rattle.message_leaf.specs.Shown.{steps_from, presence_at};
-ghost use Rattle.message_form.specs.Said.{shown_in, absent_at};
+ghost use Rattle.message_leaf.specs.Shown.{steps_from, presence_at, shown_in};
+ghost use Rattle.message_form.specs.Said.{absent_at};
 ghost use Rattle.message_record.specs.Ready.{OneStep, StepPut, Ready, ReadyOr, AbsentReady, size_of, flag_of, absent_size, own_absence};
 
 use digest::digest;
@@ -48,16 +49,10 @@ fn put_steps(room: &mut [u8], at: usize, x: &[u8], path: usize, count: usize)
     ensures { room.new ≡ written at (steps_bytes (steps_from path x.now)) room.old }
 {
     let mut from = path;
-    let mut to = at;
-    let mut i = 0;
-    while i < count {
-        let part = field(x, from, 4);
-        let start = part.from;
-        let end = part.to;
-        put_step(room, to, &x[start..end]);
-        from = end;
-        to += STEP_SIZE;
-        i += 1;
+    for i in 0..count {
+        let part = field(x, from, 4).unwrap();
+        put_step(room, at + STEP_SIZE * i, &x[part.from..part.to]);
+        from = part.to;
     }
 }
 
@@ -98,44 +93,42 @@ pub fn put_presence(room: &mut [u8], at: usize, x: &[u8], p: Shown)
 }
 
 // How many bytes our record of a neighbour has, 0 where there is nobody.
-fn neighbour_size(p: Shown) -> usize
-    requires { p.count ≤ 256 }
+fn neighbour_size(p: Option<Shown>) -> usize
+    requires { ForSome p (λ shown. shown.count ≤ 256) }
     ensures { result ≡ size_of p }
 {
-    if p.found {
-        return presence_size(p);
+    match p {
+        Some(shown) => presence_size(shown),
+        None => 0,
     }
-    0
 }
 
 // Writes our record of a neighbour, where there is somebody.
-fn put_neighbour(room: &mut [u8], at: usize, x: &[u8], p: Shown)
+fn put_neighbour(room: &mut [u8], at: usize, x: &[u8], p: Option<Shown>)
     requires { ReadyOr x.now p × (at + size_of p ≤ length room.old) }
     ensures { room.new ≡ written at (neighbour_bytes (own_neighbour sha256 (shown_in x.now p))) room.old }
 {
-    if !p.found {
+    let Some(shown) = p else {
         return;
-    }
-    put_presence(room, at, x, p);
+    };
+    put_presence(room, at, x, shown);
 }
 
-fn flag(p: Shown, bit: u16) -> u16
+fn flag(p: Option<Shown>, bit: u16) -> u16
     ensures { result ≡ flag_of p bit }
 {
-    if p.found {
-        return bit;
+    match p {
+        Some(_) => bit,
+        None => 0,
     }
-    0
 }
 
 // How many bytes our record of a non-existence proof has.
 pub fn absence_size(a: Absent) -> usize
-    requires { (a.left.count ≤ 256) × (a.right.count ≤ 256) }
+    requires { ForSome a.left (λ shown. shown.count ≤ 256) × ForSome a.right (λ shown. shown.count ≤ 256) }
     ensures { result ≡ absent_size a }
 {
-    let left = a.left;
-    let right = a.right;
-    ABSENCE_HEAD + neighbour_size(left) + neighbour_size(right)
+    ABSENCE_HEAD + neighbour_size(a.left) + neighbour_size(a.right)
 }
 
 // Writes our record of a non-existence proof.

@@ -24,16 +24,17 @@ use Rattle.message_lent.specs.Lent.{leaf, record_in, field_length, existence_len
 use Rattle.message_lent.proofs.Lengths.{nobody_is, somebody_is}
 use Rattle.message_put.specs.Inner.{Lendable}
 use Rattle.message_put.proofs.Parts.{field_parts, length_of_field, puts_two, room_first, room_second, existence_length_lem, neighbour_parts}
-use Rattle.message_write.specs.declared.Wrote.TheVariants.{Refused, Length}
+use Rattle.std.specs.Prelude.{Ok, Err}
+use Rattle.refusal_numbers.specs.declared.Refusal.TheVariants.{NoRoom}
 use Rattle.message_write.specs.Wrote.{fitted_in, besides, LendableOr, Writes}
 
 -- an answer of which no room is left, and one that is written
-pub writes_no_room : (q : Proof) (room : Bytes) → length room < length (message_bytes q) → Writes (fitted_in q room) room (Refused 9) room
+pub writes_no_room : (q : Proof) (room : Bytes) → length room < length (message_bytes q) → Writes (fitted_in q room) room (Err NoRoom) room
 unfolding fitted
 writes_no_room q room h = let e = lt-ltb (length room) (length (message_bytes q)) h in record { answer = rw e; bytes = rw e }
 
 pub writes_there : (q : Proof) {room t : Bytes} {total next : ℕ} → length (message_bytes q) ≤ length room → total ≡ length (message_bytes q) → Puts 0 (message_bytes q) room t next →
-    Writes (fitted_in q room) room (Length total) t
+    Writes (fitted_in q room) room (Ok total) t
 unfolding fitted
 writes_there q {room} {t} h e p =
     let f = le-ltb (length room) (length (message_bytes q)) h in

@@ -23,8 +23,9 @@ use Rattle.messages.specs.Lending.{Leaf, Lent, hashes_to, leaf_fits, unlent, lea
 use Rattle.message_lent.specs.Lent.{leaf, record_in, InForm, neighbour_fits}
 use Rattle.message_lent.proofs.Lengths.{nobody_is, somebody_is}
 use Rattle.message_put.specs.Inner.{Lendable}
-use Rattle.message_write.specs.declared.Wrote.TheVariants.{Refused, Length}
-use Rattle.message_write.specs.declared.Wrote.{Wrote}
+use Rattle.std.specs.Prelude.{Result, Err}
+use Rattle.refusal_numbers.specs.declared.Refusal.{Refusal}
+use Rattle.refusal_numbers.specs.declared.Refusal.TheVariants.{NotInForm, NotRaw}
 use Rattle.message_write.specs.Wrote.{lent, fitted_in, besides, AskedRaw, LendableOr, Writes}
 
 -- lengths of what hashes to what a proof holds
@@ -46,10 +47,10 @@ pub lendable_or : (k x p : Bytes) → InForm p → neighbour_fits (leaf k x) (re
 lendable_or k x p f e = (f, λ h. lendable k x (presence_in p) (sym (ap (neighbour_fits (leaf k x)) (somebody_is p h)) ∙ e))
 
 -- 15
-pub writes_15 : {a : Answer Bytes} {room : Bytes} → a ≡ refused 15 → Writes a room (Refused 15) room
+pub writes_15 : {a : Answer Bytes} {room : Bytes} → a ≡ refused 15 → Writes a room (Err NotRaw) room
 writes_15 e = record { answer = rw e; bytes = rw e }
 
-pub writes_same : {a b : Answer Bytes} {room : Bytes} {r : Wrote} {t : Bytes} → a ≡ b → Writes b room r t → Writes a room r t
+pub writes_same : {a b : Answer Bytes} {room : Bytes} {r : Result ℕ Refusal} {t : Bytes} → a ≡ b → Writes b room r t → Writes a room r t
 writes_same {a} {b} {room} {r} {t} e w = subst (λ u. Writes u room r t) (sym e) w
 
 module _ (asked : Bytes) (first second : Leaf) (room : ℕ) where
@@ -157,7 +158,7 @@ pub is_absence_lem : (p : Bytes) (given : Lent) (room : ℕ) → is_presence p �
 unfolding proof_in
 is_absence_lem p given room e f = rw (e, f)
 
-pub not_in_form : (p : Bytes) (given : Lent) (room : Bytes) → is_presence p ≡ false → is_absence p ≡ false → Writes (written_from sha256 (proof_in p) given (length room)) room (Refused 10) room
+pub not_in_form : (p : Bytes) (given : Lent) (room : Bytes) → is_presence p ≡ false → is_absence p ≡ false → Writes (written_from sha256 (proof_in p) given (length room)) room (Err NotInForm) room
 unfolding written_from proof_in
 not_in_form p given room e f = record { answer = rw (e, f); bytes = rw (e, f) }
 

@@ -22,29 +22,22 @@ use message_lent::{
 };
 use message_put::{put_existence, put_field, put_head, put_neighbour};
 use proofrecords::{ABSENCE_HEAD, FLAGS_AT, KEY_AT};
-use refusal_numbers::{NO_ROOM, NOT_IN_FORM, NOT_RAW};
+use refusal_numbers::Refusal;
 use verify_form::{is_absence, is_presence};
 
-// The answer: a number of refusal, or the message's length.
-#[derive(Clone, Copy)]
-pub enum Wrote {
-    Refused(u32),
-    Length(u32),
-}
-
-// Writes the message of a presence, if it fits the room.
-fn write_exist(p: &[u8], key: &[u8], value: &[u8], room: &mut [u8]) -> Wrote
+// Writes the message of a presence, if it fits the room, and answers its length.
+fn write_exist(p: &[u8], key: &[u8], value: &[u8], room: &mut [u8]) -> Result<u32, Refusal>
     requires { (is_presence p.now ≡ true) × Lendable key.now value.now }
     ensures { Writes (fitted_in (presence (raw_presence (leaf key.now value.now) (presence_in p.now))) room.old) room.old result room.new }
 {
     let size = existence_size(key.len(), value.len(), p);
     let total = field_size(size);
     if room.len() < total {
-        return Wrote::Refused(NO_ROOM);
+        return Err(Refusal::NoRoom);
     }
     let start = put_head(room, 0, 1, size);
     put_existence(room, start, key, value, p);
-    Wrote::Length(total as u32)
+    Ok(total as u32)
 }
 
 fn write_presence(
@@ -55,18 +48,18 @@ fn write_presence(
     key2: &[u8],
     value2: &[u8],
     room: &mut [u8],
-) -> Wrote
+) -> Result<u32, Refusal>
     requires { is_presence p.now ≡ true }
     ensures { Writes (written_from sha256 (some (presence (presence_in p.now))) (lent asked.now (leaf key1.now value1.now) (leaf key2.now value2.now)) (length room.old)) room.old result room.new }
 {
     if !hashes_to(asked, MOST_KEY, p, KEY_AT) {
-        return Wrote::Refused(NOT_RAW);
+        return Err(Refusal::NotRaw);
     }
     if !leaf_fits(key1, value1, p) {
-        return Wrote::Refused(NOT_RAW);
+        return Err(Refusal::NotRaw);
     }
     if !unlent(key2, value2) {
-        return Wrote::Refused(NOT_RAW);
+        return Err(Refusal::NotRaw);
     }
     write_exist(p, key1, value1, room)
 }
@@ -81,7 +74,7 @@ fn write_nonexist(
     rkey: &[u8],
     rvalue: &[u8],
     room: &mut [u8],
-) -> Wrote
+) -> Result<u32, Refusal>
     requires { AskedRaw asked.now × (LendableOr left.now lkey.now lvalue.now × LendableOr right.now rkey.now rvalue.now) }
     ensures { Writes (fitted_in (besides asked.now (leaf lkey.now lvalue.now) (record_in left.now) (leaf rkey.now rvalue.now) (record_in right.now)) room.old) room.old result room.new }
 {
@@ -90,13 +83,13 @@ fn write_nonexist(
         + neighbour_size(rkey.len(), rvalue.len(), right);
     let whole = field_size(size);
     if room.len() < whole {
-        return Wrote::Refused(NO_ROOM);
+        return Err(Refusal::NoRoom);
     }
     let start = put_head(room, 0, 2, size);
     let after_key = put_field(room, start, 1, asked);
     let after_left = put_neighbour(room, after_key, 2, lkey, lvalue, left);
     put_neighbour(room, after_left, 3, rkey, rvalue, right);
-    Wrote::Length(whole as u32)
+    Ok(whole as u32)
 }
 
 // The same, if the leaves lent are the neighbours'.
@@ -109,15 +102,15 @@ fn write_neighbours(
     rkey: &[u8],
     rvalue: &[u8],
     room: &mut [u8],
-) -> Wrote
+) -> Result<u32, Refusal>
     requires { AskedRaw asked.now × (InForm left.now × InForm right.now) }
     ensures { Writes (cond (neighbour_fits (leaf lkey.now lvalue.now) (record_in left.now) && neighbour_fits (leaf rkey.now rvalue.now) (record_in right.now)) (fitted_in (besides asked.now (leaf lkey.now lvalue.now) (record_in left.now) (leaf rkey.now rvalue.now) (record_in right.now)) room.old) (refused 15)) room.old result room.new }
 {
     if !neighbour_fits(lkey, lvalue, left) {
-        return Wrote::Refused(NOT_RAW);
+        return Err(Refusal::NotRaw);
     }
     if !neighbour_fits(rkey, rvalue, right) {
-        return Wrote::Refused(NOT_RAW);
+        return Err(Refusal::NotRaw);
     }
     write_nonexist(asked, left, lkey, lvalue, right, rkey, rvalue, room)
 }
@@ -131,12 +124,12 @@ fn write_one(
     key2: &[u8],
     value2: &[u8],
     room: &mut [u8],
-) -> Wrote
+) -> Result<u32, Refusal>
     requires { ((is_absence p.now ≡ true) × (flags p.now ≤ 2)) × (hashes_to sha256 256 asked.now (slice 8 32 p.now) ≡ true) }
     ensures { Writes (written_from sha256 (some (absence (absence_in p.now))) (lent asked.now (leaf key1.now value1.now) (leaf key2.now value2.now)) (length room.old)) room.old result room.new }
 {
     if !unlent(key2, value2) {
-        return Wrote::Refused(NOT_RAW);
+        return Err(Refusal::NotRaw);
     }
     let n = p.len();
     if get_u16(p, FLAGS_AT) == 1 {
@@ -171,12 +164,12 @@ fn write_absence(
     key2: &[u8],
     value2: &[u8],
     room: &mut [u8],
-) -> Wrote
+) -> Result<u32, Refusal>
     requires { is_absence p.now ≡ true }
     ensures { Writes (written_from sha256 (some (absence (absence_in p.now))) (lent asked.now (leaf key1.now value1.now) (leaf key2.now value2.now)) (length room.old)) room.old result room.new }
 {
     if !hashes_to(asked, MOST_KEY, p, KEY_AT) {
-        return Wrote::Refused(NOT_RAW);
+        return Err(Refusal::NotRaw);
     }
     if get_u16(p, FLAGS_AT) <= 2 {
         return write_one(p, asked, key1, value1, key2, value2, room);
@@ -205,7 +198,7 @@ pub fn write(
     key2: &[u8],
     value2: &[u8],
     room: &mut [u8],
-) -> Wrote
+) -> Result<u32, Refusal>
     ensures { Writes (written_from sha256 (proof_in p.now) (lent asked.now (leaf key1.now value1.now) (leaf key2.now value2.now)) (length room.old)) room.old result room.new }
 {
     if is_presence(p) {
@@ -214,5 +207,5 @@ pub fn write(
     if is_absence(p) {
         return write_absence(p, asked, key1, value1, key2, value2, room);
     }
-    Wrote::Refused(NOT_IN_FORM)
+    Err(Refusal::NotInForm)
 }

@@ -4,16 +4,15 @@
 ghost use Rattle.move_rules.specs.Moves.{Moves};
 
 use move_fill::fill;
-use move_open::refusal;
+use move_open::open;
 use terms::Form;
 
 // Makes in the target the source's store in the plain form, slots kept; answers 0, or the number of refusal, and then nothing is written.
 pub fn back(source: &[u8], target: &mut [u8]) -> u32
     ensures { Moves Form.Counted source.now target.old result target.new }
 {
-    let n = refusal(Form::Counted, Form::Plain, source, target);
-    if n != 0 {
-        return n;
+    if let Err(refusal) = open(Form::Counted, Form::Plain, source, target) {
+        return refusal.number();
     }
     fill(Form::Counted, source, target);
     0

@@ -1,7 +1,7 @@
 -- What a record's counts are, by what is found as its children: the law of the store moved over, read in the store itself. Assumes nothing.
 use Prim.Native.Nat.{ℕ, ◌+◌, ◌-◌, ◌≤◌}
 use native.Mathlib.Omega.{arith}
-use mathlib.Core.Path.{◌≡◌, refl, ap, ap₂, sym, ◌∙◌, subst}
+use mathlib.Core.Path.{◌≡◌, refl, ap, ap₂, ◌∙◌}
 use mathlib.Core.List.{List}
 use mathlib.Core.Option.{Option, none, some}
 use lib.ListN.{length}
@@ -10,8 +10,8 @@ use Rattle.terms.specs.Bits.{Bytes, left, right, Place, longer}
 use Rattle.terms.specs.Records.{Body, leaf_body, inner_body, Tally, tally, no_tally, Record, Slot, Store}
 use Rattle.meaning.specs.Tree.{VTree, vnone, vleaf, vinner, leaves}
 use Rattle.meaning.specs.Store.{find, tree_from, counts_of}
-use Rattle.meaning.specs.Sound.{At, Sound, CountsAre}
-use Rattle.meaning.specs.Counting.{weight_by, weight}
+use Rattle.meaning.specs.Sound.{At, Sound}
+use Rattle.meaning.specs.Counting.{weight}
 use Rattle.meaning.specs.Local.{weighed, counts_by}
 use Rattle.meaning.proofs.Leaves.{few_read}
 use Rattle.local.proofs.LocalIsGlobal.{local_is_global}

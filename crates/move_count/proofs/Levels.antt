@@ -1,21 +1,19 @@
 -- Level by level, the longest places first. Assumes nothing.
-use Prim.Native.Nat.{ℕ, suc, ◌+◌, ◌*◌, ◌-◌, ◌<◌, ◌≤◌}
+use Prim.Native.Nat.{ℕ, suc, ◌+◌, ◌*◌, ◌<◌, ◌≤◌}
 use native.Mathlib.Omega.{arith}
 use mathlib.Core.Path.{◌≡◌, refl, ap, ap₂, sym, ◌∙◌, subst}
 use mathlib.Core.Logic.{◌⊎◌, inl, inr, ⊎_elim}
 use mathlib.Core.Bool.{Bool, true, false}
 use mathlib.Core.List.{List}
 use lib.ListN.{length, get_or, set, take, drop, length-set}
-use lib.Dec.{eqb, leb}
-use borrow.Author.Tests.{eqb-true, eqb-false, leb-true, leb-false}
+use lib.Dec.{leb}
+use borrow.Author.Tests.{leb-true, leb-false}
 use lib.Seq.{get_or-set_same, get_or-set_other}
 use Rattle.terms.specs.declared.Form.TheVariants.{Plain as plain}
-use Rattle.terms.specs.Bits.{Bytes, Byte, All, Side, left, right, longer, bits, none_set}
-use Rattle.terms.specs.Records.{Child, Body, leaf_body, inner_body, Tally, tally, Record, Slot, free, used, spoiled}
-use Rattle.terms.specs.Form.{place_limit}
+use Rattle.terms.specs.Bits.{Bytes, Byte, All, left, right, longer, bits, none_set}
+use Rattle.terms.specs.Records.{Child, leaf_body, inner_body, tally, Record, Slot, free, used, spoiled}
 use Rattle.terms.proofs.Fields.{all_of_tests}
 use Rattle.meaning.specs.Sound.{At}
-use Rattle.moved.specs.Moving.{counts_in}
 use Rattle.nodehash.specs.Node.{leaf_hash, inner_hash}
 use Rattle.place.specs.declared.Place as declared-place
 use Rattle.place.specs.Place.{place_of, Stands, Grown}
@@ -28,8 +26,7 @@ use Rattle.store.proofs.Slots.{slots_many, slot_is}
 use Rattle.check_pass.specs.Passes.{kind_in}
 use Rattle.check_pass.proofs.Passes.{each_next}
 use Rattle.check_pass.proofs.Records.{kind_most, record_cases, free_zero, read_long, read_bytes, read_as}
-use Rattle.move_put.specs.Put.{tally_at}
-use Rattle.move_count.specs.Count.{Countable, plain_store, leaves_at, CountsRight, CountedFrom, SlotCounted, LevelAt, Leveled, LevelCounted}
+use Rattle.move_count.specs.Count.{Countable, plain_store, leaves_at, CountsRight, CountedFrom, SlotCounted, LevelAt, Leveled}
 use Rattle.move_count.proofs.Leaves.{counts_found, counts_found_lem}
 use Rattle.move_count.proofs.Tables.{counted_in, tally_here, tally_other, tally_same}
 
@@ -72,12 +69,6 @@ module _ {s : Bytes} (w : Countable s) {i : ℕ} (h : Has plain s i) where
       go (used r) d = ⊎_elim (λ q. absurd (omega (arith, e, f, q.0))) (λ q. q.2) (record_cases (slot_in plain i s) r d)
       go (spoiled y) d = absurd (w.sound.whole i y (omega (arith, h.inside, slots_many plain s)) (slot_is h ∙ d))
 
-  -- what is asked of the table for a child
-  pub child_level : {c : ℕ} {up kid : declared-place.Place} {b : Side} {t : List ℕ} → c ≡ count_in (slot_in plain i s) → up.count ≡ c → Grown b up kid →
-      CountedFrom s t (count_in (slot_in plain i s) + 1) → CountedFrom s t kid.count
-  child_level ce up g done =
-      record { long = done.long; right = λ j r l m a b d. done.right j r l m a b (omega (arith, d, g.count, up, ce)) }
-
   -- the counts of one slot, from those of its children
   module _ {c : ℕ} {y : Bytes} {up cl cr : declared-place.Place} (ce : c ≡ count_in (slot_in plain i s)) (ye : y ≡ bits_in (slot_in plain i s))
       (su : Stands (take c (bits y)) c up) (gl : Grown left up cl) (gr : Grown right up cr) where
@@ -102,29 +93,6 @@ module _ {s : Bytes} (w : Countable s) {i : ℕ} (h : Has plain s i) where
       others = tally_other t i a b;
     }
 
-  -- one slot of a level
-  pub off_level : {n level : ℕ} (t : List ℕ) → LevelAt s i n → (n ≡ level → ⊥) → LevelCounted s level i t t
-  off_level t k f = record {
-    same = refl;
-    here = λ r l m a b e. absurd (f (sym (k.place r l m a b) ∙ e));
-    above = λ r l m a b e. refl;
-    others = λ j e. refl;
-  }
-
-  pub level_inner : {n level : ℕ} {t : List ℕ} → LevelAt s i n → n ≡ level → level < 256 → CountedFrom s t (level + 1) →
-      Countable s × Has plain s i × (is_inner (slot_in plain i s) ≡ true) × CountedFrom s t (count_in (slot_in plain i s) + 1)
-  level_inner {t = t} k e l done =
-      let (a, b) = k.inner (omega arith) in
-      (w, h, a, subst (λ m. CountedFrom s t (m + 1)) (sym (b ∙ e)) done)
-
-  pub on_level : {n level : ℕ} {t u : List ℕ} → LevelAt s i n → n ≡ level → SlotCounted s i t u → LevelCounted s level i t u
-  on_level k e d = record {
-    same = d.same;
-    here = λ r l m a b f. d.here r l m a b;
-    above = λ r l m a b f. absurd (f (k.place r l m a b ∙ e));
-    others = d.others;
-  }
-
 -- the counts of all longer places, and of the first i slots of this level
 pub record Counting (s : Bytes) (t : List ℕ) (level i : ℕ) : Type 0 where
   pub long : length t ≡ 32768
@@ -132,31 +100,6 @@ pub record Counting (s : Bytes) (t : List ℕ) (level i : ℕ) : Type 0 where
       (level < length r.place) ⊎ ((length r.place ≡ level) × (j < i)) → CountsRight s t j r
 
 module _ {s : Bytes} {t : List ℕ} {level : ℕ} where
-  pub counting_starts : CountedFrom s t (level + 1) → Counting s t level 0
-  counting_starts h = record { long = h.long; done = λ j r l m a b. ⊎_elim (λ k. h.right j r l m a b (omega arith)) (λ k. absurd (omega (arith, k.1))) }
-
-  -- slots passed or not, the longer places are there
-  pub counting_longer : {i : ℕ} → Counting s t level i → CountedFrom s t (level + 1)
-  counting_longer w = record { long = w.long; right = λ j r l m a b k. w.done j r l m a b (inl (omega arith)) }
-
-  pub counting_next : {i : ℕ} {u : List ℕ} → Counting s t level i → LevelCounted s level i t u → Counting s u level (i + 1)
-  counting_next {i} {u} w d = record { long = d.same ∙ w.long; done = λ j r l m a b k. either j r l m a b k (same j i) }
-    where
-      same : (j i : ℕ) → (j ≡ i) ⊎ (j ≡ i → ⊥)
-      same j i = go (eqb j i) refl
-        where
-          go : (c : Bool) → eqb j i ≡ c → (j ≡ i) ⊎ (j ≡ i → ⊥)
-          go true d = inl (eqb-true j i d)
-          go false d = inr (eqb-false j i d)
-
-      either : (j : ℕ) (r : Record) (l m : Child) → At (plain_store s) j r → r.body ≡ inner_body l m →
-          (level < length r.place) ⊎ ((length r.place ≡ level) × (j < i + 1)) → (j ≡ i) ⊎ (j ≡ i → ⊥) → CountsRight s u j r
-      either j r l m a b (inr k) (inl e) = ap (tally_at u) e ∙ d.here r l m (subst (λ n. At (plain_store s) n r) e a) b k.0
-      either j r l m a b (inl k) (inl e) =
-          ap (tally_at u) e ∙ d.above r l m (subst (λ n. At (plain_store s) n r) e a) b (λ z. omega arith) ∙ sym (ap (tally_at t) e) ∙ w.done j r l m a b (inl k)
-      either j r l m a b (inl k) (inr f) = d.others j f ∙ w.done j r l m a b (inl k)
-      either j r l m a b (inr k) (inr f) = d.others j f ∙ w.done j r l m a b (inr (k.0, omega (arith, k.1, f)))
-
   pub counting_done : {i n : ℕ} → Counting s t level i → n ≤ i → n ≡ room_of plain (length s) → CountedFrom s t level
   unfolding At
   counting_done {i} {n} w h e = record { long = w.long; right = λ j r l m a b k. w.done j r l m a b (two j level (length r.place) a.0 k) }
@@ -168,17 +111,6 @@ module _ {s : Bytes} {t : List ℕ} {level : ℕ} where
           go true d = inl (leb-true (suc x) y d)
           go false d = let f = leb-false (suc x) y d in inr (omega arith, omega (arith, a, slots_many plain s, h, e))
 
--- no place has 256 bits but a leaf's
-pub none_longest : {s : Bytes} {t : List ℕ} → Countable s → length t ≡ 32768 → CountedFrom s t 256
-none_longest w e = record {
-  long = e;
-  right = λ j r l m a b k. absurd (omega (arith, k, subst (λ o. length r.place ≤ place_limit o) b (w.sound.formed j r a).short));
-}
-
--- the levels of the first i slots
-pub levels_start : (s : Bytes) {ls : List ℕ} → length ls ≡ 16384 → Leveled s ls 0
-levels_start s e = record { long = e; each = λ i l. absurd (omega arith) }
-
 pub levels_next : {s : Bytes} {ls : List ℕ} {i x : ℕ} → Leveled s ls i → LevelAt s i x → i < 16384 → Leveled s (set ls i x) (i + 1)
 levels_next {s} {ls} {i} {x} w k h = record {
   long = simp length-set w.long;
@@ -186,13 +118,3 @@ levels_next {s} {ls} {i} {x} w k h = record {
       (λ j l. subst (LevelAt s j) (sym (get_or-set_other ls i j x 0 (λ e. omega arith))) (w.each j l))
       (subst (LevelAt s i) (sym (get_or-set_same ls i x 0 (omega (arith, w.long)))) k);
 }
-
-pub levels_all : {s : Bytes} {ls : List ℕ} {i n : ℕ} → Leveled s ls i → n ≤ i → i ≤ n → Leveled s ls n
-levels_all {s} {ls} {i} {n} w a b = let e : i ≡ n = omega arith in subst (Leveled s ls) e w
-
--- from one level to the next
-pub level_next : {s : Bytes} {t : List ℕ} {level : ℕ} → CountedFrom s t level → 0 < level → CountedFrom s t (level - 1 + 1)
-level_next {s} {t} {level} w h = let e : level ≡ level - 1 + 1 = omega arith in subst (CountedFrom s t) e w
-
-pub levels_done : {s : Bytes} {t : List ℕ} {level : ℕ} → CountedFrom s t level → level ≤ 0 → CountedFrom s t 0
-levels_done {s} {t} {level} w h = let e : level ≡ 0 = omega arith in subst (CountedFrom s t) e w

@@ -22,8 +22,7 @@ use Rattle.layout.specs.Sizes.{room_of}
 use Rattle.layout.specs.Slots.{leaf_in, inner_in, record_in, version_in, slot_of}
 use Rattle.layout.specs.Stores.{slot_in, Has}
 use Rattle.layout.proofs.Headers.{size_says}
-use Rattle.lookup.specs.declared.Found as declared-found
-use Rattle.lookup.specs.declared.Found.TheVariants.{At, Nothing}
+use Rattle.std.specs.Prelude.{Some, None}
 use Rattle.lookup.specs.Lookup.{FoundIn}
 use Rattle.store.proofs.Slots.{slots_many, slot_is}
 use Rattle.agree.proofs.Agreeing.{agreed_version, agreed_node}
@@ -38,7 +37,7 @@ slot_has s w e l = record { size = w.size; inside = omega (arith, e) }
 
 module _ {s : Bytes} (w : Countable s) where
   -- version 0 is no node
-  pub no_version : (v : ℕ) (p : Place) → v ≡ 0 → FoundIn (plain_store s).slots v p Nothing
+  pub no_version : (v : ℕ) (p : Place) → v ≡ 0 → FoundIn (plain_store s).slots v p None
   unfolding sound.At
   no_version v p e = go (find v p (plain_store s).slots) refl
     where
@@ -70,13 +69,10 @@ module _ {s : Bytes} (w : Countable s) where
 
   -- the leaves at what was found
   module _ (v : ℕ) (p : Place) where
-    pub found_has : {c : ℕ} → FoundIn (plain_store s).slots v p (At c) → Has plain s c
+    pub found_has : {c : ℕ} → FoundIn (plain_store s).slots v p (Some c) → Has plain s c
     found_has k = record { size = w.size; inside = omega (arith, k.0, slots_many plain s) }
 
-    pub none_weighs : FoundIn (plain_store s).slots v p Nothing → (0 ≡ leaves_at s v p) × (0 ≤ 16384)
-    none_weighs k = (sym (ap (leaves_of (plain_store s).slots) k), omega arith)
-
-    pub found_weighs : {t : List ℕ} {c m n : ℕ} → length p ≡ m → CountedFrom s t m → FoundIn (plain_store s).slots v p (At c) → WeighsIn s t c n →
+    pub found_weighs : {t : List ℕ} {c m n : ℕ} → length p ≡ m → CountedFrom s t m → FoundIn (plain_store s).slots v p (Some c) → WeighsIn s t c n →
         (n ≡ leaves_at s v p) × (n ≤ 16384)
     unfolding sound.At
     found_weighs {t} {c} {m} {n} long done (l, (q, u, f)) weighs =

@@ -1,6 +1,6 @@
 -- Counting the leaves below each inner record of a plain store, the longest places first. No public promise reaches
 -- this file. Assumes nothing.
-use Rattle.std.specs.Prelude.{ℕ, ◌<◌, ◌≤◌, ◌≡◌, Bool, true, false, List, length, get_or}
+use Rattle.std.specs.Prelude.{ℕ, ◌<◌, ◌≤◌, ◌≡◌, Bool, true, false, List, length, get_or, Some}
 use Rattle.std.proofs.Math.Option.{Option, none, some}
 use Rattle.terms.specs.declared.Form.TheVariants.{Plain as plain}
 use Rattle.terms.specs.Bits.{Bytes, Place}
@@ -13,7 +13,6 @@ use Rattle.nodehash.specs.Node.{leaf_hash, inner_hash}
 use Rattle.layout.specs.Headers.{size_right}
 use Rattle.layout.specs.Slots.{is_inner, count_in}
 use Rattle.layout.specs.Stores.{slot_in, slot_no, store_in}
-use Rattle.lookup.specs.declared.Found.TheVariants as found
 use Rattle.lookup.specs.Lookup.{FoundIn}
 use Rattle.move_put.specs.Put.{tally_at}
 
@@ -28,7 +27,7 @@ pub record Countable (s : Bytes) : Type 0 where
 
 -- Where the answer is yes, the node of version v at p is found in slot c.
 abbrev pub NodeIn : Bytes → ℕ → ℕ → Place → Bool → Type 0
-NodeIn s c v p true = FoundIn (plain_store s).slots v p (found.At c)
+NodeIn s c v p true = FoundIn (plain_store s).slots v p (Some c)
 NodeIn s c v p false = Unit {0}
 
 -- The leaves at a record that was found, by the tree that stands at it; 0 for none.

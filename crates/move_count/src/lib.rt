@@ -14,7 +14,7 @@ use agree::agrees;
 use check_guess::guessed;
 use check_sort::sort;
 use layout::sizes::LEAF_KIND;
-use lookup::{Found, find};
+use lookup::find;
 use place::{Place, child_place, place_at};
 use slots::bits_of;
 use store::{child_version_at, count_at, kind_at, slot_count, slot_of, wide};
@@ -36,15 +36,15 @@ fn is_node(store: &[u8], c: usize, version: u32, place: Place) -> bool
 }
 
 // The slot of the node of a version at a place: a guess that is right, or what a search finds; version 0 is no node.
-fn child_slot(store: &[u8], version: u32, place: Place, guess: usize) -> Found
+fn child_slot(store: &[u8], version: u32, place: Place, guess: usize) -> Option<usize>
     requires { Countable store.now × Proper place }
     ensures { FoundIn (plain_store store.now).slots version (place_of place) result }
 {
     if version == 0 {
-        return Found::Nothing;
+        return None;
     }
     if is_node(store, guess, version, place) {
-        return Found::At(guess);
+        return Some(guess);
     }
     find(Form::Plain, store, version, place)
 }
@@ -67,11 +67,8 @@ fn leaves_at(store: &[u8], counts: &[u16; 32768], version: u32, place: Place, gu
 {
     let found = child_slot(store, version, place, guess);
     match found {
-        Found::At(c) => {
-            let n = weight_of(store, counts, c);
-            n
-        }
-        Found::Nothing => 0,
+        Some(c) => weight_of(store, counts, c),
+        None => 0,
     }
 }
 
@@ -122,10 +119,8 @@ fn count_level(
     requires { Countable store.now × Room Form.Plain store.now n × Leveled store.now levels.now n × (level < 256) × CountedFrom store.now counts.old (level + 1) }
     ensures { CountedFrom store.now counts.new level }
 {
-    let mut i = 0;
-    while i < n {
+    for i in 0..n {
         count_at_level(store, i, levels[i], level, guess, counts);
-        i += 1;
     }
 }
 
@@ -145,10 +140,8 @@ fn levels_of(store: &[u8], n: usize, levels: &mut [u16; 16384])
     requires { Countable store.now × Room Form.Plain store.now n × (length levels.old ≡ 16384) }
     ensures { Leveled store.now levels.new n }
 {
-    let mut i = 0;
-    while i < n {
+    for i in 0..n {
         levels[i] = level_of(store, i);
-        i += 1;
     }
 }
 
@@ -159,9 +152,7 @@ fn count_levels(store: &[u8], n: usize, guess: &[u16; 32768], counts: &mut [u16;
 {
     let mut levels = [0u16; 16384];
     levels_of(store, n, &mut levels);
-    let mut level = NO_LEVEL;
-    while 0 < level {
-        level -= 1;
+    for level in (0..NO_LEVEL).rev() {
         count_level(store, n, level, &levels, guess, counts);
     }
 }
@@ -173,7 +164,7 @@ fn guess_children(store: &[u8], n: usize, guess: &mut [u16; 32768])
     let mut table = [0u16; 16384];
     let mut spare = [0u16; 16384];
     let many = sort(Form::Plain, store, n, &mut table, &mut spare);
-    guessed(Form::Plain, store, n, &table, many, guess);
+    guessed(Form::Plain, store, n, &table[..many], guess);
 }
 
 // The counts of every inner record of a sound store, two for each slot.

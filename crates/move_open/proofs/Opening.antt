@@ -2,6 +2,10 @@
 use Prim.Native.Nat.{ℕ}
 use native.Mathlib.Omega.{arith}
 use mathlib.Core.Path.{◌≡◌, refl, ap, sym, ◌∙◌, subst}
+use Rattle.std.specs.Prelude.{Result, Ok, Err}
+use Rattle.refusal_numbers.specs.Refusals.{number, number_told}
+use Rattle.refusal_numbers.specs.declared.Refusal.{Refusal}
+use Rattle.refusal_numbers.proofs.Numbers.{not_zero}
 use mathlib.Core.Bool.{true, false, true≢false}
 use lib.ListN.{length}
 use Rattle.terms.specs.declared.Form.{Form}
@@ -42,7 +46,7 @@ pub record Passed (from : Form) (s old : Bytes) : Type 0 where
   pub sound : Sound leaf_hash inner_hash (store_in from s)
 
 module _ {from : Form} {s old : Bytes} {r : ℕ} (w : Opened from (other from) s old r) where
-  pub refuses_so : (r ≡ 0 → ⊥) → Moves from s old r old
+  refuses_so : (r ≡ 0 → ⊥) → Moves from s old r old
   refuses_so f = go w f
     where
       go : {r : ℕ} → Opened from (other from) s old r → (r ≡ 0 → ⊥) → Moves from s old r old
@@ -53,7 +57,7 @@ module _ {from : Form} {s old : Bytes} {r : ℕ} (w : Opened from (other from) s
       go (checked room (check.unsound n o l e g)) f = moves.not_sound room e g
       go (checked room (check.sound n o l e g)) f = absurd (f refl)
 
-  pub passes : r ≡ 0 → Passed from s old
+  passes : r ≡ 0 → Passed from s old
   passes e = go w e
     where
       go : {r : ℕ} → Opened from (other from) s old r → r ≡ 0 → Passed from s old
@@ -61,3 +65,11 @@ module _ {from : Form} {s old : Bytes} {r : ℕ} (w : Opened from (other from) s
       go (checked room (check.refused n e)) z = absurd (omega (arith, size_passed from s room.source e))
       go (checked room (check.unsound n o l e g)) z = absurd (omega arith)
       go (checked room (check.sound n o l e g)) z = record { room = room; capacity = n; oldest = o; latest = l; headed = e; sound = g }
+
+-- the same by what the tests answer
+module _ {from : Form} {s old : Bytes} {x : Result (Unit {0}) Refusal} (w : Opened from (other from) s old (number_told x)) where
+  pub move_refused : {r : Refusal} → x ≡ Err r → Moves from s old (number r) old
+  move_refused {r} e = refuses_so (subst (λ y. Opened from (other from) s old (number_told y)) e w) (not_zero r)
+
+  pub move_passed : {u : Unit {0}} → x ≡ Ok u → Passed from s old
+  move_passed e = passes w (ap number_told e)

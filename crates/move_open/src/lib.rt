@@ -2,25 +2,26 @@
 #![tactic(auto)]
 
 ghost use Rattle.move_open.specs.Open.{Opened};
+ghost use Rattle.refusal_numbers.specs.Refusals.{number_told};
 
 use check_store::check;
 use header_form::size_right;
-use refusal_numbers::WRONG_SIZE;
+use refusal_numbers::Refusal;
 use store::slot_count;
 use terms::Form;
 
-// 0 where the source may be moved to the target, else the number of refusal.
-pub fn refusal(from: Form, to: Form, source: &[u8], target: &[u8]) -> u32
-    ensures { Opened from to source.now target.now result }
+// Whether the source may be moved to the target.
+pub fn open(from: Form, to: Form, source: &[u8], target: &[u8]) -> Result<(), Refusal>
+    ensures { Opened from to source.now target.now (number_told result) }
 {
     if !size_right(from, source.len()) {
-        return WRONG_SIZE;
+        return Err(Refusal::WrongSize);
     }
     if !size_right(to, target.len()) {
-        return WRONG_SIZE;
+        return Err(Refusal::WrongSize);
     }
     if slot_count(from, source) != slot_count(to, target) {
-        return WRONG_SIZE;
+        return Err(Refusal::WrongSize);
     }
     check(from, source)
 }

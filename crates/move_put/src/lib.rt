@@ -63,12 +63,6 @@ fn put_slot(
     }
 }
 
-fn wide(x: u16) -> u32
-    ensures { result ≡ x }
-{
-    x as u32
-}
-
 // Writes the target whole: the header, and each slot.
 pub fn put_store(from: Form, to: Form, source: &[u8], counts: &[u16; 32768], target: &mut [u8])
     requires { Movable from to source.now counts.now target.old }
@@ -76,17 +70,15 @@ pub fn put_store(from: Form, to: Form, source: &[u8], counts: &[u16; 32768], tar
 {
     let n = slot_count(from, source);
     put_header(to, target, n as u32, oldest_of(source), latest_of(source));
-    let mut i = 0;
-    while i < n {
+    for i in 0..n {
         put_slot(
             from,
             to,
             source,
             target,
             i,
-            wide(counts[2 * i]),
-            wide(counts[2 * i + 1]),
+            u32::from(counts[2 * i]),
+            u32::from(counts[2 * i + 1]),
         );
-        i += 1;
     }
 }

@@ -18,13 +18,13 @@ use Rattle.layout.specs.Headers.{size_right}
 use Rattle.layout.specs.Stores.{slot_in, store_of, Has}
 use Rattle.store.proofs.Slots.{slot_long, slot_bytes_lem, slot_within, slot_is}
 use Rattle.lookup.specs.Lookup.{FoundIn}
-use Rattle.lookup.specs.declared.Found.TheVariants.{At, Nothing}
+use Rattle.std.specs.Prelude.{Some, None}
 use Rattle.lookup.proofs.Matching.{says}
 use Rattle.ordered.specs.Ordered.{node_key, key_no, Ordered, Between}
 use Rattle.ordered.proofs.Ordered.{key_node, first_lowest, first_found, first_none}
 use Rattle.order_look.specs.Looks.{head_key, key_in, Stands}
-use Rattle.order_look.specs.declared.Look as declared
-use Rattle.order_look.specs.declared.Look.TheVariants.{Before, After, Same}
+use Rattle.std.specs.declared.cmp.Ordering.{Ordering}
+use Rattle.std.specs.declared.cmp.Ordering.TheVariants.{Less, Equal, Greater}
 use Rattle.order_look.proofs.Keys.{inside}
 use Rattle.order_halves.proofs.Looked.{place_key, entry_has, mine as its_key, said as its-look}
 use Rattle.order_find.specs.Finds.{NoLower}
@@ -41,22 +41,22 @@ record_short {s} {i} b has r e =
 
 module _ (s : Bytes) {t : List ℕ} {n : ℕ} (size : size_right counted (length s) ≡ true) (o : Ordered (store_of s).slots t n) where
   module _ (b : All Byte s) (v : ℕ) (p : declared-place.Place) (proper : Proper p) (k : ℕ) (h : k < n) {i : ℕ} (e : i ≡ get_or t k 0)
-      (r : declared.Look) (w : Stands r (slot_in counted i s) (head_key p.count p.bits v)) where
+      (r : Ordering) (w : Stands r (slot_in counted i s) (head_key p.count p.bits v)) where
     mine : key_in (slot_in counted i s) ≡ key_no (store_of s).slots (get_or t k 0)
     mine = its_key s size o b v p proper k h e r w
 
-    said : (l : declared.Look) → r ≡ l → Stands l (slot_in counted i s) (head_key p.count p.bits v)
+    said : (l : Ordering) → r ≡ l → Stands l (slot_in counted i s) (head_key p.count p.bits v)
     said = its-look s size o b v p proper k h e r w
 
     module _ (first : Between (store_of s).slots t n (node_key v (place_of p)) k k) where
-      node : r ≡ Same → is_node v (place_of p) (o.names k h).0 ≡ true
+      node : r ≡ Equal → is_node v (place_of p) (o.names k h).0 ≡ true
       node f =
           let held = o.names k h in
           key_node (store_of s).slots (get_or t k 0) held.0 v (place_of p) held.1 (record_short b (entry_has s size o k h) held.0 held.1)
-          (omega (arith, proper.short, proper_count p proper)) (sym mine ∙ said Same f ∙ place_key v p proper)
+          (omega (arith, proper.short, proper_count p proper)) (sym mine ∙ said Equal f ∙ place_key v p proper)
 
       -- The slot of the first entry that isn't before the node has it: it is found, and no lower slot has it.
-      pub found_here : r ≡ Same → FoundIn (store_of s).slots v (place_of p) (At i) × NoLower (store_of s).slots v (place_of p) (At i)
+      pub found_here : r ≡ Equal → FoundIn (store_of s).slots v (place_of p) (Some i) × NoLower (store_of s).slots v (place_of p) (Some i)
       found_here f =
           let held = o.names k h in
           let q = held.0 in
@@ -69,20 +69,20 @@ module _ (s : Bytes) {t : List ℕ} {n : ℕ} (size : size_right counted (length
           )
 
       -- It has another: none is found.
-      pub none_before : r ≡ Before → FoundIn (store_of s).slots v (place_of p) Nothing × NoLower (store_of s).slots v (place_of p) Nothing
-      none_before f = (
+      pub none_less : r ≡ Less → FoundIn (store_of s).slots v (place_of p) None × NoLower (store_of s).slots v (place_of p) None
+      none_less f = (
         first_none o v (place_of p) first (omega arith)
-            (λ l g. before_irrefl (node_key v (place_of p)) (subst (λ z. before z (node_key v (place_of p)) ≡ true) g (sym (ap₂ before mine (place_key v p proper)) ∙ said Before f))),
+            (λ l g. before_irrefl (node_key v (place_of p)) (subst (λ z. before z (node_key v (place_of p)) ≡ true) g (sym (ap₂ before mine (place_key v p proper)) ∙ said Less f))),
         tt,
       )
 
-      pub none_after : r ≡ After → FoundIn (store_of s).slots v (place_of p) Nothing × NoLower (store_of s).slots v (place_of p) Nothing
-      none_after f = (
+      pub none_greater : r ≡ Greater → FoundIn (store_of s).slots v (place_of p) None × NoLower (store_of s).slots v (place_of p) None
+      none_greater f = (
         first_none o v (place_of p) first (omega arith)
-            (λ l g. before_irrefl (node_key v (place_of p)) (subst (λ z. before (node_key v (place_of p)) z ≡ true) g (sym (ap₂ before (place_key v p proper) mine) ∙ said After f))),
+            (λ l g. before_irrefl (node_key v (place_of p)) (subst (λ z. before (node_key v (place_of p)) z ≡ true) g (sym (ap₂ before (place_key v p proper) mine) ∙ said Greater f))),
         tt,
       )
 
   -- All entries are before the node.
-  pub none_left : (v : ℕ) (p : Place) (k : ℕ) → n ≤ k → Between (store_of s).slots t n (node_key v p) k k → FoundIn (store_of s).slots v p Nothing × NoLower (store_of s).slots v p Nothing
+  pub none_left : (v : ℕ) (p : Place) (k : ℕ) → n ≤ k → Between (store_of s).slots t n (node_key v p) k k → FoundIn (store_of s).slots v p None × NoLower (store_of s).slots v p None
   none_left v p k l first = (first_none o v p first (omega arith) (λ h g. absurd (omega arith)), tt)

@@ -7,25 +7,10 @@ ghost use Rattle.layout.specs.Stores.{store_of};
 ghost use Rattle.check_pass.specs.Passes.{Room};
 ghost use Rattle.ordered.specs.Ordered.{Guide};
 
-use check_sort::sort;
+use check_sort::{rank, sort};
 use order_table::{names_form, ordered};
 use store::{slot_count, wide};
 use terms::Form;
-
-// An entry put into the row behind the first `many`, where it is to stay.
-fn put(table: &mut [u16; 16384], many: usize, i: u16, stays: bool) -> usize
-    requires { many ≤ 16384 }
-    ensures { result ≤ 16384 }
-{
-    if !stays {
-        return many;
-    }
-    if 16384 <= many {
-        return many;
-    }
-    table[many] = i;
-    many + 1
-}
 
 // The entries that name slots in form, in the order they had, and how many there are.
 fn in_form(store: &[u8], n: usize, table: &mut [u16; 16384], many: usize) -> usize
@@ -33,12 +18,12 @@ fn in_form(store: &[u8], n: usize, table: &mut [u16; 16384], many: usize) -> usi
     ensures { result ≤ 16384 }
 {
     let mut kept = 0;
-    let mut k = 0;
-    while k < many {
+    for k in 0..many {
         let i = table[k];
-        let stays = names_form(store, n, wide(i));
-        kept = put(table, kept, i, stays);
-        k += 1;
+        if names_form(store, n, wide(i)) {
+            table[kept] = i;
+            kept += 1;
+        }
     }
     kept
 }
@@ -53,22 +38,28 @@ fn guess_order(store: &[u8], table: &mut [u16; 16384], spare: &mut [u16; 16384])
     in_form(store, n, table, many)
 }
 
-// Makes a table to find by, and says how many entries it has: none where the guess wasn't right. The spare room is for the work.
-pub fn guide_with(store: &[u8], table: &mut [u16; 16384], spare: &mut [u16; 16384]) -> usize
+// Makes a table to find by: it has no entries where the guess wasn't right. The spare room is for the work.
+pub fn guide_with<'t>(
+    store: &[u8],
+    table: &'t mut [u16; 16384],
+    spare: &mut [u16; 16384],
+) -> &'t [u16]
     requires { size_right Form.Counted (length store.now) ≡ true }
-    ensures { Guide (store_of store.now).slots table.new result }
+    ensures { Guide (store_of store.now).slots result.now (length result.now) }
 {
     let many = guess_order(store, table, spare);
-    if !ordered(store, table, many, spare) {
-        return 0;
+    let order = &table[..many];
+    rank(order, spare);
+    if !ordered(store, order, spare) {
+        return &order[..0];
     }
-    many
+    order
 }
 
 // The same with room of its own for the work.
-pub fn guide(store: &[u8], table: &mut [u16; 16384]) -> usize
+pub fn guide<'t>(store: &[u8], table: &'t mut [u16; 16384]) -> &'t [u16]
     requires { size_right Form.Counted (length store.now) ≡ true }
-    ensures { Guide (store_of store.now).slots table.new result }
+    ensures { Guide (store_of store.now).slots result.now (length result.now) }
 {
     let mut spare = [0u16; 16384];
     guide_with(store, table, &mut spare)

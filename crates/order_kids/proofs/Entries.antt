@@ -14,18 +14,21 @@ use Rattle.terms.specs.Bits.{Bytes, Byte, All, before}
 use Rattle.terms.specs.Records.{Slot}
 use Rattle.layout.specs.Stores.{slot_in, store_of}
 use Rattle.store.proofs.Slots.{slots_many}
+use Rattle.check_pass.specs.Passes.{Passed}
 use Rattle.ordered.specs.Ordered.{key_no, Ordered, LeadsIf}
 use Rattle.order_look.specs.Looks.{key_in, Stands, Formed}
-use Rattle.order_look.specs.declared.Look as declared
-use Rattle.order_look.specs.declared.Look.TheVariants.{Before}
+use Rattle.std.specs.declared.cmp.Ordering.{Ordering}
+use Rattle.std.specs.declared.cmp.Ordering.TheVariants.{Less, Equal, Greater}
+use Rattle.std.specs.Ordering.{is_lt}
 use Rattle.order_look.proofs.Keys.{inside, key_in_lem}
 use Rattle.order_kids.specs.Kids.{Tabled}
 
 -- two slots in form, by how the first stands to the key that the second's bytes say
-pub stands_before : {s : Bytes} {i j : ℕ} → All Byte s → (f : Formed s i) (g : Formed s j) {key : Bytes} → key ≡ key_in (slot_in counted j s) →
-    (r : declared.Look) → Stands r (slot_in counted i s) key → r ≡ Before → before (key_no (store_of s).slots i) (key_no (store_of s).slots j) ≡ true
-stands_before {s} {i} bytes f g {key} its r w e =
-    subst₂ (λ x y. before x y ≡ true) (key_in_lem bytes f.0 f.1) (its ∙ key_in_lem bytes g.0 g.1) (subst (λ l. Stands l (slot_in counted i s) key) e w)
+pub told_before : {s : Bytes} {i j : ℕ} → All Byte s → (f : Formed s i) (g : Formed s j) {key : Bytes} → key ≡ key_in (slot_in counted j s) →
+    (r : Ordering) → Stands r (slot_in counted i s) key → Passed (is_lt r) (before (key_no (store_of s).slots i) (key_no (store_of s).slots j) ≡ true)
+told_before bytes f g its Less w = subst₂ (λ x y. before x y ≡ true) (key_in_lem bytes f.0 f.1) (its ∙ key_in_lem bytes g.0 g.1) w
+told_before bytes f g its Equal w = tt
+told_before bytes f g its Greater w = tt
 
 module _ {s : Bytes} {t : List ℕ} {n : ℕ} (w : Tabled s t n) where
   -- a table with entries is in order

@@ -14,86 +14,66 @@ ghost use Rattle.order_kids.specs.Kids.{Tabled};
 use check_guess::guessed;
 use check_sort::rank;
 use order_guess::guide_with;
-use order_look::{Look, compared};
-use slots::bits_of;
-use store::{count_at, slot_count, slot_of, version_at, wide};
+use order_table::node_stands;
+use store::{slot_count, wide};
 use terms::Form;
-
-// A guess for each side of each slot of the largest store.
-const GUESSES: usize = 32768;
 
 // Whether the node of slot i, in form, stands before that of slot j, in form.
 fn node_before(store: &[u8], i: usize, j: usize) -> bool
     requires { Formed store.now i × Formed store.now j }
     ensures { Passed result (before (key_no (store_of store.now).slots i) (key_no (store_of store.now).slots j) ≡ true) }
 {
-    let count = wide(count_at(Form::Counted, store, j));
-    let version = version_at(Form::Counted, store, j);
-    let bits = bits_of(slot_of(Form::Counted, store, j));
-    let stands = compared(store, i, count, bits, version);
-    match stands {
-        Look::Before => true,
-        Look::After => false,
-        Look::Same => false,
-    }
+    node_stands(store, i, j).is_lt()
 }
 
 // Whether entry k names the lowest slot of its node: no entry before it names one with the same node.
-fn leads_at(store: &[u8], table: &[u16; 16384], many: usize, k: usize) -> bool
-    requires { Tabled store.now table.now many × (k < many) }
-    ensures { Passed result (Leads (store_of store.now).slots (get_or table.now k 0)) }
+fn leads_at(store: &[u8], order: &[u16], k: usize) -> bool
+    requires { Tabled store.now order.now (length order.now) × (k < length order.now) }
+    ensures { Passed result (Leads (store_of store.now).slots (get_or order.now k 0)) }
 {
     if k == 0 {
         return true;
     }
-    node_before(store, wide(table[k - 1]), wide(table[k]))
+    node_before(store, wide(order[k - 1]), wide(order[k]))
 }
 
 // Whether a slot is the lowest of its node, by where its rank says that it is named.
-fn leads(store: &[u8], table: &[u16; 16384], many: usize, ranks: &[u16; 16384], i: usize) -> bool
-    requires { Tabled store.now table.now many × (i < 16384) }
+fn leads(store: &[u8], order: &[u16], ranks: &[u16; 16384], i: usize) -> bool
+    requires { Tabled store.now order.now (length order.now) × (i < 16384) }
     ensures { Passed result (Leads (store_of store.now).slots i) }
 {
     let k = wide(ranks[i]);
-    if many <= k {
+    if order.len() <= k {
         return false;
     }
-    if wide(table[k]) != i {
+    if wide(order[k]) != i {
         return false;
     }
-    leads_at(store, table, many, k)
+    leads_at(store, order, k)
 }
 
 // A guess that names the lowest slot of a node, one higher; instead of another 0, which names none.
-fn kept(store: &[u8], table: &[u16; 16384], many: usize, ranks: &[u16; 16384], guess: u16) -> u16
-    requires { Tabled store.now table.now many }
+fn kept(store: &[u8], order: &[u16], ranks: &[u16; 16384], guess: u16) -> u16
+    requires { Tabled store.now order.now (length order.now) }
     ensures { LeadsIf (store_of store.now).slots result }
 {
     let i = wide(guess);
     if 16384 <= i {
         return 0;
     }
-    if !leads(store, table, many, ranks, i) {
+    if !leads(store, order, ranks, i) {
         return 0;
     }
     guess + 1
 }
 
 // All guesses looked at.
-fn keep_all(
-    store: &[u8],
-    table: &[u16; 16384],
-    many: usize,
-    ranks: &[u16; 16384],
-    kids: &mut [u16; 32768],
-)
-    requires { Tabled store.now table.now many }
+fn keep_all(store: &[u8], order: &[u16], ranks: &[u16; 16384], kids: &mut [u16; 32768])
+    requires { Tabled store.now order.now (length order.now) }
     ensures { Leading (store_of store.now).slots kids.new }
 {
-    let mut m = 0;
-    while m < GUESSES {
-        kids[m] = kept(store, table, many, ranks, kids[m]);
-        m += 1;
+    for kid in kids.iter_mut() {
+        *kid = kept(store, order, ranks, *kid);
     }
 }
 
@@ -105,8 +85,8 @@ pub fn children(store: &[u8], kids: &mut [u16; 32768])
     let n = slot_count(Form::Counted, store);
     let mut table = [0u16; 16384];
     let mut spare = [0u16; 16384];
-    let many = guide_with(store, &mut table, &mut spare);
-    guessed(Form::Counted, store, n, &table, many, kids);
-    rank(&table, many, &mut spare);
-    keep_all(store, &table, many, &spare, kids);
+    let order = guide_with(store, &mut table, &mut spare);
+    guessed(Form::Counted, store, n, order, kids);
+    rank(order, &mut spare);
+    keep_all(store, order, &spare, kids);
 }

@@ -3,17 +3,21 @@ use Prim.Native.Nat.{ℕ, suc, ◌+◌, ◌*◌, ◌^◌, ◌<◌, ◌≤◌}
 use native.Mathlib.Omega.{arith}
 use native.Mathlib.Nat.{mul-le-mul_right, suc-mul, mod-lt}
 use mathlib.Core.Path.{◌≡◌, refl, ap, ap₂, sym, ◌∙◌, subst, subst₂}
-use mathlib.Core.Bool.{Bool, true, false}
+use mathlib.Core.Bool.{Bool, true, false, true≢false, false≢true}
 use mathlib.Core.List.{[], ◌∷◌, ◌++◌}
 use lib.ListN.{length, take, drop, length-take, length-drop, take-append-drop}
 use lib.Dec.{ltb}
-use lib.Seq.{take-add, take_all}
+use lib.Seq.{take-add}
 use lib.Pow.{pow_pos}
 use borrow.Author.Tests.{ltb-true, ltb-false, eq-eqb}
 use Rattle.terms.specs.Bits.{Bytes, Byte, All, before}
 use Rattle.terms.proofs.Lists.{all_take, all_drop}
 use Rattle.hash.specs.BigEndian.{number, big}
 use Rattle.hash.proofs.Digits.{number_big, big_number}
+use Rattle.std.specs.declared.cmp.Ordering.{Ordering}
+use Rattle.std.specs.declared.cmp.Ordering.TheVariants.{Less, Equal, Greater}
+use Rattle.std.specs.Ordering.{MatchOrdering, is_ne}
+use Rattle.order_look.specs.Looks.{BytesStand}
 use Rattle.order_look.proofs.Keys.{before_longer, before_common}
 
 below : (x : Bytes) → All Byte x → number x < 2 ^ (length x * 8)
@@ -83,6 +87,19 @@ module _ (x y : Bytes) (hx : All Byte x) (hy : All Byte y) (e : length x ≡ len
       λ z h r. sym (ap (λ n. big n (number (part z))) (sym (long z r)) ∙ big_number (part z) (whole z h)) in
       take-add at 8 x ∙ ap₂ (λ u w. u ++ w) same (spelt x hx room ∙ ap (big 8) f ∙ sym (spelt y hy (omega arith))) ∙ sym (take-add at 8 y)
 
--- All 32 are the same.
-pub all_eights : (x y : Bytes) (at : ℕ) → length x ≡ 32 → length y ≡ 32 → 32 ≤ at → take at x ≡ take at y → x ≡ y
-all_eights x y at e f l same = sym (take_all at x (omega arith)) ∙ same ∙ take_all at y (omega arith)
+-- Eight bytes that differ decide, else those behind them.
+module _ (x y : Bytes) (hx : All Byte x) (hy : All Byte y) (e : length x ≡ length y) (at : ℕ) (room : at + 8 ≤ length x) (same : take at x ≡ take at y) where
+  abbrev Compared : Ordering → Type 0
+  Compared r =
+      MatchOrdering r (number (take 8 (drop at x)) < number (take 8 (drop at y))) (number (take 8 (drop at x)) ≡ number (take 8 (drop at y)))
+      (number (take 8 (drop at y)) < number (take 8 (drop at x)))
+
+  pub eight_decide : (r : Ordering) → Compared r → is_ne r ≡ true → BytesStand r x y
+  eight_decide Less l n = eight_before x y hx hy e at room same l
+  eight_decide Equal l n = absurd (false≢true n)
+  eight_decide Greater l n = eight_before y x hy hx (sym e) at (omega (arith, room, e)) (sym same) l
+
+  pub eight_passed : (r : Ordering) → Compared r → is_ne r ≡ false → take (at + 8) x ≡ take (at + 8) y
+  eight_passed Less l n = absurd (true≢false n)
+  eight_passed Equal l n = eight_same x y hx hy e at room same l
+  eight_passed Greater l n = absurd (true≢false n)

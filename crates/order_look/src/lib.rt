@@ -9,16 +9,9 @@ ghost use Rattle.order_look.specs.Looks.{head_key, BytesStand, VersionsStand, St
 
 use hash::{join, word_at};
 use slots::bits_of;
+use std::cmp::Ordering;
 use store::{count_at, slot_of, version_at, wide};
 use terms::Form;
-
-// How a slot stands to a node.
-#[derive(Clone, Copy)]
-pub enum Look {
-    Before,
-    After,
-    Same,
-}
 
 // The number that begins at a byte, eight bytes long.
 fn number_at(s: &[u8], at: usize) -> u64
@@ -29,57 +22,42 @@ fn number_at(s: &[u8], at: usize) -> u64
 }
 
 // How bits stand to others, eight bytes at a time: numbers with the top byte first stand as their bytes do.
-fn bits_stand(x: &[u8], y: &[u8]) -> Look
+fn bits_stand(x: &[u8], y: &[u8]) -> Ordering
     requires { (length x.now ≡ 32) × (length y.now ≡ 32) }
     ensures { BytesStand result x.now y.now }
 {
-    let mut at = 0;
-    while at < 32 {
-        let a = number_at(x, at);
-        let b = number_at(y, at);
-        if a < b {
-            return Look::Before;
+    for word in 0..4 {
+        let a = number_at(x, 8 * word);
+        let b = number_at(y, 8 * word);
+        let stand = a.cmp(&b);
+        if stand.is_ne() {
+            return stand;
         }
-        if b < a {
-            return Look::After;
-        }
-        at += 8;
     }
-    Look::Same
+    Ordering::Equal
 }
 
 // How slot i stands to a node of its bit count and bits: by the version.
-fn version_stands(store: &[u8], i: usize, version: u32) -> Look
+fn version_stands(store: &[u8], i: usize, version: u32) -> Ordering
     requires { Has Form.Counted store.now i }
     ensures { VersionsStand result (version_in (slot_in Form.Counted i store.now)) version }
 {
-    let from = version_at(Form::Counted, store, i);
-    if from < version {
-        return Look::Before;
-    }
-    if version < from {
-        return Look::After;
-    }
-    Look::Same
+    version_at(Form::Counted, store, i).cmp(&version)
 }
 
 // How slot i stands to a node: by the bit count, then by the bits, then by the version.
-pub fn compared(store: &[u8], i: usize, count: usize, bits: &[u8], version: u32) -> Look
+pub fn compared(store: &[u8], i: usize, count: usize, bits: &[u8], version: u32) -> Ordering
     requires { Has Form.Counted store.now i × (length bits.now ≡ 32) }
     ensures { Stands result (slot_in Form.Counted i store.now) (head_key count bits.now version) }
 {
     let its = wide(count_at(Form::Counted, store, i));
-    if its < count {
-        return Look::Before;
+    let by_count = its.cmp(&count);
+    if by_count.is_ne() {
+        return by_count;
     }
-    if count < its {
-        return Look::After;
+    let by_bits = bits_stand(bits_of(slot_of(Form::Counted, store, i)), bits);
+    if by_bits.is_ne() {
+        return by_bits;
     }
-    let own = bits_of(slot_of(Form::Counted, store, i));
-    let stand = bits_stand(own, bits);
-    match stand {
-        Look::Before => Look::Before,
-        Look::After => Look::After,
-        Look::Same => version_stands(store, i, version),
-    }
+    version_stands(store, i, version)
 }

@@ -1,7 +1,7 @@
 // The first entry of an ordered table that isn't before a node, where it was guessed: a look at it and at the one before it says whether it is.
 #![tactic(auto)]
 
-ghost use Rattle.std.specs.Prelude.{◌≡◌, true, ◌≤◌, length};
+ghost use Rattle.std.specs.Prelude.{◌≡◌, true, length};
 ghost use Rattle.place.specs.Place.{place_of, Proper};
 ghost use Rattle.layout.specs.Headers.{size_right};
 ghost use Rattle.layout.specs.Stores.{store_of};
@@ -14,43 +14,29 @@ use place::Place;
 use terms::Form;
 
 // Whether entry k is the first that isn't before a version and place.
-fn is_first(
-    store: &[u8],
-    table: &[u16; 16384],
-    many: usize,
-    k: usize,
-    version: u32,
-    place: Place,
-) -> bool
-    requires { (size_right Form.Counted (length store.now) ≡ true) × (many ≤ 16384) × Ordered (store_of store.now).slots table.now many × Proper place }
-    ensures { Passed result (First (store_of store.now).slots table.now many (node_key version (place_of place)) k) }
+fn is_first(store: &[u8], order: &[u16], k: usize, version: u32, place: Place) -> bool
+    requires { (size_right Form.Counted (length store.now) ≡ true) × Ordered (store_of store.now).slots order.now (length order.now) × Proper place }
+    ensures { Passed result (First (store_of store.now).slots order.now (length order.now) (node_key version (place_of place)) k) }
 {
-    if k >= many {
+    if k >= order.len() {
         return false;
     }
-    if is_before(store, table, many, k, version, place) {
+    if is_before(store, order, k, version, place) {
         return false;
     }
     if k == 0 {
         return true;
     }
-    is_before(store, table, many, k - 1, version, place)
+    is_before(store, order, k - 1, version, place)
 }
 
 // The first entry that isn't before a version and place: `near`, where a look says so, else by halves.
-pub fn first_near(
-    store: &[u8],
-    table: &[u16; 16384],
-    many: usize,
-    near: usize,
-    version: u32,
-    place: Place,
-) -> usize
-    requires { (size_right Form.Counted (length store.now) ≡ true) × (many ≤ 16384) × Ordered (store_of store.now).slots table.now many × Proper place }
-    ensures { First (store_of store.now).slots table.now many (node_key version (place_of place)) result }
+pub fn first_near(store: &[u8], order: &[u16], near: usize, version: u32, place: Place) -> usize
+    requires { (size_right Form.Counted (length store.now) ≡ true) × Ordered (store_of store.now).slots order.now (length order.now) × Proper place }
+    ensures { First (store_of store.now).slots order.now (length order.now) (node_key version (place_of place)) result }
 {
-    if is_first(store, table, many, near, version, place) {
+    if is_first(store, order, near, version, place) {
         return near;
     }
-    by_halves(store, table, many, version, place)
+    by_halves(store, order, version, place)
 }

@@ -19,8 +19,8 @@ use Rattle.lookup.proofs.Searching.{used_or}
 use Rattle.check_pass.specs.Passes.{Passed, Each}
 use Rattle.ordered.specs.Ordered.{key_no, InForm, Ahead, Named, Ordered}
 use Rattle.order_look.specs.Looks.{key_in, Stands, Formed}
-use Rattle.order_look.specs.declared.Look as declared
-use Rattle.order_look.specs.declared.Look.TheVariants.{Before, Same}
+use Rattle.std.specs.declared.cmp.Ordering.{Ordering}
+use Rattle.std.specs.declared.cmp.Ordering.TheVariants.{Less, Equal}
 use Rattle.order_look.proofs.Keys.{inside, key_in_lem}
 use Rattle.order_table.specs.Tables.{InOrder, NamedNo}
 
@@ -44,10 +44,10 @@ module _ {s : Bytes} {i j : ℕ} (bytes : All Byte s) (f : Formed s i) (g : Form
   other : key ≡ key_no (store_of s).slots j
   other = its ∙ key_in_lem bytes g.0 g.1
 
-  pub ahead_before : (r : declared.Look) → Stands r (slot_in counted i s) key → r ≡ Before → Ahead (store_of s).slots i j
+  pub ahead_before : (r : Ordering) → Stands r (slot_in counted i s) key → r ≡ Less → Ahead (store_of s).slots i j
   ahead_before r w e = inl (subst₂ (λ x y. before x y ≡ true) mine other (subst (λ l. Stands l (slot_in counted i s) key) e w))
 
-  pub ahead_same : (r : declared.Look) → Stands r (slot_in counted i s) key → r ≡ Same → (b : Bool) → b ≡ ltb i j → Passed b (Ahead (store_of s).slots i j)
+  pub ahead_same : (r : Ordering) → Stands r (slot_in counted i s) key → r ≡ Equal → (b : Bool) → b ≡ ltb i j → Passed b (Ahead (store_of s).slots i j)
   ahead_same r w e true h = inr (sym mine ∙ subst (λ l. Stands l (slot_in counted i s) key) e w ∙ other, ltb-true i j (sym h))
   ahead_same r w e false h = tt
 

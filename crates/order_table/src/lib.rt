@@ -1,35 +1,43 @@
 // Whether a table names the slots in form of a store in the order of their nodes: one look at each entry and each slot. Nothing is known of the table before.
 #![tactic(auto)]
 
-ghost use Rattle.std.specs.Prelude.{◌≡◌, true, ◌+◌, ◌≤◌, ◌<◌, length};
+ghost use Rattle.std.specs.Prelude.{◌≡◌, true, ◌+◌, ◌<◌, length};
 ghost use Rattle.layout.specs.Sizes.{room_of};
 ghost use Rattle.layout.specs.Headers.{size_right};
-ghost use Rattle.layout.specs.Stores.{store_of, Has};
+ghost use Rattle.layout.specs.Stores.{store_of, slot_in, Has};
 ghost use Rattle.check_pass.specs.Passes.{Room, Passed, Each};
 ghost use Rattle.ordered.specs.Ordered.{Ahead, Ordered};
-ghost use Rattle.order_look.specs.Looks.{Formed};
+ghost use Rattle.order_look.specs.Looks.{Formed, Stands, key_in};
 ghost use Rattle.order_table.specs.Tables.{InOrder, NamedNo};
 
-use check_sort::rank;
 use lookup::holds_record;
-use order_look::{Look, compared};
+use order_look::compared;
 use slots::bits_of;
+use std::cmp::Ordering;
 use store::{count_at, slot_count, slot_of, version_at, wide};
 use terms::Form;
+
+// How slot i, in form, stands to the node of slot j, in form.
+pub fn node_stands(store: &[u8], i: usize, j: usize) -> Ordering
+    requires { Formed store.now i × Formed store.now j }
+    ensures { Stands result (slot_in Form.Counted i store.now) (key_in (slot_in Form.Counted j store.now)) }
+{
+    let count = wide(count_at(Form::Counted, store, j));
+    let version = version_at(Form::Counted, store, j);
+    let bits = bits_of(slot_of(Form::Counted, store, j));
+    compared(store, i, count, bits, version)
+}
 
 // Whether slot i, in form, stands before slot j, in form.
 fn ahead(store: &[u8], i: usize, j: usize) -> bool
     requires { Formed store.now i × Formed store.now j }
     ensures { Passed result (Ahead (store_of store.now).slots i j) }
 {
-    let count = wide(count_at(Form::Counted, store, j));
-    let version = version_at(Form::Counted, store, j);
-    let bits = bits_of(slot_of(Form::Counted, store, j));
-    let stands = compared(store, i, count, bits, version);
+    let stands = node_stands(store, i, j);
     match stands {
-        Look::Before => true,
-        Look::After => false,
-        Look::Same => i < j,
+        Ordering::Less => true,
+        Ordering::Equal => i < j,
+        Ordering::Greater => false,
     }
 }
 
@@ -45,75 +53,70 @@ pub fn names_form(store: &[u8], n: usize, i: usize) -> bool
 }
 
 // Whether entry k names a slot in form that stands after those of the entries before.
-fn follows(store: &[u8], n: usize, table: &[u16; 16384], k: usize) -> bool
-    requires { Room Form.Counted store.now n × (k < 16384) × InOrder store.now table.now k }
-    ensures { Passed result (InOrder store.now table.now (k + 1)) }
+fn follows(store: &[u8], n: usize, order: &[u16], k: usize) -> bool
+    requires { Room Form.Counted store.now n × (k < length order.now) × InOrder store.now order.now k }
+    ensures { Passed result (InOrder store.now order.now (k + 1)) }
 {
-    let i = wide(table[k]);
+    let i = wide(order[k]);
     if !names_form(store, n, i) {
         return false;
     }
     if k == 0 {
         return true;
     }
-    ahead(store, wide(table[k - 1]), i)
+    ahead(store, wide(order[k - 1]), i)
 }
 
-// Whether the first `many` entries name slots in form in ascending order.
-fn ascending(store: &[u8], table: &[u16; 16384], many: usize) -> bool
-    requires { (size_right Form.Counted (length store.now) ≡ true) × (many ≤ 16384) }
-    ensures { Passed result (InOrder store.now table.now many) }
+// Whether the entries name slots in form in ascending order.
+fn ascending(store: &[u8], order: &[u16]) -> bool
+    requires { size_right Form.Counted (length store.now) ≡ true }
+    ensures { Passed result (InOrder store.now order.now (length order.now)) }
 {
     let n = slot_count(Form::Counted, store);
-    let mut k = 0;
-    while k < many {
-        if !follows(store, n, table, k) {
+    for k in 0..order.len() {
+        if !follows(store, n, order, k) {
             return false;
         }
-        k += 1;
     }
     true
 }
 
 // Whether slot i is named where its rank says, if it is in form.
-fn slot_named(store: &[u8], table: &[u16; 16384], many: usize, rank: u16, i: usize) -> bool
-    requires { Has Form.Counted store.now i × (many ≤ 16384) }
-    ensures { Passed result (NamedNo store.now table.now many i) }
+fn slot_named(store: &[u8], order: &[u16], rank: u16, i: usize) -> bool
+    requires { Has Form.Counted store.now i }
+    ensures { Passed result (NamedNo store.now order.now (length order.now) i) }
 {
     if !holds_record(slot_of(Form::Counted, store, i)) {
         return true;
     }
     let k = wide(rank);
-    if many <= k {
+    if order.len() <= k {
         return false;
     }
-    wide(table[k]) == i
+    wide(order[k]) == i
 }
 
 // Whether each slot in form is named where its rank says.
-fn all_named(store: &[u8], table: &[u16; 16384], many: usize, ranks: &[u16; 16384]) -> bool
-    requires { (size_right Form.Counted (length store.now) ≡ true) × (many ≤ 16384) }
-    ensures { Passed result (Each (NamedNo store.now table.now many) (room_of Form.Counted (length store.now))) }
+fn all_named(store: &[u8], order: &[u16], ranks: &[u16; 16384]) -> bool
+    requires { size_right Form.Counted (length store.now) ≡ true }
+    ensures { Passed result (Each (NamedNo store.now order.now (length order.now)) (room_of Form.Counted (length store.now))) }
 {
     let n = slot_count(Form::Counted, store);
-    let mut i = 0;
-    while i < n {
-        if !slot_named(store, table, many, ranks[i], i) {
+    for i in 0..n {
+        if !slot_named(store, order, ranks[i], i) {
             return false;
         }
-        i += 1;
     }
     true
 }
 
-// Whether the first `many` entries of a table name the slots in form and no other, in their order; the spare room is for the slots' ranks.
-pub fn ordered(store: &[u8], table: &[u16; 16384], many: usize, spare: &mut [u16; 16384]) -> bool
-    requires { (size_right Form.Counted (length store.now) ≡ true) × (many ≤ 16384) }
-    ensures { Passed result (Ordered (store_of store.now).slots table.now many) }
+// Whether the entries of a table name the slots in form and no other, in their order: each slot where its rank says. Nothing is known of the ranks before.
+pub fn ordered(store: &[u8], order: &[u16], ranks: &[u16; 16384]) -> bool
+    requires { size_right Form.Counted (length store.now) ≡ true }
+    ensures { Passed result (Ordered (store_of store.now).slots order.now (length order.now)) }
 {
-    if !ascending(store, table, many) {
+    if !ascending(store, order) {
         return false;
     }
-    rank(table, many, spare);
-    all_named(store, table, many, spare)
+    all_named(store, order, ranks)
 }

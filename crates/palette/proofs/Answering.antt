@@ -9,7 +9,7 @@ use lib.ListN.{length}
 use Rattle.terms.specs.declared.Form.TheVariants.{Counted as counted}
 use Rattle.terms.specs.Bits.{Bytes}
 use Rattle.terms.specs.Records.{Proof, Store}
-use Rattle.meaning.specs.Calls.{Answer, refused, is_kept}
+use Rattle.meaning.specs.Calls.{Answer, refused, accepted, is_kept}
 use Rattle.meaning.specs.Proving.{proof_by}
 use Rattle.meaning.proofs.Sights.{node_sighted}
 use Rattle.indexed.specs.Index.{by_table}
@@ -18,16 +18,18 @@ use Rattle.layout.specs.Headers.{size_right, header_of}
 use Rattle.layout.specs.Stores.{store_of}
 use Rattle.ordered.specs.Ordered.{Leading}
 use Rattle.read_near.specs.Near.{Led}
-use Rattle.read_open.specs.Opening.{opened, opened_says}
+use Rattle.read_open.specs.Opening.{opened}
 use Rattle.promises.specs.Headed.{by_header, as_many}
-use Rattle.read_open.specs.declared.Opened as declared-opened
-use Rattle.read_open.specs.declared.Opened.TheVariants as first
 use Rattle.read_open.proofs.Opening as opening
 use Rattle.prove_plan.proofs.Ending.{by_searches}
 use Rattle.palette_rules.specs.Palette.{whole_keys, keys_in, in_turn, fitted_together, palette_of}
 use Rattle.palette_rules.proofs.Turns.{in_turn_same}
-use Rattle.prove.specs.declared.Proved as declared
-use Rattle.prove.specs.declared.Proved.TheVariants.{Refused}
+use Rattle.std.specs.Prelude.{Result, Err}
+use Rattle.refusal_numbers.specs.Refusals.{number}
+use Rattle.refusal_numbers.specs.declared.Refusal.{Refusal}
+use Rattle.refusal_numbers.specs.declared.Refusal.TheVariants.{Not32Bytes}
+use Rattle.refusal_numbers.specs.declared.ReadRefusal.{ReadRefusal}
+use Rattle.refusal_numbers.specs.declared.ReadRefusal.TheVariants.{Plain}
 use Rattle.contracts.specs.Palettes.{palette_answer}
 use Rattle.contracts.proofs.Heading.{as_many_lem, not_as_many}
 use Rattle.palette_give.specs.Together.{planned_for, planned_in, Gives}
@@ -35,10 +37,10 @@ use Rattle.palette_give.proofs.Giving.{gives_refusal, gives_as}
 use Rattle.palette.specs.Answer.{palette_answer_by}
 
 -- 12
-pub torn_list : {b : Bool} (s : Bytes) (table : List ℕ) (v : ℕ) (ks room : Bytes) → b ≡ whole_keys ks → b ≡ false → Gives (palette_answer_by s table v ks (length room)) room room (Refused 12)
+pub torn_list : {b : Bool} (s : Bytes) (table : List ℕ) (v : ℕ) (ks room : Bytes) → b ≡ whole_keys ks → b ≡ false → Gives (palette_answer_by s table v ks (length room)) room room (Err (Plain Not32Bytes))
 unfolding palette_answer_by
 torn_list s table v ks room e f =
-    gives_refusal 12 room (ap (λ b. cond b (by_header (header_of counted s) (palette_of (proof_by (by_table table (store_of s)) (store_of s) v) (store_of s) v (keys_in ks) (length room))) (refused 12)) (sym e ∙ f))
+    gives_refusal (Plain Not32Bytes) room (ap (λ b. cond b (by_header (header_of counted s) (palette_of (proof_by (by_table table (store_of s)) (store_of s) v) (store_of s) v (keys_in ks) (length room))) (refused 12)) (sym e ∙ f))
 
 -- in a kept version the single calls give what is planned
 kept_planned : (s : Bytes) (table : List ℕ) (v : ℕ) (ks : Bytes) (room : ℕ) (b : Bool) → is_kept (store_of s) v ≡ b →
@@ -58,21 +60,21 @@ module _ {b : Bool} (s : Bytes) (table : List ℕ) (v : ℕ) (ks room : Bytes) (
       ∙ ap (by_header (header_of counted s)) (kept_planned s table v ks (length room) (is_kept (store_of s) v) refl)
 
   -- 1, 2, 8
-  pub first_refused : {o : declared-opened.Opened} (n : ℕ) → opened_says o ≡ opened s v → o ≡ first.Refused n → Gives (palette_answer_by s table v ks (length room)) room room (Refused n)
-  first_refused n says f =
-      gives_refusal n room
-      (opened_first ∙ sym (opening.refused_first (fitted_together (length room) (planned_in s table v ks)) s v (sym (ap opened_says f) ∙ says)))
+  pub first_refused : (r : Refusal) → refused (number r) ≡ opened s v → Gives (palette_answer_by s table v ks (length room)) room room (Err (Plain r))
+  first_refused r f =
+      gives_refusal (Plain r) room
+      (opened_first ∙ sym (opening.refused_first (fitted_together (length room) (planned_in s table v ks)) s v f))
 
-  module _ {o : declared-opened.Opened} (says : opened_says o ≡ opened s v) (f : o ≡ first.Kept) where
+  module _ (f : accepted tt ≡ opened s v) where
     in_kept : palette_answer_by s table v ks (length room) ≡ fitted_together (length room) (planned_in s table v ks)
-    in_kept = opened_first ∙ opening.rest_decides (fitted_together (length room) (planned_in s table v ks)) s v (sym (ap opened_says f) ∙ says)
+    in_kept = opened_first ∙ opening.rest_decides (fitted_together (length room) (planned_in s table v ks)) s v f
 
-    pub all_given : {after : Bytes} {r : declared.Proved} → Gives (fitted_together (length room) (planned_in s table v ks)) room after r →
+    pub all_given : {after : Bytes} {r : Result ℕ ReadRefusal} → Gives (fitted_together (length room) (planned_in s table v ks)) room after r →
         Gives (palette_answer_by s table v ks (length room)) room after r
     all_given g = gives_as (sym in_kept) g
 
-pub kept_size : {o : declared-opened.Opened} (s : Bytes) (v : ℕ) → opened_says o ≡ opened s v → o ≡ first.Kept → size_right counted (length s) ≡ true
-kept_size s v says e = opening.kept_size s v (sym (ap opened_says e) ∙ says)
+pub kept_size : (s : Bytes) (v : ℕ) → accepted tt ≡ opened s v → size_right counted (length s) ≡ true
+kept_size s v e = opening.kept_size s v e
 
 -- by a table without entries it is that of the scan
 pub palette_plain : (s : Bytes) (v : ℕ) (ks : Bytes) (room : ℕ) → palette_answer_by s [] v ks room ≡ palette_answer s none v ks room

@@ -13,9 +13,8 @@ use key_list::{KEY_SIZE, whole_keys};
 use order_kids::children;
 use palette_give::give_measured;
 use palette_near::follow_all;
-use prove::Proved;
-use read_open::{Opened, open};
-use refusal_numbers::NOT_32_BYTES;
+use read_open::open;
+use refusal_numbers::{ReadRefusal, Refusal};
 use terms::Form;
 
 // From so many keys on a call guesses where all children stand.
@@ -29,7 +28,7 @@ fn give_near(
     version: u32,
     keys: &[u8],
     room: &mut [u8],
-) -> Proved
+) -> Result<u32, ReadRefusal>
     requires { (size_right Form.Counted (length store.now) ≡ true) × (whole_keys keys.now ≡ true) × Led (store_of store.now) index.now kids.now }
     ensures { Gives (fitted_together (length room.old) (planned_in store.now index.now version keys.now)) room.old room.new result }
 {
@@ -37,7 +36,7 @@ fn give_near(
 }
 
 // The same for a list of many keys without a lent table: the slots of all children are guessed once for the call.
-fn give_many(store: &[u8], version: u32, keys: &[u8], room: &mut [u8]) -> Proved
+fn give_many(store: &[u8], version: u32, keys: &[u8], room: &mut [u8]) -> Result<u32, ReadRefusal>
     requires { (size_right Form.Counted (length store.now) ≡ true) × (whole_keys keys.now ≡ true) }
     ensures { Gives (fitted_together (length room.old) (planned_in store.now [] version keys.now)) room.old room.new result }
 {
@@ -47,7 +46,13 @@ fn give_many(store: &[u8], version: u32, keys: &[u8], room: &mut [u8]) -> Proved
 }
 
 // The same by a lent table: what stands on the keys' ways is found once for the call.
-fn give_found(store: &[u8], index: &[u32], version: u32, keys: &[u8], room: &mut [u8]) -> Proved
+fn give_found(
+    store: &[u8],
+    index: &[u32],
+    version: u32,
+    keys: &[u8],
+    room: &mut [u8],
+) -> Result<u32, ReadRefusal>
     requires { (size_right Form.Counted (length store.now) ≡ true) × (whole_keys keys.now ≡ true) }
     ensures { Gives (fitted_together (length room.old) (planned_in store.now index.now version keys.now)) room.old room.new result }
 {
@@ -57,7 +62,13 @@ fn give_found(store: &[u8], index: &[u32], version: u32, keys: &[u8], room: &mut
 }
 
 // The same for a list of few keys or by a lent table: few keys are planned without a guess.
-fn give_each(store: &[u8], index: &[u32], version: u32, keys: &[u8], room: &mut [u8]) -> Proved
+fn give_each(
+    store: &[u8],
+    index: &[u32],
+    version: u32,
+    keys: &[u8],
+    room: &mut [u8],
+) -> Result<u32, ReadRefusal>
     requires { (size_right Form.Counted (length store.now) ≡ true) × (whole_keys keys.now ≡ true) }
     ensures { Gives (fitted_together (length room.old) (planned_in store.now index.now version keys.now)) room.old room.new result }
 {
@@ -79,16 +90,19 @@ fn pays(index: &[u32], keys: &[u8]) -> bool
 
 // Proves each key of a list present or absent in a version, by a table of any length; one without entries is the scan. The proofs fill the front
 // of the room and the rest stays; refused, nothing is written.
-pub fn palette(store: &[u8], index: &[u32], version: u32, keys: &[u8], room: &mut [u8]) -> Proved
+pub fn palette(
+    store: &[u8],
+    index: &[u32],
+    version: u32,
+    keys: &[u8],
+    room: &mut [u8],
+) -> Result<u32, ReadRefusal>
     ensures { Gives (palette_answer_by store.now index.now version keys.now (length room.old)) room.old room.new result }
 {
     if !whole_keys(keys) {
-        return Proved::Refused(NOT_32_BYTES as u64);
+        return Err(ReadRefusal::Plain(Refusal::Not32Bytes));
     }
-    let opened = open(store, version);
-    if let Opened::Refused(n) = opened {
-        return Proved::Refused(n as u64);
-    }
+    open(store, version)?;
     if pays(index, keys) {
         return give_many(store, version, keys, room);
     }

@@ -1,35 +1,16 @@
--- The number, the room and the four bytes, by the case of the answer. Assumes nothing.
+-- What is told of an answer: the number, the room and the four bytes. Assumes nothing.
 use Prim.Native.Nat.{ℕ}
-use mathlib.Core.Path.{◌≡◌, ap, sym, ◌∙◌}
+use mathlib.Core.Path.{◌≡◌, ap, ◌∙◌}
 use mathlib.Core.List.{List}
 use mathlib.Core.Option.{Option}
 use lib.ListN.{length}
 use Rattle.terms.specs.Bits.{Bytes}
-use Rattle.terms.specs.Fields.{le}
-use Rattle.fields.specs.Written.{written}
-use Rattle.fields.proofs.Written.{number_fills}
 use Rattle.terms.specs.Records.{Proof}
 use Rattle.meaning.specs.Calls.{Answer, refused}
 use Rattle.meaning.specs.Answers.{room_after}
-use Rattle.meaning.proofs.Told.{told_refused, told_given, exported_as, exported_refusal}
-use Rattle.palette_rules.specs.Palette.{length_together}
-use Rattle.prove.specs.Parts.{proved_says}
-use Rattle.prove.specs.declared.Proved as declared
-use Rattle.prove.specs.declared.Proved.TheVariants.{Refused, Length}
+use Rattle.meaning.proofs.Told.{exported_as, exported_refusal}
 use Rattle.contracts.specs.Palettes.{palette_answer, PalettesBy, proofs_bytes}
-use Rattle.palette_give.specs.Together.{Gives}
 use Rattle.palette_c.specs.Export.{PaletteTold}
-
-module _ {a : Answer (List Proof)} {room after : Bytes} {r : declared.Proved} (gives : Gives a room after r) (old : Bytes) where
-  pub palette_refused : {n : ℕ} → r ≡ Refused n → PaletteTold a room old n after old
-  unfolding proved_says
-  palette_refused {n} e =
-      record { exported = told_refused length_together a n old (sym (ap proved_says e) ∙ gives.answer); proofs = gives.bytes }
-
-  pub palette_given : {n : ℕ} {new : Bytes} → r ≡ Length n → length old ≡ 4 → new ≡ written 0 (le 4 n) old → PaletteTold a room old 0 after new
-  unfolding proved_says
-  palette_given {n} {new} e l w =
-      record { exported = told_given length_together a n old new (sym (ap proved_says e) ∙ gives.answer) (w ∙ number_fills n old l); proofs = gives.bytes }
 
 -- what is told of an answer is told of its equal; and a refusal, which writes nothing
 pub palette_as : {a b : Answer (List Proof)} {room f t g : Bytes} {r : ℕ} → a ≡ b → PaletteTold a room f r t g → PaletteTold b room f r t g

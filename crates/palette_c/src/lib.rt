@@ -6,12 +6,11 @@ ghost use Rattle.palette_c.specs.Export.{PaletteTold};
 ghost use Rattle.contracts.specs.Palettes.{Palettes, PalettesBy};
 ghost use Rattle.palette_c.specs.Within.{paletted_by};
 
-use fields::put_u32;
 use key_list::whole_keys;
 use palette::palette;
-use prove::Proved;
+use prove_told::told;
 use read_open::as_many;
-use refusal_numbers::{NOT_32_BYTES, WRONG_SIZE};
+use refusal_numbers::Refusal;
 
 // The proofs for a list of keys in a version, by a table of any length, fill the front of the room; the length of all together goes out in four bytes.
 fn palette_by(
@@ -25,13 +24,7 @@ fn palette_by(
     ensures { PaletteTold (paletted_by store.now index.now version keys.now room.old) room.old length.old result room.new length.new }
 {
     let proved = palette(store, index, version, keys, room);
-    match proved {
-        Proved::Refused(n) => n,
-        Proved::Length(n) => {
-            put_u32(length, 0, n);
-            0
-        }
-    }
+    told(proved, length)
 }
 
 // The proofs for a list of keys in a version, by scans.
@@ -47,7 +40,8 @@ pub fn grants_palette(
     palette_by(store, &[], version, keys, room, length)
 }
 
-// The proofs for a list of keys in a version, by a table lent with the store (2026-05).
+// The proofs for a list of keys in a version, by a table lent with the store (2026-05). It goes like `prove_c::prove_indexed`, and is no plainer as one with
+// it: the test of the list and the call would be closures, whose clauses say again what this contract says.
 pub fn palette_indexed(
     store: &[u8],
     index: &[u32],
@@ -59,10 +53,10 @@ pub fn palette_indexed(
     ensures { PalettesBy store.now (some index.now) version keys.now room.old length.old result room.new length.new }
 {
     if !whole_keys(keys) {
-        return NOT_32_BYTES as u64;
+        return u64::from(Refusal::Not32Bytes.number());
     }
     if !as_many(store, index) {
-        return WRONG_SIZE as u64;
+        return u64::from(Refusal::WrongSize.number());
     }
     palette_by(store, index, version, keys, room, length)
 }

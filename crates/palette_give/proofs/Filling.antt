@@ -16,21 +16,21 @@ use Rattle.prove_paths.proofs.Records.{given, part_room, given_long}
 use Rattle.palette_rules.specs.Palette.{whole_keys, keys_in, followed, in_turn, length_together}
 use Rattle.contracts.specs.Palettes.{proofs_bytes}
 use Rattle.palette_give.specs.Together.{together_length, together_bytes}
-use Rattle.palette_give.proofs.Passing.{key_at_lem, answers_from, Left, left_start, turn, none_left}
+use Rattle.palette_give.proofs.Passing.{answers_from, Left, left_start, turn, none_left}
 
--- the proofs before a byte of the list fill the part up to start, and those after it the rest
-pub record Filling (f : Bytes → Answer Proof) (ks : Bytes) (size : ℕ) (part : Bytes) (start at : ℕ) : Type 0 where
+-- the proofs of the keys before fill the part up to start, and those of the keys that are left the rest
+pub record Filling (f : Bytes → Answer Proof) (ks : Bytes) (size : ℕ) (part : Bytes) (start : ℕ) (rest : Bytes) : Type 0 where
   pub count : ℕ
-  pub left : Left ks count at
+  pub left : Left count rest
   pub long : length part ≡ size
   pub todo : ℕ
-  pub sums : together_length (answers_from f ks count at) ≡ accepted todo
+  pub sums : together_length (answers_from f count rest) ≡ accepted todo
   pub fits : start + todo ≡ size
-  pub few : 32 * start ≤ 17080 * at
-  pub filled : together_bytes (in_turn f (keys_in ks)) ≡ take start part ++ together_bytes (answers_from f ks count at)
+  pub few : start + 17080 * count ≤ 4372480
+  pub filled : together_bytes (in_turn f (keys_in ks)) ≡ take start part ++ together_bytes (answers_from f count rest)
 
 pub filling_starts : (f : Bytes → Answer Proof) (ks part : Bytes) → whole_keys ks ≡ true → together_length (in_turn f (keys_in ks)) ≡ accepted (length part) →
-    Filling f ks (length part) part 0 0
+    Filling f ks (length part) part 0 ks
 unfolding keys_in
 filling_starts f ks part e l = record {
   count = length ks / 32;
@@ -39,7 +39,7 @@ filling_starts f ks part e l = record {
   todo = length part;
   sums = l;
   fits = zero-add (length part);
-  few = omega arith;
+  few = omega (arith, (left_start ks e).short);
   filled = refl;
 }
 
@@ -68,62 +68,64 @@ front_then start len part y h l =
     ap (take (start + len)) (sym (append_assoc (take start part) y (drop (start + len - start) (drop start part))))
     ∙ take_at (take start part ++ y) (drop (start + len - start) (drop start part)) (start + len) n
 
-module _ {f : Bytes → Answer Proof} {ks part : Bytes} {size start at : ℕ} (w : Filling f ks size part start at) where
-  module _ (h : at < length ks) where
-    -- the proof of the key at this byte, and how far it reaches
+module _ {f : Bytes → Answer Proof} {ks part : Bytes} {size start : ℕ} {rest : Bytes} (w : Filling f ks size part start rest) where
+  module _ (key after : Bytes) (here : rest ≡ key ++ after) (whole : length key ≡ 32) where
+    -- the proof of the next key, and how far it reaches
     pub record Next : Type 0 where
       pub proof : Proof
-      pub is : f (key_at_lem ks at) ≡ accepted proof
+      pub is : f key ≡ accepted proof
       pub reaches : start + proof_length proof ≤ size
-      pub whole : length (key_at_lem ks at) ≡ 32
-      pub left : ℕ
-      pub here : Left ks left (at + 32)
+      pub fits : {len : ℕ} → len ≤ 17080 → start + len ≤ 4372480
+      pub less : ℕ
+      pub one : w.count ≡ less + 1
+      pub left : Left less after
       pub later : List Proof
-      pub are : answers_from f ks left (at + 32) ≡ accepted later
+      pub are : answers_from f less after ≡ accepted later
       pub sum : start + proof_length proof + length_together later ≡ size
       pub filled : together_bytes (in_turn f (keys_in ks)) ≡ take start part ++ (proof_bytes proof ++ proofs_bytes later)
 
     pub next : Next
     next =
-        let t = turn f ks w.count at w.left h in
-        let x = answers_from f ks t.after (at + 32) in
-        let p = parted (f (key_at_lem ks at)) x w.todo (ap together_length (sym t.rest) ∙ w.sums) in
+        let t = turn f w.count rest key after w.left here whole in
+        let x = answers_from f t.less after in
+        let p = parted (f key) x w.todo (ap together_length (sym t.answers) ∙ w.sums) in
         let sum : start + proof_length p.proof + length_together p.later ≡ size = omega (arith, p.sum, w.fits) in
         record {
           proof = p.proof;
           is = p.is;
           reaches = omega arith;
-          whole = t.whole;
-          left = t.after;
-          here = t.left;
+          fits = λ few. omega (arith, w.few, t.one);
+          less = t.less;
+          one = t.one;
+          left = t.left;
           later = p.later;
           are = p.are;
           sum = sum;
-          filled = w.filled ∙ ap (λ a. take start part ++ together_bytes a) (t.rest ∙ ap₂ followed p.is p.are);
+          filled = w.filled ∙ ap (λ a. take start part ++ together_bytes a) (t.answers ∙ ap₂ followed p.is p.are);
         }
 
     pub filling_next : {len : ℕ} (n : Next) (y : Bytes) → len ≡ proof_length n.proof → len ≤ 17080 → length y ≡ length (take (start + len - start) (drop start part)) →
-        y ≡ proof_bytes n.proof → Filling f ks size (given start (start + len) part y) (start + len) (at + 32)
+        y ≡ proof_bytes n.proof → Filling f ks size (given start (start + len) part y) (start + len) after
     filling_next {len} n y l short ly e =
         let reach : start + len ≤ length part = omega (arith, n.reaches, w.long) in
         let its : length y ≡ len = ly ∙ part_room start (start + len) len part refl reach in
         record {
-          count = n.left;
-          left = n.here;
+          count = n.less;
+          left = n.left;
           long = given_long start (start + len) part y (omega arith) reach ly ∙ w.long;
           todo = length_together n.later;
           sums = ap together_length n.are;
           fits = omega (arith, n.sum);
-          few = omega (arith, w.few);
+          few = omega (arith, w.few, n.one);
           filled = n.filled
               ∙ ap (λ b. take start part ++ (b ++ proofs_bytes n.later)) (sym e)
               ∙ sym (append_assoc (take start part) y (proofs_bytes n.later))
               ∙ ap₂ ◌++◌ (sym (front_then start len part y (omega arith) its)) (ap together_bytes (sym n.are));
         }
 
-  pub filling_done : length ks ≤ at → part ≡ together_bytes (in_turn f (keys_in ks))
+  pub filling_done : length rest < 32 → part ≡ together_bytes (in_turn f (keys_in ks))
   filling_done h =
-      let none : answers_from f ks w.count at ≡ accepted [] = ap (λ (n : ℕ). answers_from f ks n at) (none_left ks w.count at w.left h) in
+      let none : answers_from f w.count rest ≡ accepted [] = ap (λ (n : ℕ). answers_from f n rest) (none_left w.left h) in
       let zero : w.todo ≡ 0 = ends w.todo (sym (ap together_length none) ∙ w.sums) in
       let all : length part ≤ start = omega (arith, w.long, w.fits) in
       sym (w.filled ∙ ap₂ ◌++◌ (take_all start part all) (ap together_bytes none) ∙ append-nil part)

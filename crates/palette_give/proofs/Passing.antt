@@ -4,9 +4,9 @@ use native.Mathlib.Omega.{arith}
 use native.Mathlib.Nat.{add-zero, zero-add}
 use mathlib.Core.Path.{◌≡◌, refl, ap, ap₂, sym, ◌∙◌}
 use mathlib.Core.Bool.{true}
-use mathlib.Core.List.{List}
-use lib.ListN.{length, take, drop, length-take, length-drop}
-use lib.Seq.{drop-drop}
+use mathlib.Core.List.{List, ◌++◌}
+use lib.ListN.{length, take, drop, length-append}
+use lib.Seq.{take_at, drop_at}
 use Rattle.terms.specs.Bits.{Bytes}
 use Rattle.terms.specs.Records.{Proof}
 use Rattle.meaning.specs.Calls.{Answer, refused, accepted}
@@ -15,43 +15,41 @@ use Rattle.palette_rules.specs.Palette.{whole_keys, keys_from, keys_in, followed
 use Rattle.palette_rules.proofs.Keys.{whole_list}
 use Rattle.palette_give.specs.Together.{together_length}
 
--- the key at a byte of the list, as a part of it, and the answers from that key on
-abbrev pub key_at_lem : Bytes → ℕ → Bytes
-key_at_lem ks at = take (at + 32 - at) (drop at ks)
+-- the answers for the keys that are left
+abbrev pub answers_from : (Bytes → Answer Proof) → ℕ → Bytes → Answer (List Proof)
+answers_from f n rest = in_turn f (keys_from n rest)
 
-abbrev pub answers_from : (Bytes → Answer Proof) → Bytes → ℕ → ℕ → Answer (List Proof)
-answers_from f ks n at = in_turn f (keys_from n (drop at ks))
+-- so many keys are left
+pub record Left (n : ℕ) (rest : Bytes) : Type 0 where
+  pub here : length rest ≡ 32 * n
+  pub short : n ≤ 256
 
--- so many keys are left from a byte of the list on
-pub record Left (ks : Bytes) (n at : ℕ) : Type 0 where
-  pub here : at + 32 * n ≡ length ks
-  pub short : length ks ≤ 8192
-
-pub left_start : (ks : Bytes) → whole_keys ks ≡ true → Left ks (length ks / 32) 0
+pub left_start : (ks : Bytes) → whole_keys ks ≡ true → Left (length ks / 32) ks
 left_start ks e = let w = whole_list ks e in let a = w.whole in let b = w.few in record { here = omega arith; short = omega arith }
 
--- one key more, while the list goes on
-pub record Turn (f : Bytes → Answer Proof) (ks : Bytes) (n at : ℕ) : Type 0 where
-  pub after : ℕ
-  pub left : Left ks after (at + 32)
-  pub whole : length (key_at_lem ks at) ≡ 32
-  pub rest : answers_from f ks n at ≡ followed (f (key_at_lem ks at)) (answers_from f ks after (at + 32))
+-- one key more, and those after it
+pub record Turn (f : Bytes → Answer Proof) (n : ℕ) (rest key later : Bytes) : Type 0 where
+  pub less : ℕ
+  pub left : Left less later
+  pub one : n ≡ less + 1
+  pub answers : answers_from f n rest ≡ followed (f key) (answers_from f less later)
 
-pub turn : (f : Bytes → Answer Proof) (ks : Bytes) (n at : ℕ) → Left ks n at → at < length ks → Turn f ks n at
-turn f ks zero at w h = absurd (omega (arith, w.here))
-turn f ks (suc n) at w h =
-    let here : at + 32 + 32 * n ≡ length ks = omega (arith, w.here) in
-    let long : length (key_at_lem ks at) ≡ 32 = simp (length-take, length-drop) (omega arith) in
-    let size : 32 ≡ at + 32 - at = omega arith in
+pub turn : (f : Bytes → Answer Proof) (n : ℕ) (rest key later : Bytes) → Left n rest → rest ≡ key ++ later → length key ≡ 32 → Turn f n rest key later
+turn f zero rest key later w e l = absurd (omega (arith, w.here, ap length e, length-append key later, l))
+turn f (suc n) rest key later w e l =
+    let here : length later ≡ 32 * n = omega (arith, w.here, ap length e, length-append key later, l) in
+    let less : n ≤ 256 = omega (arith, w.short) in
     record {
-      after = n;
-      left = record { here = here; short = w.short };
-      whole = long;
-      rest = ap₂ followed (ap (λ (m : ℕ). f (take m (drop at ks))) size) (ap (λ l. in_turn f (keys_from n l)) (drop-drop 32 at ks));
+      less = n;
+      left = record { here = here; short = less };
+      one = omega arith;
+      answers =
+          ap (λ x. followed (f (take 32 x)) (in_turn f (keys_from n (drop 32 x)))) e
+          ∙ ap₂ (λ k x. followed (f k) (in_turn f (keys_from n x))) (take_at key later 32 l) (drop_at key later 32 l);
     }
 
-pub none_left : (ks : Bytes) (n at : ℕ) → Left ks n at → length ks ≤ at → n ≡ 0
-none_left ks n at w h = omega (arith, w.here)
+pub none_left : {n : ℕ} {rest : Bytes} → Left n rest → length rest < 32 → n ≡ 0
+none_left w h = omega (arith, w.here)
 
 -- lengths so far, and those to come
 abbrev more : ℕ → Answer ℕ → Answer ℕ
@@ -67,47 +65,50 @@ more_next : {len : ℕ} (m : ℕ) (p : Proof) (a : Answer (List Proof)) → len 
 more_next m p (refused n) e = refl
 more_next m p (accepted ps) e = ap accepted (omega arith)
 
--- the pass has come to a byte of the list, and the proofs before it have so many bytes
-pub record Measuring (f : Bytes → Answer Proof) (ks : Bytes) (total at : ℕ) : Type 0 where
+-- the keys that are left, where the proofs of those before have so many bytes
+pub record Measuring (f : Bytes → Answer Proof) (ks : Bytes) (total : ℕ) (rest : Bytes) : Type 0 where
   pub count : ℕ
-  pub left : Left ks count at
-  pub sums : together_length (in_turn f (keys_in ks)) ≡ more total (together_length (answers_from f ks count at))
-  pub few : 32 * total ≤ 17080 * at
+  pub left : Left count rest
+  pub sums : together_length (in_turn f (keys_in ks)) ≡ more total (together_length (answers_from f count rest))
+  pub few : total + 17080 * count ≤ 4372480
 
-pub measuring_starts : (f : Bytes → Answer Proof) (ks : Bytes) → whole_keys ks ≡ true → Measuring f ks 0 0
+pub measuring_starts : (f : Bytes → Answer Proof) (ks : Bytes) → whole_keys ks ≡ true → Measuring f ks 0 ks
 unfolding keys_in
 measuring_starts f ks e = record {
   count = length ks / 32;
   left = left_start ks e;
   sums = more_none (together_length (in_turn f (keys_from (length ks / 32) ks)));
-  few = omega arith;
+  few = omega (arith, (left_start ks e).short);
 }
 
-module _ {f : Bytes → Answer Proof} {ks : Bytes} {total at : ℕ} (w : Measuring f ks total at) where
-  module _ (h : at < length ks) where
-    pub its_turn : Turn f ks w.count at
-    its_turn = turn f ks w.count at w.left h
+module _ {f : Bytes → Answer Proof} {ks : Bytes} {total : ℕ} {rest : Bytes} (w : Measuring f ks total rest) where
+  module _ (key later : Bytes) (here : rest ≡ key ++ later) (whole : length key ≡ 32) where
+    its_turn : Turn f w.count rest key later
+    its_turn = turn f w.count rest key later w.left here whole
 
-    pub measuring_refused : {n : ℕ} → f (key_at_lem ks at) ≡ refused n → refused n ≡ together_length (in_turn f (keys_in ks))
+    pub measuring_fits : {len : ℕ} → len ≤ 17080 → total + len ≤ 4372480
+    measuring_fits few = omega (arith, w.few, its_turn.one)
+
+    pub measuring_refused : {n : ℕ} → f key ≡ refused n → refused n ≡ together_length (in_turn f (keys_in ks))
     measuring_refused e =
-        let t = turn f ks w.count at w.left h in
-        sym (w.sums ∙ ap (λ a. more total (together_length a)) (t.rest ∙ ap (λ a. followed a (answers_from f ks t.after (at + 32))) e))
+        let t = its_turn in
+        sym (w.sums ∙ ap (λ a. more total (together_length a)) (t.answers ∙ ap (λ a. followed a (answers_from f t.less later)) e))
 
-    pub measuring_next : {len : ℕ} (p : Proof) → f (key_at_lem ks at) ≡ accepted p → len ≡ proof_length p → len ≤ 17080 → Measuring f ks (total + len) (at + 32)
+    pub measuring_next : {len : ℕ} (p : Proof) → f key ≡ accepted p → len ≡ proof_length p → len ≤ 17080 → Measuring f ks (total + len) later
     measuring_next {len} p e l few =
-        let t = turn f ks w.count at w.left h in
-        let x = answers_from f ks t.after (at + 32) in
+        let t = its_turn in
+        let x = answers_from f t.less later in
         record {
-          count = t.after;
+          count = t.less;
           left = t.left;
           sums = w.sums
-              ∙ ap (λ a. more total (together_length a)) (t.rest ∙ ap (λ a. followed a x) e)
+              ∙ ap (λ a. more total (together_length a)) (t.answers ∙ ap (λ a. followed a x) e)
               ∙ more_next total p x l;
-          few = omega (arith, w.few);
+          few = omega (arith, w.few, t.one);
         }
 
-  pub measuring_done : length ks ≤ at → accepted total ≡ together_length (in_turn f (keys_in ks))
+  pub measuring_done : length rest < 32 → accepted total ≡ together_length (in_turn f (keys_in ks))
   measuring_done h =
       sym (w.sums
-      ∙ ap (λ (n : ℕ). more total (together_length (answers_from f ks n at))) (none_left ks w.count at w.left h)
+      ∙ ap (λ (n : ℕ). more total (together_length (answers_from f n rest))) (none_left w.left h)
       ∙ ap accepted (add-zero total))

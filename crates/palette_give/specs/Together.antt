@@ -1,6 +1,6 @@
 -- What the helpers of a palette promise each other: what is planned for its keys together, how long that is, what is
 -- given. No public promise reaches this file. Assumes nothing.
-use Rattle.std.specs.Prelude.{ℕ, ◌≡◌, List, []}
+use Rattle.std.specs.Prelude.{ℕ, ◌≡◌, List, [], Result}
 use Rattle.terms.specs.Bits.{Bytes}
 use Rattle.terms.specs.Records.{Proof}
 use Rattle.meaning.specs.Calls.{Answer, refused, accepted}
@@ -12,7 +12,7 @@ use Rattle.indexed.specs.Index.{by_table}
 use Rattle.layout.specs.Stores.{store_of}
 use Rattle.palette_rules.specs.Palette.{keys_in, in_turn, length_together}
 use Rattle.prove.specs.Parts.{proved_says}
-use Rattle.prove.specs.declared.Proved as declared
+use Rattle.refusal_numbers.specs.declared.ReadRefusal.{ReadRefusal}
 use Rattle.contracts.specs.Palettes.{proofs_bytes}
 
 -- What is planned for a key in a kept version, and for each key of a list.
@@ -32,6 +32,6 @@ together_bytes (refused n) = []
 together_bytes (accepted ps) = proofs_bytes ps
 
 -- The answer and the room afterwards are those of the answer a.
-pub record Gives (a : Answer (List Proof)) (room after : Bytes) (r : declared.Proved) : Type 0 where
+pub record Gives (a : Answer (List Proof)) (room after : Bytes) (r : Result ℕ ReadRefusal) : Type 0 where
   pub answer : proved_says r ≡ together_length a
   pub bytes : after ≡ room_after proofs_bytes a room

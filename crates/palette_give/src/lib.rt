@@ -11,31 +11,29 @@ ghost use Rattle.prove.specs.Parts.{proved_says};
 ghost use Rattle.palette_give.specs.Together.{planned_in, together_length, together_bytes, Gives};
 
 use key_list::KEY_SIZE;
-use prove::Proved;
 use prove_plan::plan_of;
-use prove_shape::Shape;
 use prove_write::write;
-use refusal_numbers::wide::NO_ROOM;
+use refusal_numbers::{ReadRefusal, Refusal};
 use terms::Form;
 
 // How long all proofs are together, or the first refusal in the order asked.
-fn measure(store: &[u8], index: &[u32], kids: &[u16], version: u32, keys: &[u8]) -> Proved
+fn measure(
+    store: &[u8],
+    index: &[u32],
+    kids: &[u16],
+    version: u32,
+    keys: &[u8],
+) -> Result<u32, ReadRefusal>
     requires { (size_right Form.Counted (length store.now) ≡ true) × (whole_keys keys.now ≡ true) × Led (store_of store.now) index.now kids.now }
     ensures { proved_says result ≡ together_length (planned_in store.now index.now version keys.now) }
 {
     let mut total = 0;
-    let mut at = 0;
-    while at < keys.len() {
-        let end = at + KEY_SIZE;
-        let plan = plan_of(store, index, kids, version, &keys[at..end]);
-        let shape = plan.shape;
-        if let Shape::Refused(n) = shape {
-            return Proved::Refused(n);
-        }
+    for key in keys.chunks_exact(KEY_SIZE) {
+        let plan = plan_of(store, index, kids, version, key);
+        plan.shape?;
         total += plan.length;
-        at = end;
     }
-    Proved::Length(total as u32)
+    Ok(total as u32)
 }
 
 // Writes the proofs one after the other into a part that is as long as all together.
@@ -44,15 +42,11 @@ fn fill(part: &mut [u8], store: &[u8], index: &[u32], kids: &[u16], version: u32
     ensures { part.new ≡ together_bytes (planned_in store.now index.now version keys.now) }
 {
     let mut start = 0;
-    let mut at = 0;
-    while at < keys.len() {
-        let end = at + KEY_SIZE;
-        let key = &keys[at..end];
+    for key in keys.chunks_exact(KEY_SIZE) {
         let plan = plan_of(store, index, kids, version, key);
         let next = start + plan.length;
         write(&mut part[start..next], store, key, plan);
         start = next;
-        at = end;
     }
 }
 
@@ -65,16 +59,16 @@ fn give(
     keys: &[u8],
     len: u32,
     room: &mut [u8],
-) -> Proved
+) -> Result<u32, ReadRefusal>
     requires { (size_right Form.Counted (length store.now) ≡ true) × (whole_keys keys.now ≡ true) × (together_length (planned_in store.now index.now version keys.now) ≡ accepted len) × Led (store_of store.now) index.now kids.now }
     ensures { Gives (fitted_together (length room.old) (planned_in store.now index.now version keys.now)) room.old room.new result }
 {
     let end = len as usize;
     if room.len() < end {
-        return Proved::Refused(NO_ROOM);
+        return Err(ReadRefusal::Plain(Refusal::NoRoom));
     }
     fill(&mut room[0..end], store, index, kids, version, keys);
-    Proved::Length(len)
+    Ok(len)
 }
 
 // Measures, and then gives.
@@ -85,13 +79,10 @@ pub fn give_measured(
     version: u32,
     keys: &[u8],
     room: &mut [u8],
-) -> Proved
+) -> Result<u32, ReadRefusal>
     requires { (size_right Form.Counted (length store.now) ≡ true) × (whole_keys keys.now ≡ true) × Led (store_of store.now) index.now kids.now }
     ensures { Gives (fitted_together (length room.old) (planned_in store.now index.now version keys.now)) room.old room.new result }
 {
-    let measured = measure(store, index, kids, version, keys);
-    match measured {
-        Proved::Refused(n) => Proved::Refused(n),
-        Proved::Length(len) => give(store, index, kids, version, keys, len, room),
-    }
+    let len = measure(store, index, kids, version, keys)?;
+    give(store, index, kids, version, keys, len, room)
 }

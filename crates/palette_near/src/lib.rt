@@ -11,7 +11,6 @@ ghost use Rattle.read_near.specs.Near.{Led};
 ghost use Rattle.palette_near.specs.Near.{LedBy};
 
 use index_sights::look_by;
-use lookup::Found;
 use place::{Place, child_place, key_bit};
 use read_step::{Seen, child_version, root};
 use sights::Sight;
@@ -78,6 +77,7 @@ fn follow(store: &[u8], index: &[u32], kids: &mut [u16; 32768], n: usize, root: 
 {
     let mut i = root;
     let mut place = Place::top();
+    // Down the tree, which is no count: the place grows by itself.
     while place.count < 256 {
         if n <= i {
             return;
@@ -105,10 +105,7 @@ pub fn follow_all(store: &[u8], index: &[u32], kids: &mut [u16; 32768], version:
     let Seen::Inner(i) = seen else {
         return;
     };
-    let mut at = 0;
-    while at + KEY_SIZE <= keys.len() {
-        let end = at + KEY_SIZE;
-        follow(store, index, kids, n, i, &keys[at..end]);
-        at = end;
+    for key in keys.chunks_exact(KEY_SIZE) {
+        follow(store, index, kids, n, i, key);
     }
 }

@@ -12,6 +12,9 @@ use lib.Dec.{eqb}
 use lib.Arith.{mod-mul}
 use lib.Pow.{pow_pos}
 use borrow.Author.Tests.{eqb-true, eqb-false, eq-eqb, ne_eqb}
+use Rattle.std.specs.Bool.{MatchBool}
+use Rattle.std.specs.Cmp.Lexicographic.{pointwise}
+use Rattle.std.specs.List.{AllWithin, HoldsAt}
 use Rattle.terms.specs.Bits.{Bytes, Byte, All, bits, byte_bits, odd, bit, prefix, none_set}
 use Rattle.terms.proofs.Tests.{and_assoc, and_true}
 use Rattle.terms.proofs.Lists.{all_at}
@@ -127,19 +130,24 @@ module _ (p k : Bytes) (n i : ℕ) (hp : i < length p) (hk : i < length k) (bp :
       let e : n - 8 * i - 8 ≡ n - 8 * (i + 1) = omega arith in
       here ∙ byte_whole (get_or p i 0) (get_or k i 0) _ _ (n - 8 * i) byte bk (omega arith) ∙ rw (e, add-one)
 
-  -- a byte that agrees
-  pub begins_next : i < n / 8 → get_or k i 0 ≡ get_or p i 0 → rest_begins p k n i ≡ rest_begins p k n (i + 1)
-  begins_next h e = whole h ∙ rw (eq-eqb (get_or k i 0) (get_or p i 0) e)
-
-  -- one that does not
-  pub begins_off : i < n / 8 → (get_or k i 0 ≡ get_or p i 0 → ⊥) → rest_begins p k n i ≡ false
-  begins_off h f = whole h ∙ rw (ne_eqb (get_or k i 0) (get_or p i 0) f)
-
   -- the bits in the last byte
   pub begins_over : i ≡ n / 8 → rest_begins p k n i ≡ eqb (get_or k i 0 / 2 ^ (8 - n % 8)) (get_or p i 0 / 2 ^ (8 - n % 8))
   begins_over h =
       let f : 8 - (n - 8 * i) ≡ 8 - n % 8 = omega arith in
       here ∙ byte_part (get_or p i 0) (get_or k i 0) _ _ (n - 8 * i) byte bk (omega arith) ∙ rw f
+
+-- the whole bytes first, then what is left
+pub begins_front : (p k : Bytes) (n m i : ℕ) → i + m ≡ n / 8 → n / 8 ≤ length p → n / 8 ≤ length k → All Byte p → ((j : ℕ) → get_or k j 0 < 256) →
+    rest_begins p k n i ≡ pointwise eqb (take m (drop i k)) (take m (drop i p)) && rest_begins p k n (i + m)
+begins_front p k n zero i e hp hk bp bk = rw (add-zero i)
+begins_front p k n (suc m) i e hp hk bp bk =
+    let d : i + 1 + m ≡ i + suc m = omega arith in
+    let f = begins_front p k n m (i + 1) (omega arith) hp hk bp bk in
+    let a = pointwise eqb (take m (drop (i + 1) k)) (take m (drop (i + 1) p)) in
+    whole p k n i (omega arith) (omega arith) bp (bk i) (omega arith)
+    ∙ ap (eqb (get_or k i 0) (get_or p i 0) &&◌) (f ∙ ap (λ j. a && rest_begins p k n j) d)
+    ∙ sym (and_assoc (eqb (get_or k i 0) (get_or p i 0)) a (rest_begins p k n (i + suc m)))
+    ∙ rw (drop-cons k i 0 (omega arith), drop-cons p i 0 (omega arith), add-one i)
 
 -- no bit in the last byte
 pub begins_all : (p k : Bytes) (n i : ℕ) → i ≡ n / 8 → n % 8 ≡ 0 → rest_begins p k n i ≡ true
@@ -226,14 +234,31 @@ unused_first_off b n h f =
     ap none_set (unused_split b n) ∙ none_rest b (n / 8) (n % 8) h (omega arith) ∙ rw (ne_eqb (get_or b (n / 8) 0 * 2 ^ (n % 8) % 256) 0 f)
 
 -- the bytes after it
-pub unused_next : (b : Bytes) (i : ℕ) → i < length b → get_or b i 0 ≡ 0 → none_set (bits (drop i b)) ≡ none_set (bits (drop (i + 1) b))
+unused_next : (b : Bytes) (i : ℕ) → i < length b → get_or b i 0 ≡ 0 → none_set (bits (drop i b)) ≡ none_set (bits (drop (i + 1) b))
 unused_next b i h e = none_rest b i 0 h (omega arith) ∙ rw (eq-eqb (get_or b i 0 * 1 % 256) 0 (omega arith))
 
-pub unused_off : (b : Bytes) (i : ℕ) → i < length b → get_or b i 0 < 256 → (get_or b i 0 ≡ 0 → ⊥) → none_set (bits (drop i b)) ≡ false
+unused_off : (b : Bytes) (i : ℕ) → i < length b → get_or b i 0 < 256 → (get_or b i 0 ≡ 0 → ⊥) → none_set (bits (drop i b)) ≡ false
 unused_off b i h l f = none_rest b i 0 h (omega arith) ∙ rw (ne_eqb (get_or b i 0 * 1 % 256) 0 (λ e. f (omega arith)))
 
-pub unused_end : (b : Bytes) (i : ℕ) → length b ≤ i → none_set (bits (drop i b)) ≡ true
-unused_end b i h = rw (drop_of_length-le b {i = i} h)
+unset_each : (t : Bytes) → ((k : ℕ) → k < length t → get_or t k 0 ≡ 0) → true ≡ none_set (bits t)
+unset_each [] h = refl
+unset_each (x ∷ t) h = unset_each t (λ k l. h (suc k) (omega arith)) ∙ sym (unused_next (x ∷ t) 0 (omega arith) (h 0 (omega arith)))
+
+unset_not : (t : Bytes) → ((k : ℕ) → get_or t k 0 < 256) → (k : ℕ) → k < length t → (get_or t k 0 ≡ 0 → ⊥) → false ≡ none_set (bits t)
+unset_not [] b k h f = absurd (omega arith)
+unset_not (x ∷ t) b zero h f = sym (unused_off (x ∷ t) 0 h (b 0) f)
+unset_not (x ∷ t) b (suc k) h f =
+    let e = unset_not t (λ j. b (suc j)) k (omega arith) f in
+    sym (none_rest (x ∷ t) 0 0 (omega arith) (omega arith) ∙ rw (← e) (and_false (eqb (x * 1 % 256) 0)))
+  where
+    and_false : (b : Bool) → b && false ≡ false
+    and_false true = refl
+    and_false false = refl
+
+-- whether zero bytes are all that there is
+pub unset_by_cases : (t : Bytes) (r : Bool) → ((k : ℕ) → get_or t k 0 < 256) → MatchBool r (AllWithin (λ x. x ≡ 0) t 0 (length t)) ((k : ℕ) × (k < length t) × HoldsAt (λ x. x ≡ 0 → ⊥) t k) → r ≡ none_set (bits t)
+unset_by_cases t true b h = unset_each t (λ k l. h k 0 (omega arith) l)
+unset_by_cases t false b h = unset_not t b h.0 h.1 (h.2 0)
 
 -- no byte holds an unused bit
 pub unused_none : (b : Bytes) (n : ℕ) → length b ≤ n / 8 → none_set (drop n (bits b)) ≡ true

@@ -5,15 +5,13 @@ use native.Mathlib.Omega.{arith}
 use mathlib.Core.Path.{◌≡◌, refl, ap, ap₂, sym, ◌∙◌}
 use mathlib.Core.Bool.{Bool, true, false, ◌&&◌}
 use mathlib.Core.List.{[], ◌∷◌, ◌++◌}
-use lib.ListN.{length, get_or, take, drop, set, length-set, length-take, length-drop, drop_of_length-le, get_or-append, get_or-eq_default}
-use lib.Seq.{drop-append-le, get_or-append-add, ext_get_or, get_or-set_same, get_or-set_other}
+use lib.ListN.{length, get_or, take, drop, set, length-take, length-drop, drop_of_length-le, get_or-append, get_or-eq_default}
+use lib.Seq.{drop-append-le, get_or-append-add}
 use lib.Bits.{bit_or}
 use lib.Dec.{eqb, ltb}
-use borrow.Author.Count.{below_more}
 use borrow.Author.Tests.{eqb-true, ltb-true, ltb-false}
 use Rattle.terms.specs.Bits.{Bytes, Byte, All, Side, Place, bits, longer, pack, packed, none_set}
 use Rattle.terms.proofs.Tests.{and_left, and_right}
-use Rattle.terms.proofs.Lists.{all_of}
 use Rattle.terms.proofs.Places.{length_bits, length_pack, length_longer, pack_bytes, pack_ext, pack_place, place_packed}
 use Rattle.place.specs.declared.Place as declared
 use Rattle.place.specs.Place.{place_of, Proper, Stands, Grown}
@@ -150,28 +148,3 @@ pub with_bit_lem : (p : declared.Place) → Proper p → p.count < 256 → with_
 with_bit_lem p w h =
     let n = proper_count p w in
     ap₂ with_bit w.trimmed (sym n) ∙ pack_right 32 (place_of p) (omega arith)
-
--- the first i bytes of y are copied to x
-pub record Copied (x y : Bytes) (i : ℕ) : Type 0 where
-  pub within : i ≤ 32
-  pub whole : length x ≡ 32
-  pub same : (k : ℕ) → k < i → get_or x k 0 ≡ get_or y k 0
-  pub bytes : (k : ℕ) → k < i → get_or y k 0 < 256
-
-pub copied_next : (x y : Bytes) (i : ℕ) → Copied x y i → i < 32 → get_or y i 0 < 256 → Copied (set x i (get_or y i 0)) y (i + 1)
-copied_next x y i c h b =
-    let l : i < length x = omega (arith, c.whole) in
-    record {
-      within = omega arith;
-      whole = length-set x i (get_or y i 0) ∙ c.whole;
-      same = below_more _ i (λ k m. get_or-set_other x i k (get_or y i 0) 0 (λ e. omega arith) ∙ c.same k m) (get_or-set_same x i (get_or y i 0) 0 l);
-      bytes = below_more _ i c.bytes b;
-    }
-
--- all 32 are copied
-pub copied_place : (x y : Bytes) (i n : ℕ) → Copied x y i → 32 ≤ i → length y ≡ 32 → n ≤ 256 → none_set (drop n (bits y)) ≡ true → Stands (take n (bits y)) n (record { bits = x; count = n })
-copied_place x y i n c h l k z =
-    let w = c.whole in
-    let e : x ≡ y = ext_get_or 0 x y (w ∙ sym l) (λ j m. c.same j (omega arith)) in
-    let b : All Byte y = all_of Byte y 0 (λ j m. c.bytes j (omega arith)) in
-    stands_at y n (record { bits = x; count = n }) l b k z e refl

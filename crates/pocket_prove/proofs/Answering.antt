@@ -8,7 +8,7 @@ use borrow.Author.Tests.{eq-eqb, ne_eqb}
 use Rattle.terms.specs.declared.Form.TheVariants.{Counted as counted}
 use Rattle.terms.specs.Bits.{Bytes}
 use Rattle.terms.specs.Records.{Proof}
-use Rattle.meaning.specs.Calls.{Answer, refused, is_kept}
+use Rattle.meaning.specs.Calls.{Answer, refused, accepted, is_kept}
 use Rattle.meaning.specs.Sight.{scan}
 use Rattle.meaning.specs.Reading.{seen}
 use Rattle.meaning.specs.Proving.{prove_seen, fitted}
@@ -17,17 +17,19 @@ use Rattle.indexed.specs.Index.{by_table}
 use Rattle.indexed.proofs.Scanned.{without_table}
 use Rattle.layout.specs.Headers.{size_right, header_of}
 use Rattle.layout.specs.Stores.{store_of}
-use Rattle.read_open.specs.Opening.{opened, opened_says}
+use Rattle.read_open.specs.Opening.{opened}
 use Rattle.promises.specs.Headed.{by_header}
-use Rattle.read_open.specs.declared.Opened as declared-opened
-use Rattle.read_open.specs.declared.Opened.TheVariants as first
 use Rattle.read_open.proofs.Opening as opening
 use Rattle.pocket.specs.Pocket.{in_profile, pocket_prove}
 use Rattle.prove_shape.specs.Plans.{plan_says, Plans}
 use Rattle.prove_shape.specs.declared.Plan as declared-plan
 use Rattle.prove.specs.Parts.{Gives}
-use Rattle.prove.specs.declared.Proved as declared
-use Rattle.prove.specs.declared.Proved.TheVariants.{Refused}
+use Rattle.std.specs.Prelude.{Result, Err}
+use Rattle.refusal_numbers.specs.Refusals.{number}
+use Rattle.refusal_numbers.specs.declared.Refusal.{Refusal}
+use Rattle.refusal_numbers.specs.declared.Refusal.TheVariants.{Not32Bytes, OutsidePocket}
+use Rattle.refusal_numbers.specs.declared.ReadRefusal.{ReadRefusal}
+use Rattle.refusal_numbers.specs.declared.ReadRefusal.TheVariants.{Plain}
 use Rattle.prove.proofs.Giving.{gives_refusal}
 use Rattle.pocket_prove.specs.Parts.{plan_outside}
 use Rattle.contracts.specs.Pocket.{pocket_answer}
@@ -38,9 +40,9 @@ fitted_kept n true a = refl
 fitted_kept n false a = refl
 
 -- 12
-pub wrong_key : (s : Bytes) (v : ℕ) (k room : Bytes) → (length k ≡ 32 → ⊥) → Gives (pocket_answer s v k (length room)) room room (Refused 12)
+pub wrong_key : (s : Bytes) (v : ℕ) (k room : Bytes) → (length k ≡ 32 → ⊥) → Gives (pocket_answer s v k (length room)) room room (Err (Plain Not32Bytes))
 unfolding pocket_answer
-wrong_key s v k room f = gives_refusal 12 room (rw (ne_eqb (length k) 32 f) refl)
+wrong_key s v k room f = gives_refusal (Plain Not32Bytes) room (rw (ne_eqb (length k) 32 f) refl)
 
 module _ (s : Bytes) (v : ℕ) (k room : Bytes) (whole : length k ≡ 32) where
   abbrev planned : Answer Proof
@@ -54,28 +56,27 @@ module _ (s : Bytes) (v : ℕ) (k room : Bytes) (whole : length k ≡ 32) where
       ∙ ap (by_header (header_of counted s)) (fitted_kept (length room) (is_kept (store_of s) v) planned)
 
   -- 1, 2, 8
-  pub first_refused : {o : declared-opened.Opened} (n : ℕ) → opened_says o ≡ opened s v → o ≡ first.Refused n →
-      Gives (pocket_answer s v k (length room)) room room (Refused n)
-  first_refused n says e =
-      gives_refusal n room
-      (opened_first ∙ sym (opening.refused_first (fitted (length room) (in_profile planned)) s v (sym (ap opened_says e) ∙ says)))
+  pub first_refused : (r : Refusal) → refused (number r) ≡ opened s v → Gives (pocket_answer s v k (length room)) room room (Err (Plain r))
+  first_refused r e =
+      gives_refusal (Plain r) room
+      (opened_first ∙ sym (opening.refused_first (fitted (length room) (in_profile planned)) s v e))
 
-  module _ {o : declared-opened.Opened} {x : declared-plan.Plan} (says : opened_says o ≡ opened s v) (e : o ≡ first.Kept)
+  module _ {x : declared-plan.Plan} (e : accepted tt ≡ opened s v)
       (plan : Plans s k (prove_seen k (seen (by_table [] (store_of s)) v)) x) where
     by_plan : pocket_answer s v k (length room) ≡ fitted (length room) (in_profile (plan_says s k x))
     by_plan =
-        opened_first ∙ opening.rest_decides (fitted (length room) (in_profile planned)) s v (sym (ap opened_says e) ∙ says)
+        opened_first ∙ opening.rest_decides (fitted (length room) (in_profile planned)) s v e
         ∙ ap (λ look. fitted (length room) (in_profile (prove_seen k (seen look v)))) (sym (without_table (store_of s)))
         ∙ ap (λ a. fitted (length room) (in_profile a)) (sym plan.says)
 
     -- 19
-    pub outside_refused : plan_outside x ≡ true → Gives (pocket_answer s v k (length room)) room room (Refused 19)
-    outside_refused h = gives_refusal 19 room (by_plan ∙ ap (fitted (length room)) (outside_plan s k x h))
+    pub outside_refused : plan_outside x ≡ true → Gives (pocket_answer s v k (length room)) room room (Err (Plain OutsidePocket))
+    outside_refused h = gives_refusal (Plain OutsidePocket) room (by_plan ∙ ap (fitted (length room)) (outside_plan s k x h))
 
     -- 9, or the proof
-    pub inside_given : {after : Bytes} {r : declared.Proved} → plan_outside x ≡ false → Gives (fitted (length room) (plan_says s k x)) room after r →
+    pub inside_given : {after : Bytes} {r : Result ℕ ReadRefusal} → plan_outside x ≡ false → Gives (fitted (length room) (plan_says s k x)) room after r →
         Gives (pocket_answer s v k (length room)) room after r
     inside_given {after} {r} h g = subst (λ a. Gives a room after r) (sym (by_plan ∙ ap (fitted (length room)) (inside_plan s k x h))) g
 
-pub kept_size : {o : declared-opened.Opened} (s : Bytes) (v : ℕ) → opened_says o ≡ opened s v → o ≡ first.Kept → size_right counted (length s) ≡ true
-kept_size s v says e = opening.kept_size s v (sym (ap opened_says e) ∙ says)
+pub kept_size : (s : Bytes) (v : ℕ) → accepted tt ≡ opened s v → size_right counted (length s) ≡ true
+kept_size s v e = opening.kept_size s v e

@@ -6,17 +6,17 @@ ghost use Rattle.prove.specs.Parts.{Gives};
 ghost use Rattle.pocket_prove.specs.Parts.{way_short, one_long, plan_outside};
 ghost use Rattle.contracts.specs.Pocket.{pocket_answer, PocketProves};
 
-use fields::put_u32;
 use pocket::POCKET_STEPS;
-use prove::{Proved, give};
+use prove::give;
 use prove_paths::{Sought, Way};
 use prove_plan::plan_of;
 use prove_shape::{Plan, Shape};
-use read_open::{Opened, open};
-use refusal_numbers::NOT_32_BYTES;
-use refusal_numbers::wide::OUTSIDE_POCKET;
+use prove_told::told;
+use read_open::open;
+use refusal_numbers::{ReadRefusal, Refusal};
 
-// Whether the neighbour that a search found, if any, has at most 32 steps.
+// Whether the neighbour that a search found, if any, has at most 32 steps. It goes like `prove_paths::neighbour_length`, with other values in each case: one
+// function over both would be handed all of them.
 fn is_short(n: Sought) -> bool
     ensures { result ≡ way_short n.way n.path }
 {
@@ -50,26 +50,28 @@ fn is_outside(plan: Plan) -> bool
     let path = first.path;
     let place = path.place;
     match shape {
-        Shape::Refused(_) => false,
-        Shape::Presence => POCKET_STEPS < place.count,
-        Shape::Absence => one_is_long(first, second),
+        Err(_) => false,
+        Ok(Shape::Presence) => POCKET_STEPS < place.count,
+        Ok(Shape::Absence) => one_is_long(first, second),
     }
 }
 
 // Proves a key present or absent in a version by a proof of the profile: it fills the front of the room and the rest stays; refused, nothing is written.
-pub fn pocket_prove(store: &[u8], version: u32, key: &[u8], room: &mut [u8]) -> Proved
+pub fn pocket_prove(
+    store: &[u8],
+    version: u32,
+    key: &[u8],
+    room: &mut [u8],
+) -> Result<u32, ReadRefusal>
     ensures { Gives (pocket_answer store.now version key.now (length room.old)) room.old room.new result }
 {
     if key.len() != 32 {
-        return Proved::Refused(NOT_32_BYTES as u64);
+        return Err(ReadRefusal::Plain(Refusal::Not32Bytes));
     }
-    let opened = open(store, version);
-    if let Opened::Refused(n) = opened {
-        return Proved::Refused(n as u64);
-    }
+    open(store, version)?;
     let plan = plan_of(store, &[], &[], version, key);
     if is_outside(plan) {
-        return Proved::Refused(OUTSIDE_POCKET);
+        return Err(ReadRefusal::Plain(Refusal::OutsidePocket));
     }
     give(store, key, plan, room)
 }
@@ -86,11 +88,5 @@ pub fn grants_pocket_prove(
     ensures { PocketProves store.now version key.now room.old length.old result room.new length.new }
 {
     let proved = pocket_prove(store, version, key, room);
-    match proved {
-        Proved::Refused(n) => n,
-        Proved::Length(n) => {
-            put_u32(length, 0, n);
-            0
-        }
-    }
+    told(proved, length)
 }

@@ -12,7 +12,7 @@ use fields::get_u16;
 use neighbour_parts::{is_lone, left_part, lone_part, right_part};
 use pocket::POCKET_STEPS;
 use proofrecords::STEPS_AT;
-use refusal_numbers::{NOT_32_BYTES, OUTSIDE_POCKET};
+use refusal_numbers::Refusal;
 use verify_call::grants_verify;
 use verify_form::{is_absence, is_presence};
 
@@ -56,13 +56,13 @@ pub fn grants_pocket_verify(root: &[u8], key: &[u8], proof: &[u8], found: &mut [
     ensures { PocketVerifies root.now key.now proof.now found.old result found.new }
 {
     if root.len() != 32 {
-        return NOT_32_BYTES;
+        return Refusal::Not32Bytes.number();
     }
     if key.len() != 32 {
-        return NOT_32_BYTES;
+        return Refusal::Not32Bytes.number();
     }
     if is_outside(proof) {
-        return OUTSIDE_POCKET;
+        return Refusal::OutsidePocket.number();
     }
     grants_verify(root, key, proof, found)
 }

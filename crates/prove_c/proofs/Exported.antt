@@ -1,35 +1,17 @@
--- The number, the room and the four bytes, by the case of the answer. Assumes nothing.
+-- What is told of an answer: the number, the room and the four bytes. Assumes nothing.
 use Prim.Native.Nat.{ℕ}
-use mathlib.Core.Path.{◌≡◌, ap, sym, ◌∙◌}
+use mathlib.Core.Path.{◌≡◌, ap, ◌∙◌}
 use mathlib.Core.List.{List}
 use mathlib.Core.Option.{Option}
 use lib.ListN.{length}
 use Rattle.terms.specs.Bits.{Bytes}
-use Rattle.terms.specs.Fields.{le}
-use Rattle.fields.specs.Written.{written}
-use Rattle.fields.proofs.Written.{number_fills}
 use Rattle.terms.specs.Records.{Proof}
 use Rattle.meaning.specs.Calls.{Answer, refused}
 use Rattle.meaning.specs.Answers.{room_after}
-use Rattle.meaning.specs.Proving.{proof_length}
 use Rattle.proofrecords.specs.ProofBytes.{proof_bytes}
 use Rattle.contracts.specs.Proves.{prove_answer, ProvesBy}
-use Rattle.prove.specs.Parts.{length_answer, proved_says}
-use Rattle.prove.specs.declared.Proved as declared
-use Rattle.prove.specs.declared.Proved.TheVariants.{Refused, Length}
-use Rattle.meaning.proofs.Told.{told_refused, told_given, exported_as, exported_refusal}
+use Rattle.meaning.proofs.Told.{exported_as, exported_refusal}
 use Rattle.prove_c.specs.Export.{ProofTold}
-
-module _ {a : Answer Proof} {room after : Bytes} {r : declared.Proved} (says : proved_says r ≡ length_answer a) (bytes : after ≡ room_after proof_bytes a room) (old : Bytes) where
-  pub prove_refused : {n : ℕ} → r ≡ Refused n → ProofTold a room old n after old
-  unfolding proved_says
-  prove_refused {n} e =
-      record { exported = told_refused proof_length a n old (sym (ap proved_says e) ∙ says); proof = bytes }
-
-  pub prove_given : {n : ℕ} {new : Bytes} → r ≡ Length n → length old ≡ 4 → new ≡ written 0 (le 4 n) old → ProofTold a room old 0 after new
-  unfolding proved_says
-  prove_given {n} {new} e l w =
-      record { exported = told_given proof_length a n old new (sym (ap proved_says e) ∙ says) (w ∙ number_fills n old l); proof = bytes }
 
 -- what is told of an answer is told of its equal; and a refusal, which writes nothing
 pub proof_as : {a b : Answer Proof} {room f t g : Bytes} {r : ℕ} → a ≡ b → ProofTold a room f r t g → ProofTold b room f r t g

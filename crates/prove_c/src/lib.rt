@@ -6,10 +6,10 @@ ghost use Rattle.prove_c.specs.Export.{ProofTold};
 ghost use Rattle.contracts.specs.Proves.{Proves, ProvesBy};
 ghost use Rattle.prove_c.specs.Within.{proved_by};
 
-use fields::put_u32;
-use prove::{Proved, prove};
+use prove::prove;
+use prove_told::told;
 use read_open::as_many;
-use refusal_numbers::{NOT_32_BYTES, WRONG_SIZE};
+use refusal_numbers::Refusal;
 
 // The proof for a key in a version, by a table of any length, fills the front of the room; its length goes out in four bytes.
 fn prove_by(
@@ -23,13 +23,7 @@ fn prove_by(
     ensures { ProofTold (proved_by store.now index.now version key.now room.old) room.old length.old result room.new length.new }
 {
     let proved = prove(store, index, version, key, room);
-    match proved {
-        Proved::Refused(n) => n,
-        Proved::Length(n) => {
-            put_u32(length, 0, n);
-            0
-        }
-    }
+    told(proved, length)
 }
 
 // The proof for a key in a version, by scans.
@@ -45,7 +39,8 @@ pub fn grants_prove(
     prove_by(store, &[], version, key, room, length)
 }
 
-// The proof for a key in a version, by a table lent with the store (2026-05).
+// The proof for a key in a version, by a table lent with the store (2026-05). It goes like `read_c::get_indexed`, and is no plainer as one with it: the
+// read would be a closure, whose clause says again what this contract says.
 pub fn prove_indexed(
     store: &[u8],
     index: &[u32],
@@ -57,10 +52,10 @@ pub fn prove_indexed(
     ensures { ProvesBy store.now (some index.now) version key.now room.old length.old result room.new length.new }
 {
     if key.len() != 32 {
-        return NOT_32_BYTES as u64;
+        return u64::from(Refusal::Not32Bytes.number());
     }
     if !as_many(store, index) {
-        return WRONG_SIZE as u64;
+        return u64::from(Refusal::WrongSize.number());
     }
     prove_by(store, index, version, key, room, length)
 }

@@ -9,7 +9,7 @@ use Rattle.prove_paths.specs.declared.Way.TheVariants.{Stopped, Nobody, Somebody
 use Rattle.prove_paths.specs.declared.Sought as declared-sought
 use Prim.Native.Nat.{ℕ, ◌+◌}
 use Rattle.prove_trails.specs.Searches.{Finds}
-use Rattle.prove_shape.specs.Plans.{shape_says, plan_says, ShapeIn, Plans}
+use Rattle.prove_shape.specs.Plans.{shape_answer, shape_says, plan_says, ShapeIn, Plans}
 use Rattle.prove_shape.specs.Shapes.{absence_shape}
 use Rattle.prove_shape.specs.declared.Plan as declared
 
@@ -40,7 +40,7 @@ shape_in s Somebody Somebody p q a b e = ((a, b), e)
 
 -- the plan by both searches
 pub absence_planned : {x y : Sought} {m n : ℕ} (s k : Bytes) (p : declared.Plan) → Finds s x p.first → Finds s y p.second →
-    p.shape ≡ absence_shape p.first.way p.second.way → m ≡ room_for p.first → n ≡ room_for p.second → p.length ≡ 40 + m + n →
+    shape_answer p.shape ≡ absence_shape p.first.way p.second.way → m ≡ room_for p.first → n ≡ room_for p.second → p.length ≡ 40 + m + n →
     Plans s k (absence_from k x y) p
 unfolding plan_says
 absence_planned {x} {y} {m} {n} s k p f g e a b l = record {

@@ -54,10 +54,8 @@ fn put_steps(part: &mut [u8], store: &[u8], path: Path)
     let slots = path.slots;
     let place = path.place;
     let bits = place.bits;
-    let mut depth = place.count;
     let mut start = 0;
-    while 0 < depth {
-        depth -= 1;
+    for depth in (0..place.count).rev() {
         let end = start + STEP_SIZE;
         let i = slots[depth] as usize;
         put_step(&mut part[start..end], store, i, key_bit(&bits, depth));

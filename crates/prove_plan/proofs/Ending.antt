@@ -32,6 +32,9 @@ use Rattle.prove_trails.specs.declared.Walked as declared-walked
 use Rattle.prove_trails.proofs.Searches.{path_in_lem}
 use Rattle.prove_shape.specs.Plans.{plan_says, Plans}
 use Rattle.prove_shape.specs.declared.Shape.TheVariants as shape
+use Rattle.std.specs.Prelude.{Ok, Err}
+use Rattle.refusal_numbers.specs.Refusals.{code}
+use Rattle.refusal_numbers.specs.declared.ReadRefusal.{ReadRefusal}
 use Rattle.prove_shape.specs.declared.Plan as declared
 use Rattle.prove_neighbours.specs.Absence.{absent_from}
 use Rattle.prove_plan.specs.Parts.{ended, present_at, proved_at}
@@ -58,7 +61,7 @@ module _ {x l : Bytes} {d : Bool} (s : Bytes) (table : List ℕ) (k : Bytes) (w 
   pub another_key : {p : declared.Plan} → d ≡ false → Plans s k (absent_from s table k w) p → Plans s k (proved_at s table k w i) p
   another_key t g = plans_of (by_key_lem s table k w i false slot its e t) g
 
-  pub its_key : {p : declared.Plan} → d ≡ true → TrailIn s w.trail → w.trail.seen ≡ Leaf i → p ≡ ended w shape.Presence i (72 + 33 * w.trail.place.count) →
+  pub its_key : {p : declared.Plan} → d ≡ true → TrailIn s w.trail → w.trail.seen ≡ Leaf i → p ≡ ended w (Ok shape.Presence) i (72 + 33 * w.trail.place.count) →
       Plans s k (proved_at s table k w i) p
   unfolding plan_says
   its_key t h at q =
@@ -106,10 +109,10 @@ module _ (s : Bytes) (table : List ℕ) (v : ℕ) (k : Bytes) (w : declared-walk
   at_gap_lem e = prove_at Gap e ∙ ap₂ (absence_from k) (gap_neighbour left e) (gap_neighbour right e)
 
   -- the walk is stopped
-  pub ends_stopped : {p : declared.Plan} {n : ℕ} (t : declared-trouble.Trouble) → w.trail.seen ≡ Stopped t → n ≡ refusal_of (trouble_says t) →
-      p ≡ ended w (shape.Refused n) 0 0 → Plans s k (prove_seen k (seen (by_table table (store_of s)) v)) p
+  pub ends_stopped : {p : declared.Plan} (r : ReadRefusal) (t : declared-trouble.Trouble) → w.trail.seen ≡ Stopped t → code r ≡ refusal_of (trouble_says t) →
+      p ≡ ended w (Err r) 0 0 → Plans s k (prove_seen k (seen (by_table table (store_of s)) v)) p
   unfolding plan_says
-  ends_stopped t e f q =
+  ends_stopped r t e f q =
       subst (Plans s k (prove_seen k (seen (by_table table (store_of s)) v))) (sym q) (record { says = ap refused f ∙ sym (prove_at (Stopped t) e); within = tt })
 
   pub ends_at_leaf : {p : declared.Plan} (i : ℕ) → w.trail.seen ≡ Leaf i → Plans s k (proved_at s table k w i) p → Plans s k (prove_seen k (seen (by_table table (store_of s)) v)) p

@@ -1,5 +1,5 @@
 -- What the helpers of planning promise each other. No public promise reaches this file. Assumes nothing.
-use Rattle.std.specs.Prelude.{ℕ, cond, List}
+use Rattle.std.specs.Prelude.{ℕ, cond, List, Result}
 use Rattle.terms.specs.declared.Form.TheVariants.{Counted as counted}
 use Rattle.terms.specs.Bits.{Bytes, same_bytes}
 use Rattle.terms.specs.Records.{Proof, presence}
@@ -13,9 +13,10 @@ use Rattle.prove_trails.specs.declared.Walked as declared-walked
 use Rattle.prove_shape.specs.declared.Shape as declared-shape
 use Rattle.prove_shape.specs.declared.Plan as declared
 use Rattle.prove_neighbours.specs.Absence.{absent_from}
+use Rattle.refusal_numbers.specs.declared.ReadRefusal.{ReadRefusal}
 
 -- The plan that shows the end of a walk alone.
-abbrev pub ended : declared-walked.Walked → declared-shape.Shape → ℕ → ℕ → declared.Plan
+abbrev pub ended : declared-walked.Walked → Result declared-shape.Shape ReadRefusal → ℕ → ℕ → declared.Plan
 ended w shape i len = record {
   shape = shape;
   first = sought_of w.trail Somebody i;

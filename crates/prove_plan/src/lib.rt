@@ -21,12 +21,13 @@ use prove_paths::{Path, Sought, Way};
 use prove_shape::{Plan, Shape};
 use prove_trails::{Walked, walk};
 use read_step::{Seen, refusal};
+use refusal_numbers::ReadRefusal;
 use slots::key_of;
 use store::slot_of;
 use terms::Form;
 
 // The plan that shows the end of a walk, in slot i, alone.
-fn at_end(walked: Walked, shape: Shape, i: usize, length: usize) -> Plan
+fn at_end(walked: Walked, shape: Result<Shape, ReadRefusal>, i: usize, length: usize) -> Plan
     ensures { result ≡ ended walked shape i length }
 {
     let trail = walked.trail;
@@ -60,7 +61,7 @@ fn at_leaf(store: &[u8], index: &[u32], kids: &[u16], key: &[u8], walked: Walked
     let trail = walked.trail;
     let place = trail.place;
     let length = PRESENCE_HEAD + STEP_SIZE * place.count;
-    at_end(walked, Shape::Presence, i, length)
+    at_end(walked, Ok(Shape::Presence), i, length)
 }
 
 // Plans the proof of a key in a version that is kept, and finds by a table, or by the children that a call has guessed for itself.
@@ -73,8 +74,8 @@ pub fn plan_of(store: &[u8], index: &[u32], kids: &[u16], version: u32, key: &[u
     let seen = trail.seen;
     match seen {
         Seen::Stopped(trouble) => {
-            let number = refusal(trouble);
-            at_end(walked, Shape::Refused(number), 0, 0)
+            let refused = refusal(trouble);
+            at_end(walked, Err(refused), 0, 0)
         }
         Seen::Leaf(i) => at_leaf(store, index, kids, key, walked, i),
         // At a missing child: a walk doesn't end at an inner node.

@@ -76,11 +76,7 @@ pub fn walk(store: &[u8], index: &[u32], kids: &[u16], version: u32, key: &[u8])
         there: false,
         place: top,
     };
-    loop {
-        let seen = trail.seen;
-        let Seen::Inner(i) = seen else {
-            return Walked { trail, left, right };
-        };
+    while let Seen::Inner(i) = trail.seen {
         let place = trail.place;
         let depth = place.count;
         let turn = key_bit(key, depth);
@@ -88,6 +84,7 @@ pub fn walk(store: &[u8], index: &[u32], kids: &[u16], version: u32, key: &[u8])
         right = deepest(store, right, place, i, turn, true);
         trail = further(store, index, kids, trail, i, turn);
     }
+    Walked { trail, left, right }
 }
 
 // A search's answer of a trail that ends in slot i.
@@ -110,6 +107,7 @@ fn descend(store: &[u8], index: &[u32], kids: &[u16], trail: Trail, side: bool) 
     ensures { Finds store.now (descent_says store.now index.now trail side) result }
 {
     let mut here = trail;
+    // Down the tree, which is no count.
     loop {
         let seen = here.seen;
         match seen {

@@ -19,8 +19,8 @@ pub fn write(part: &mut [u8], store: &[u8], key: &[u8], plan: Plan)
     let second = plan.second;
     let path = first.path;
     match shape {
-        Shape::Refused(_) => {}
-        Shape::Presence => put_presence(part, store, path),
-        Shape::Absence => put_absence(part, store, key, first, second),
+        Err(_) => {}
+        Ok(Shape::Presence) => put_presence(part, store, path),
+        Ok(Shape::Absence) => put_absence(part, store, key, first, second),
     }
 }

@@ -7,17 +7,18 @@ use Rattle.terms.specs.Fields.{le}
 use Rattle.fields.specs.Written.{written}
 use Rattle.fields.proofs.Written.{number_fills}
 use Rattle.prune_sound.specs.Prune.{pruned_says, PruneDoes}
-use Rattle.prune_sound.specs.declared.Pruned as declared
-use Rattle.prune_sound.specs.declared.Pruned.TheVariants.{Refused, Freed}
+use Rattle.std.specs.Prelude.{Result, Ok, Err}
+use Rattle.refusal_numbers.specs.Refusals.{number}
+use Rattle.refusal_numbers.specs.declared.Refusal.{Refusal}
 use Rattle.meaning.specs.Answers.{exports_refusal, exports_answer}
 use Rattle.contracts.specs.Prune.{PruneExports}
 
-module _ (n : ℕ) {s f t : Bytes} {p : declared.Pruned} (o : PruneDoes n s (pruned_says p) t) where
-  pub export_refused : {m : ℕ} → p ≡ Refused m → PruneExports n s f m t f
+module _ (n : ℕ) {s f t : Bytes} {p : Result ℕ Refusal} (o : PruneDoes n s (pruned_says p) t) where
+  pub export_refused : {r : Refusal} → p ≡ Err r → PruneExports n s f (number r) t f
   unfolding pruned_says
-  export_refused {m} e = exports_refusal (subst (λ q. PruneDoes n s (pruned_says q) t) e o)
+  export_refused e = exports_refusal (subst (λ q. PruneDoes n s (pruned_says q) t) e o)
 
-  pub export_freed : {k : ℕ} {g : Bytes} → p ≡ Freed k → length f ≡ 4 → g ≡ written 0 (le 4 k) f → PruneExports n s f 0 t g
+  pub export_freed : {k : ℕ} {g : Bytes} → p ≡ Ok k → length f ≡ 4 → g ≡ written 0 (le 4 k) f → PruneExports n s f 0 t g
   unfolding pruned_says
   export_freed {k} {g} e l q =
       subst (PruneExports n s f 0 t) (sym (q ∙ number_fills k f l)) (exports_answer (subst (λ r. PruneDoes n s (pruned_says r) t) e o))

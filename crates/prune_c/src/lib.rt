@@ -5,7 +5,6 @@ ghost use Rattle.contracts.specs.Prune.{PruneExports};
 
 use fields::put_u32;
 use prune::prune;
-use prune_sound::Pruned;
 
 // Prunes a store to a version; how many records were freed goes out in four bytes.
 pub fn grants_prune(store: &mut [u8], version: u32, freed: &mut [u8; 4]) -> u32
@@ -13,8 +12,8 @@ pub fn grants_prune(store: &mut [u8], version: u32, freed: &mut [u8; 4]) -> u32
 {
     let answer = prune(store, version);
     match answer {
-        Pruned::Refused(number) => number,
-        Pruned::Freed(count) => {
+        Err(refusal) => refusal.number(),
+        Ok(count) => {
             put_u32(freed, 0, count);
             0
         }

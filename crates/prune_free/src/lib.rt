@@ -45,10 +45,8 @@ pub fn free_retired(store: &mut [u8], version: u32) -> u32
 {
     let slots = slot_count(Form::Counted, store);
     let mut freed = 0;
-    let mut i = 0;
-    while i < slots {
+    for i in 0..slots {
         freed += free_slot(store, i, version);
-        i += 1;
     }
     freed
 }

@@ -5,25 +5,18 @@ ghost use Rattle.promises.specs.Calls.{SoundBytes};
 ghost use Rattle.prune_sound.specs.Prune.{pruned_says, PruneDoes};
 
 use prune_free::{free_retired, is_kept};
-use refusal_numbers::NOT_KEPT;
+use refusal_numbers::Refusal;
 use store_put::put_oldest;
 
-// A number of refusal, or how many records were freed.
-#[derive(Clone, Copy)]
-pub enum Pruned {
-    Refused(u32),
-    Freed(u32),
-}
-
-// Prunes a sound store to a version.
-pub fn prune_sound(store: &mut [u8], version: u32) -> Pruned
+// Prunes a sound store to a version, and answers how many records were freed.
+pub fn prune_sound(store: &mut [u8], version: u32) -> Result<u32, Refusal>
     requires { SoundBytes store.old }
     ensures { PruneDoes version store.old (pruned_says result) store.new }
 {
     if !is_kept(store, version) {
-        return Pruned::Refused(NOT_KEPT);
+        return Err(Refusal::NotKept);
     }
     let freed = free_retired(store, version);
     put_oldest(store, version);
-    Pruned::Freed(freed)
+    Ok(freed)
 }

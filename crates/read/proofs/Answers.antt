@@ -16,50 +16,45 @@ use Rattle.indexed.proofs.Scanned.{without_table}
 use Rattle.nodehash.specs.Node.{leaf_hash, inner_hash}
 use Rattle.layout.specs.Headers.{size_right, header_of}
 use Rattle.layout.specs.Stores.{store_of}
-use Rattle.read_open.specs.Opening.{opened, opened_says}
-use Rattle.read_open.specs.declared.Opened as declared-opened
-use Rattle.read_open.specs.declared.Opened.TheVariants.{Refused, Kept}
+use Rattle.read_open.specs.Opening.{opened}
 use Rattle.read_open.proofs.Opening as opening
 use Rattle.read_key.specs.Parts.{read_says, walk_read}
-use Rattle.read_key.specs.declared.KeyRead as declared
-use Rattle.read_key.specs.declared.KeyRead.TheVariants as read
+use Rattle.std.specs.Prelude.{Option, Result, Err}
+use Rattle.hash.specs.declared.Hash.{Hash}
+use Rattle.refusal_numbers.specs.Refusals.{number}
+use Rattle.refusal_numbers.specs.declared.Refusal.{Refusal}
+use Rattle.refusal_numbers.specs.declared.Refusal.TheVariants.{Not32Bytes}
+use Rattle.refusal_numbers.specs.declared.ReadRefusal.{ReadRefusal}
+use Rattle.refusal_numbers.specs.declared.ReadRefusal.TheVariants.{Plain}
 use Rattle.read_root.specs.Parts.{root_says}
-use Rattle.read_root.specs.declared.RootRead as declared-root
-use Rattle.read_root.specs.declared.RootRead.TheVariants as root
 use Rattle.promises.specs.Headed.{by_header, as_many}
 use Rattle.contracts.specs.Reads.{root_answer, key_answer}
 use Rattle.contracts.proofs.Heading.{as_many_lem}
 use Rattle.read.specs.Parts.{root_answer_by, key_answer_by}
 
 -- what was tested first
-module _ (s : Bytes) (v : ℕ) {o : declared-opened.Opened} (says : opened_says o ≡ opened s v) where
-  first_refused : {n : ℕ} → o ≡ Refused n → refused n ≡ opened s v
-  first_refused e = sym (ap opened_says e) ∙ says
+module _ (s : Bytes) (v : ℕ) where
+  pub size_kept : accepted tt ≡ opened s v → size_right counted (length s) ≡ true
+  size_kept e = opening.kept_size s v e
 
-  first_kept_lem : o ≡ Kept → accepted tt ≡ opened s v
-  first_kept_lem e = sym (ap opened_says e) ∙ says
-
-  pub size_kept : o ≡ Kept → size_right counted (length s) ≡ true
-  size_kept e = opening.kept_size s v (first_kept_lem e)
-
-  pub root_refused : (table : List ℕ) {n : ℕ} → o ≡ Refused n → root_says (root.Refused n) ≡ root_answer_by s table v
+  pub root_refused : (table : List ℕ) (r : Refusal) → refused (number r) ≡ opened s v → root_says (Err (Plain r)) ≡ root_answer_by s table v
   unfolding root_says root_answer_by
-  root_refused table e = opening.refused_first (root_read leaf_hash inner_hash (root_by table (store_of s) v)) s v (first_refused e)
+  root_refused table r e = opening.refused_first (root_read leaf_hash inner_hash (root_by table (store_of s) v)) s v e
 
-  pub root_is_read : (table : List ℕ) (r : declared-root.RootRead) → o ≡ Kept → root_says r ≡ root_read leaf_hash inner_hash (root_by table (store_of s) v) → root_says r ≡ root_answer_by s table v
+  pub root_is_read : (table : List ℕ) (r : Result Hash ReadRefusal) → accepted tt ≡ opened s v → root_says r ≡ root_read leaf_hash inner_hash (root_by table (store_of s) v) → root_says r ≡ root_answer_by s table v
   unfolding root_answer_by
-  root_is_read table r e f = f ∙ sym (opening.rest_decides (root_read leaf_hash inner_hash (root_by table (store_of s) v)) s v (first_kept_lem e))
+  root_is_read table r e f = f ∙ sym (opening.rest_decides (root_read leaf_hash inner_hash (root_by table (store_of s) v)) s v e)
 
   module _ (table : List ℕ) (k : Bytes) (whole : length k ≡ 32) where
-    pub key_refused : {n : ℕ} → o ≡ Refused n → read_says (read.Refused n) ≡ key_answer_by s table v k
+    pub key_refused : (r : Refusal) → refused (number r) ≡ opened s v → read_says (Err (Plain r)) ≡ key_answer_by s table v k
     unfolding read_says key_answer_by walk_read
-    key_refused e = rw (eq-eqb (length k) 32 whole) (opening.refused_first (walk_read s table v k) s v (first_refused e))
+    key_refused r e = rw (eq-eqb (length k) 32 whole) (opening.refused_first (walk_read s table v k) s v e)
 
-    pub key_read : (r : declared.KeyRead) → o ≡ Kept → read_says r ≡ walk_read s table v k → read_says r ≡ key_answer_by s table v k
+    pub key_read : (r : Result (Option Hash) ReadRefusal) → accepted tt ≡ opened s v → read_says r ≡ walk_read s table v k → read_says r ≡ key_answer_by s table v k
     unfolding key_answer_by walk_read
-    key_read r e f = rw (eq-eqb (length k) 32 whole) (f ∙ sym (opening.rest_decides (walk_read s table v k) s v (first_kept_lem e)))
+    key_read r e f = rw (eq-eqb (length k) 32 whole) (f ∙ sym (opening.rest_decides (walk_read s table v k) s v e))
 
-pub key_wrong : (s : Bytes) (table : List ℕ) (v : ℕ) (k : Bytes) → (length k ≡ 32 → ⊥) → read_says (read.Refused 12) ≡ key_answer_by s table v k
+pub key_wrong : (s : Bytes) (table : List ℕ) (v : ℕ) (k : Bytes) → (length k ≡ 32 → ⊥) → read_says (Err (Plain Not32Bytes)) ≡ key_answer_by s table v k
 unfolding read_says key_answer_by
 key_wrong s table v k f = rw (ne_eqb (length k) 32 f)
 

@@ -6,7 +6,7 @@ ghost use Rattle.contracts.specs.Reads.{ReadsRoot, ReadsRootBy, ReadsKey, ReadsK
 
 use read_open::as_many;
 use read_told::{get_by, root_by};
-use refusal_numbers::{NOT_32_BYTES, WRONG_SIZE};
+use refusal_numbers::Refusal;
 
 // The root of a version, by scans.
 pub fn grants_root(store: &[u8], version: u32, root: &mut [u8; 32]) -> u64
@@ -27,7 +27,7 @@ pub fn root_indexed(store: &[u8], index: &[u32], version: u32, root: &mut [u8; 3
     ensures { ReadsRootBy store.now (some index.now) version root.old result root.new }
 {
     if !as_many(store, index) {
-        return WRONG_SIZE as u64;
+        return u64::from(Refusal::WrongSize.number());
     }
     root_by(store, index, version, root)
 }
@@ -43,10 +43,10 @@ pub fn get_indexed(
     ensures { ReadsKeyBy store.now (some index.now) version key.now found.old result found.new }
 {
     if key.len() != 32 {
-        return NOT_32_BYTES as u64;
+        return u64::from(Refusal::Not32Bytes.number());
     }
     if !as_many(store, index) {
-        return WRONG_SIZE as u64;
+        return u64::from(Refusal::WrongSize.number());
     }
     get_by(store, index, version, key, found)
 }

@@ -18,11 +18,11 @@ use Rattle.fields.specs.Written.{written}
 use Rattle.fields.proofs.Written.{length_written, part_written, fields_fill}
 use Rattle.read_number.specs.Numbers.{number_says}
 use Rattle.contracts.specs.Numbers.{grant_bytes}
-use Rattle.read_number.specs.declared.NumberRead as declared-number
-use Rattle.read_number.specs.declared.NumberRead.TheVariants as number
+use Rattle.std.specs.Prelude.{Result, Ok, Err}
+use Rattle.refusal_numbers.specs.Refusals.{code}
+use Rattle.refusal_numbers.specs.declared.ReadRefusal.{ReadRefusal}
 use Rattle.read_descent.specs.Parts.{position_says}
-use Rattle.read_descent.specs.declared.PositionRead as declared-position
-use Rattle.read_descent.specs.declared.PositionRead.TheVariants as position
+use Rattle.read_descent.specs.declared.Grant as declared
 
 mod_alike : (a b k : ℕ) → a ≡ b + 256 * k → b % 256 ≡ a % 256
 mod_alike a b k e = omega arith
@@ -72,20 +72,20 @@ grant_put h k f y f₁ z f₂ l e e₁ g g₁ =
     ∙ fields_fill (32 ∷ 32 ∷ []) (hash_bytes h ∷ hash_bytes k ∷ []) f ((hash_whole h).0, ((hash_whole k).0, tt)) (sym l)
     ∙ ap (hash_bytes h ++◌) (append-nil (hash_bytes k))
 
-module _ {a : Answer ℕ} {r : declared-number.NumberRead} (says : number_says r ≡ a) (old : Bytes) where
-  pub count_refused : {n : ℕ} → r ≡ number.Refused n → Exported a (le 8) old n old
+module _ {a : Answer ℕ} {r : Result ℕ ReadRefusal} (says : number_says r ≡ a) (old : Bytes) where
+  pub count_refused : {n : ReadRefusal} → r ≡ Err n → Exported a (le 8) old (code n) old
   unfolding number_says
   count_refused e = exported_refusal (sym (ap number_says e) ∙ says)
 
-  pub count_written : {n : ℕ} {new : Bytes} → r ≡ number.Number n → new ≡ le 8 n → Exported a (le 8) old 0 new
+  pub count_written : {n : ℕ} {new : Bytes} → r ≡ Ok n → new ≡ le 8 n → Exported a (le 8) old 0 new
   unfolding number_says
   count_written e w = exported_answer (sym (ap number_says e) ∙ says) w
 
-module _ {a : Answer Grant} {r : declared-position.PositionRead} (says : position_says r ≡ a) (old : Bytes) where
-  pub at_refused : {n : ℕ} → r ≡ position.Refused n → Exported a grant_bytes old n old
+module _ {a : Answer Grant} {r : Result declared.Grant ReadRefusal} (says : position_says r ≡ a) (old : Bytes) where
+  pub at_refused : {n : ReadRefusal} → r ≡ Err n → Exported a grant_bytes old (code n) old
   unfolding position_says
   at_refused e = exported_refusal (sym (ap position_says e) ∙ says)
 
-  pub at_written : {h k : Hash} {new : Bytes} → r ≡ position.Grant h k → new ≡ hash_bytes h ++ hash_bytes k → Exported a grant_bytes old 0 new
+  pub at_written : {g : declared.Grant} {new : Bytes} → r ≡ Ok g → new ≡ hash_bytes g.key ++ hash_bytes g.value → Exported a grant_bytes old 0 new
   unfolding position_says
   at_written e w = exported_answer (sym (ap position_says e) ∙ says) w

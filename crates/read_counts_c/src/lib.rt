@@ -12,10 +12,9 @@ ghost use Rattle.contracts.specs.Numbers.{grant_bytes, Counts, CountsBy, ReadsAt
 
 use fields::put_u32;
 use hash::{Hash, put_hash};
-use read_descent::PositionRead;
-use read_number::NumberRead;
+use read_descent::Grant;
 use read_open::as_many;
-use refusal_numbers::WRONG_SIZE;
+use refusal_numbers::Refusal;
 
 // A number in eight bytes.
 fn put_count(count: &mut [u8], n: u64)
@@ -41,8 +40,8 @@ fn count_by(store: &[u8], index: &[u32], version: u32, count: &mut [u8; 8]) -> u
 {
     let read = read_number::grants_count(store, index, version);
     match read {
-        NumberRead::Refused(n) => n,
-        NumberRead::Number(n) => {
+        Err(refusal) => refusal.code(),
+        Ok(n) => {
             put_count(count, n);
             0
         }
@@ -55,8 +54,8 @@ fn at_by(store: &[u8], index: &[u32], version: u32, position: u64, grant: &mut [
 {
     let read = read_position::grants_at(store, index, version, position);
     match read {
-        PositionRead::Refused(n) => n,
-        PositionRead::Grant(key, value) => {
+        Err(refusal) => refusal.code(),
+        Ok(Grant { key, value }) => {
             put_grant(grant, key, value);
             0
         }
@@ -82,7 +81,7 @@ pub fn count_indexed(store: &[u8], index: &[u32], version: u32, count: &mut [u8;
     ensures { CountsBy store.now (some index.now) version count.old result count.new }
 {
     if !as_many(store, index) {
-        return WRONG_SIZE as u64;
+        return u64::from(Refusal::WrongSize.number());
     }
     count_by(store, index, version, count)
 }
@@ -98,7 +97,7 @@ pub fn at_indexed(
     ensures { ReadsAtBy store.now (some index.now) version position grant.old result grant.new }
 {
     if !as_many(store, index) {
-        return WRONG_SIZE as u64;
+        return u64::from(Refusal::WrongSize.number());
     }
     at_by(store, index, version, position, grant)
 }

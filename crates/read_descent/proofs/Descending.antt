@@ -36,9 +36,11 @@ use Rattle.read_step.proofs.Seeing.{body_is, leaf_body_lem, inner_body_lem, node
 use Rattle.read_turn.specs.Turns.{Turned}
 use Rattle.read_turn.specs.declared.Turn as declared-turn
 use Rattle.read_descent.specs.Parts.{position_says, leaf_answer, kids_from, body_at, child_answer, Steps}
-use Rattle.read_descent.specs.declared.PositionRead.TheVariants as answer
-use Rattle.read_descent.specs.declared.Step as declared-step
-use Rattle.read_descent.specs.declared.Step.TheVariants as step
+use Rattle.std.specs.Prelude.{Result, Ok, Err}
+use Rattle.refusal_numbers.specs.Refusals.{code}
+use Rattle.refusal_numbers.specs.declared.ReadRefusal.{ReadRefusal}
+use Rattle.refusal_numbers.specs.declared.ReadRefusal.TheVariants.{Plain}
+use Rattle.refusal_numbers.specs.declared.Refusal.TheVariants.{NotSound}
 
 pub counts_are_lem : (x : Bytes) (r : Record) → slot_of x ≡ used r → r.counts ≡ counts_in x
 unfolding record_in
@@ -46,16 +48,16 @@ counts_are_lem x r e = ap (λ (q : Record). q.counts) (sym (record_is x r e))
 
 -- the leaf
 module _ (p : Place) (x : Bytes) (n : ℕ) where
-  pub leaf_stray : {b : Bool} → b ≡ begins p (key_in x) → b ≡ false → position_says (answer.Refused 3) ≡ leaf_answer p x n
+  pub leaf_stray : {b : Bool} → b ≡ begins p (key_in x) → b ≡ false → position_says (Err (Plain NotSound)) ≡ leaf_answer p x n
   unfolding position_says
   leaf_stray e f = rw (sym e ∙ f)
 
-  pub leaf_over : {b : Bool} → b ≡ begins p (key_in x) → b ≡ true → (n ≡ 0 → ⊥) → position_says (answer.Refused 3) ≡ leaf_answer p x n
+  pub leaf_over : {b : Bool} → b ≡ begins p (key_in x) → b ≡ true → (n ≡ 0 → ⊥) → position_says (Err (Plain NotSound)) ≡ leaf_answer p x n
   unfolding position_says
   leaf_over e f z = rw (sym e ∙ f, ne_eqb n 0 z)
 
   pub leaf_there : {b : Bool} → b ≡ begins p (key_in x) → b ≡ true → n ≡ 0 → (k v : Hash) → hash_bytes k ≡ key_in x → hash_bytes v ≡ value_inside x →
-      position_says (answer.Grant k v) ≡ leaf_answer p x n
+      position_says (Ok (record { key = k; value = v })) ≡ leaf_answer p x n
   unfolding position_says
   leaf_there e f z k v g h = rw (sym e ∙ f, eq-eqb n 0 z) (ap₂ (λ a b. accepted (grant a b)) g h)
 
@@ -91,7 +93,7 @@ kid_answer {b} {p} {q} s table c n g =
 
 -- a child as it is sighted
 module _ (s : Bytes) (table : List ℕ) (p : declared-place.Place) (c : Child) where
-  pub step_missing : c.version ≡ 0 → Steps s table p c (step.Refused 3)
+  pub step_missing : c.version ≡ 0 → Steps s table p c (Err (Plain NotSound))
   unfolding child_answer
   step_missing e n = sym (child_missing (by_table table (store_of s)) (256 - length (place_of p)) (place_of p) c n e)
 
@@ -103,17 +105,17 @@ module _ (s : Bytes) (table : List ℕ) (p : declared-place.Place) (c : Child) w
     unfolding child_answer
     as_sighted x n e = sym (child_sighted (by_table table (store_of s)) (256 - length (place_of p)) (place_of p) c n x here e)
 
-    pub step_lost : {m : ℕ} → seen ≡ nothing → m ≡ refusal_of lost_record → Steps s table p c (step.Refused m)
-    step_lost e f n = ap refused f ∙ as_sighted nothing n e
+    pub step_lost : (m : ReadRefusal) → seen ≡ nothing → code m ≡ refusal_of lost_record → Steps s table p c (Err m)
+    step_lost m e f n = ap refused f ∙ as_sighted nothing n e
 
-    pub step_spoilt : {m : ℕ} (i : ℕ) → seen ≡ spoilt i → m ≡ refusal_of (spoilt_record i) → Steps s table p c (step.Refused m)
-    step_spoilt i e f n = ap refused f ∙ as_sighted (spoilt i) n e
+    pub step_spoilt : (m : ReadRefusal) (i : ℕ) → seen ≡ spoilt i → code m ≡ refusal_of (spoilt_record i) → Steps s table p c (Err m)
+    step_spoilt m i e f n = ap refused f ∙ as_sighted (spoilt i) n e
 
     abbrev at_kids : ℕ → ℕ → ℕ → Body → Answer Grant
     at_kids j n k b = at_body (place_of p) b (counts_in (slot_in counted j s)) n (kids_at (by_table table (store_of s)) k (place_of p))
 
     module _ (j : ℕ) (r : Record) (is : slot_of (slot_in counted j s) ≡ used r) (e : seen ≡ matches r) (h : SlotHolds s j p) where
-      pub step_found : Steps s table p c (step.At j)
+      pub step_found : Steps s table p c (Ok j)
       unfolding body_at
       step_found = (
         h,
@@ -132,7 +134,7 @@ module _ (s : Bytes) (table : List ℕ) (p : declared-place.Place) (c : Child) w
           ways n = by_kind n (is_leaf (slot_in counted j s)) refl
 
     pub step_at_lem : size_right counted (length s) ≡ true → All Byte s → Proper p → {v : ℕ} → v ≡ c.version → {x : declared-sight.Sight} →
-        Sighted (store_of s).slots (node_by table (store_of s) v (place_of p)) x → (j : ℕ) → x ≡ sight.Matches j → Steps s table p c (step.At j)
+        Sighted (store_of s).slots (node_by table (store_of s) v (place_of p)) x → (j : ℕ) → x ≡ sight.Matches j → Steps s table p c (Ok j)
     step_at_lem size bytes proper {v} e {x} h j f =
         let o = node_by table (store_of s) v (place_of p) in
         let g = subst (Sighted (store_of s).slots o) f h in
@@ -165,12 +167,12 @@ module _ {s : Bytes} {table : List ℕ} {first position : ℕ} {p : declared-pla
       onward : child_answer s table (place_of q) (kid_in i s t.right) t.rest ≡ body_at s table [] first position
       onward = kid_answer s table (kid_in i s t.right) t.rest g ∙ inner_is s table (place_of p) i n (sym d ∙ e) t turned ∙ w.rest
 
-      pub ends_refused : {x : declared-step.Step} (m : ℕ) → Steps s table q (kid_in i s t.right) x → x ≡ step.Refused m →
-          position_says (answer.Refused m) ≡ body_at s table [] first position
+      pub ends_refused : {x : Result ℕ ReadRefusal} (m : ReadRefusal) → Steps s table q (kid_in i s t.right) x → x ≡ Err m →
+          position_says (Err m) ≡ body_at s table [] first position
       unfolding position_says
       ends_refused m h f = subst (Steps s table q (kid_in i s t.right)) f h t.rest ∙ onward
 
-      pub goes_on : {x : declared-step.Step} (j : ℕ) → Steps s table q (kid_in i s t.right) x → x ≡ step.At j → Going s table first position q j t.rest
+      pub goes_on : {x : Result ℕ ReadRefusal} (j : ℕ) → Steps s table q (kid_in i s t.right) x → x ≡ Ok j → Going s table first position q j t.rest
       goes_on j h f =
           let k = subst (Steps s table q (kid_in i s t.right)) f h in
           record { holds = k.0; rest = k.1 t.rest ∙ onward }

@@ -1,5 +1,5 @@
 -- What the functions of the descent answer one by one, within the code: no public promise reaches it. Assumes nothing.
-use Rattle.std.specs.Prelude.{ℕ, ◌-◌, ◌≡◌, cond, List, length, eqb}
+use Rattle.std.specs.Prelude.{ℕ, ◌-◌, ◌≡◌, cond, List, length, eqb, Result, Ok, Err}
 use Rattle.terms.specs.declared.Form.TheVariants.{Counted as counted}
 use Rattle.terms.specs.Bits.{Bytes, Side, Place, longer, begins}
 use Rattle.terms.specs.Records.{Grant, grant, Child}
@@ -12,15 +12,13 @@ use Rattle.place.specs.Place.{place_of}
 use Rattle.layout.specs.Slots.{key_in, value_inside, counts_in}
 use Rattle.layout.specs.Stores.{slot_in, store_of}
 use Rattle.read_step.specs.Walk.{body_in, SlotHolds}
-use Rattle.read_descent.specs.declared.PositionRead as declared
-use Rattle.read_descent.specs.declared.PositionRead.TheVariants as position
-use Rattle.read_descent.specs.declared.Step as declared-step
-use Rattle.read_descent.specs.declared.Step.TheVariants as step
+use Rattle.refusal_numbers.specs.Refusals.{code, read_answer_of}
+use Rattle.refusal_numbers.specs.declared.ReadRefusal.{ReadRefusal}
+use Rattle.read_descent.specs.declared.Grant as declared
 
 -- What each case of the answer says.
-unfoldable pub position_says : declared.PositionRead → Answer Grant
-position_says (position.Refused n) = refused n
-position_says (position.Grant k x) = accepted (grant (hash_bytes k) (hash_bytes x))
+unfoldable pub position_says : Result declared.Grant ReadRefusal → Answer Grant
+position_says = read_answer_of (λ g. grant (hash_bytes g.key) (hash_bytes g.value))
 
 -- What a leaf's bytes say of a position at a place.
 abbrev pub leaf_answer : Place → Bytes → ℕ → Answer Grant
@@ -41,7 +39,7 @@ unfoldable pub child_answer : Bytes → List ℕ → Place → Child → ℕ →
 child_answer s table p c n = descend (256 - length p) (by_table table (store_of s)) p c n
 
 -- A child is refused, or is the record in this slot.
-abbrev pub Steps : Bytes → List ℕ → declared-place.Place → Child → declared-step.Step → Type 0
-Steps s table p c (step.Refused m) = (n : ℕ) → refused m ≡ child_answer s table (place_of p) c n
-Steps s table p c (step.At j) =
+abbrev pub Steps : Bytes → List ℕ → declared-place.Place → Child → Result ℕ ReadRefusal → Type 0
+Steps s table p c (Err m) = (n : ℕ) → refused (code m) ≡ child_answer s table (place_of p) c n
+Steps s table p c (Ok j) =
     SlotHolds s j p × ((n : ℕ) → body_at s table (place_of p) j n ≡ child_answer s table (place_of p) c n)

@@ -16,7 +16,7 @@ use Rattle.layout.specs.Slots.{key_in, value_inside}
 use Rattle.layout.specs.Stores.{slot_in}
 use Rattle.read_step.specs.Walk.{leaf_at}
 use Rattle.read_key.specs.Parts.{read_says, leaf_read}
-use Rattle.read_key.specs.declared.KeyRead.TheVariants as read
+use Rattle.std.specs.Prelude.{Ok, Some, None}
 
 slice_whole : (i n : ℕ) (x : Bytes) → take n (slice i n x) ≡ slice i n x
 unfolding slice
@@ -30,12 +30,12 @@ module _ (i : ℕ) (s k : Bytes) {x l : Bytes} (slot : x ≡ slot_in counted i s
   key_is e = ap (λ y. same_bytes k (key_in y)) (sym slot) ∙ ap (same_bytes k) (sym its) ∙ sym e
 
   pub leaf_present : {b : Bool} {y : Bytes} (h : Hash) → b ≡ same_bytes k l → b ≡ true → y ≡ value_inside x →
-      hash_bytes h ≡ take 32 (drop 0 y) → read_says (read.Present h) ≡ leaf_read i s k
+      hash_bytes h ≡ take 32 (drop 0 y) → read_says (Ok (Some h)) ≡ leaf_read i s k
   unfolding read_says leaf_read leaf_at
   leaf_present h e t f g =
       let value = g ∙ ap (take 32) f ∙ value_whole x ∙ ap value_inside slot in
       rw (key_is e, t) (ap (λ z. accepted (present z)) value)
 
-  pub leaf_absent : {b : Bool} → b ≡ same_bytes k l → b ≡ false → read_says read.Absent ≡ leaf_read i s k
+  pub leaf_absent : {b : Bool} → b ≡ same_bytes k l → b ≡ false → read_says (Ok None) ≡ leaf_read i s k
   unfolding read_says leaf_read leaf_at
   leaf_absent e t = rw (key_is e, t)

@@ -24,7 +24,9 @@ use Rattle.read_step.specs.declared.Seen as declared
 use Rattle.read_step.specs.declared.Seen.TheVariants.{Gap, Stopped, Leaf, Inner}
 use Rattle.read_step.proofs.Seeing.{kid_seen}
 use Rattle.read_key.specs.Parts.{read_says, leaf_read, walk_read}
-use Rattle.read_key.specs.declared.KeyRead.TheVariants as read
+use Rattle.std.specs.Prelude.{Ok, Err, None}
+use Rattle.refusal_numbers.specs.Refusals.{code}
+use Rattle.refusal_numbers.specs.declared.ReadRefusal.{ReadRefusal}
 
 -- What a walk says of a key from bit i on, where x is seen.
 abbrev said_from : Bytes → ℕ → Seen → Answer Verdict
@@ -70,13 +72,13 @@ module _ {s : Bytes} {table : List ℕ} {v : ℕ} {k : Bytes} {p : declared-plac
   said : {x : Seen} → w.here ≡ x → said_from k p.count x ≡ walk_read s table v k
   said e = ap (said_from k p.count) (sym e) ∙ sym w.rest
 
-  pub ends_at_gap : r ≡ Gap → read_says read.Absent ≡ walk_read s table v k
+  pub ends_at_gap : r ≡ Gap → read_says (Ok None) ≡ walk_read s table v k
   unfolding read_says
   ends_at_gap e = said (sees_as e)
 
-  pub ends_stopped : {n : ℕ} (t : declared-trouble.Trouble) → r ≡ Stopped t → n ≡ refusal_of (trouble_says t) → read_says (read.Refused n) ≡ walk_read s table v k
+  pub ends_stopped : (n : ReadRefusal) (t : declared-trouble.Trouble) → r ≡ Stopped t → code n ≡ refusal_of (trouble_says t) → read_says (Err n) ≡ walk_read s table v k
   unfolding read_says
-  ends_stopped t e f = ap refused f ∙ said (sees_as e)
+  ends_stopped n t e f = ap refused f ∙ said (sees_as e)
 
   pub leaf_inside : {i : ℕ} → r ≡ Leaf i → i < room_of counted (length s)
   leaf_inside e = (sees_as e).0

@@ -1,21 +1,25 @@
 -- What each case of a key read's answer says, and what the walk by a key says. No public promise reaches this file.
 -- Assumes nothing.
-use Rattle.std.specs.Prelude.{ℕ, List, []}
+use Rattle.std.specs.Prelude.{ℕ, List, [], Option, Result, Some, None}
 use Rattle.terms.specs.Bits.{Bytes}
-use Rattle.meaning.specs.Calls.{Answer, refused, accepted}
+use Rattle.meaning.specs.Calls.{Answer}
 use Rattle.meaning.specs.Reading.{Verdict, present, absent, seen, walk, read_end}
 use Rattle.indexed.specs.Index.{by_table}
 use Rattle.hash.specs.Hash.{hash_bytes}
 use Rattle.layout.specs.Stores.{store_of}
 use Rattle.read_step.specs.Walk.{leaf_at}
-use Rattle.read_key.specs.declared.KeyRead as declared-read
-use Rattle.read_key.specs.declared.KeyRead.TheVariants as read
+use Rattle.hash.specs.declared.Hash.{Hash}
+use Rattle.refusal_numbers.specs.Refusals.{read_answer_of}
+use Rattle.refusal_numbers.specs.declared.ReadRefusal.{ReadRefusal}
+
+-- What is said of a key: its value, or that it is absent.
+abbrev pub verdict : Option Hash → Verdict
+verdict (Some x) = present (hash_bytes x)
+verdict None = absent
 
 -- What each case of a key read's answer says.
-unfoldable pub read_says : declared-read.KeyRead → Answer Verdict
-read_says (read.Refused n) = refused n
-read_says (read.Present x) = accepted (present (hash_bytes x))
-read_says read.Absent = accepted absent
+unfoldable pub read_says : Result (Option Hash) ReadRefusal → Answer Verdict
+read_says = read_answer_of verdict
 
 -- What the leaf in slot i says of a key.
 unfoldable pub leaf_read : ℕ → Bytes → Bytes → Answer Verdict

@@ -9,46 +9,41 @@ ghost use Rattle.read_key.specs.Parts.{read_says, leaf_read, walk_read};
 use hash::{Hash, hash_at};
 use place::{Place, child_place, key_bit, same};
 use read_step::{Seen, child, refusal};
+use refusal_numbers::ReadRefusal;
 use slots::{key_of, value_of};
 use store::slot_of;
 use terms::Form;
 
-// What a key read answers.
-#[derive(Clone, Copy)]
-pub enum KeyRead {
-    Refused(u64),
-    // The key's value.
-    Present(Hash),
-    Absent,
-}
-
 // What the leaf in slot i says of a key: its value if the key is its own.
-fn leaf_read(store: &[u8], i: usize, key: &[u8]) -> KeyRead
+fn leaf_read(store: &[u8], i: usize, key: &[u8]) -> Result<Option<Hash>, ReadRefusal>
     requires { (size_right Form.Counted (length store.now) ≡ true) × (i < room_of Form.Counted (length store.now)) }
     ensures { read_says result ≡ leaf_read i store.now key.now }
 {
     let slot = slot_of(Form::Counted, store, i);
     if same(key, key_of(slot)) {
         let value = hash_at(value_of(slot), 0);
-        return KeyRead::Present(value);
+        return Ok(Some(value));
     }
-    KeyRead::Absent
+    Ok(None)
 }
 
 // Walks by the key's bits from the root of a version to a leaf or a missing child, and finds by a table.
-pub fn walk_read(store: &[u8], index: &[u32], version: u32, key: &[u8]) -> KeyRead
+pub fn walk_read(
+    store: &[u8],
+    index: &[u32],
+    version: u32,
+    key: &[u8],
+) -> Result<Option<Hash>, ReadRefusal>
     requires { (size_right Form.Counted (length store.now) ≡ true) × (length key.now ≡ 32) }
     ensures { read_says result ≡ walk_read store.now index.now version key.now }
 {
     let mut place = Place::top();
     let mut seen = read_step::root(store, index, version);
+    // Down the tree, which is no count.
     loop {
         match seen {
-            Seen::Gap => return KeyRead::Absent,
-            Seen::Stopped(trouble) => {
-                let number = refusal(trouble);
-                return KeyRead::Refused(number);
-            }
+            Seen::Gap => return Ok(None),
+            Seen::Stopped(trouble) => return Err(refusal(trouble)),
             Seen::Leaf(i) => return leaf_read(store, i, key),
             Seen::Inner(i) => {
                 let side = key_bit(key, place.count);

@@ -20,51 +20,46 @@ use Rattle.sights.specs.Sights.{Sighted}
 use Rattle.sights.specs.declared.Sight as declared-sight
 use Rattle.sights.specs.declared.Sight.TheVariants as sight
 use Rattle.promises.specs.Headed.{by_header, as_many}
-use Rattle.read_open.specs.Opening.{opened, opened_says}
-use Rattle.read_open.specs.declared.Opened as declared-opened
-use Rattle.read_open.specs.declared.Opened.TheVariants.{Refused, Kept}
+use Rattle.read_open.specs.Opening.{opened}
 use Rattle.read_open.proofs.Opening as opening
 use Rattle.read_number.specs.Numbers.{number_says, number_answer_by}
 use Rattle.contracts.specs.Numbers.{number_answer}
 use Rattle.contracts.proofs.Heading.{as_many_lem, not_as_many}
-use Rattle.read_number.specs.declared.NumberRead as declared
-use Rattle.read_number.specs.declared.NumberRead.TheVariants as number
+use Rattle.std.specs.Prelude.{Result, Ok, Err}
+use Rattle.refusal_numbers.specs.Refusals.{number as number_of, code}
+use Rattle.refusal_numbers.specs.declared.Refusal.{Refusal}
+use Rattle.refusal_numbers.specs.declared.ReadRefusal.{ReadRefusal}
+use Rattle.refusal_numbers.specs.declared.ReadRefusal.TheVariants.{Plain}
 
 -- what was sighted
 module _ (s : Bytes) (x : Sight) where
   pub number_weighs : {r : declared-sight.Sight} {i n : ℕ} → Sighted (store_of s).slots x r → r ≡ sight.Matches i →
-      ((q : Record) → slot_no counted i s ≡ used q → n ≡ weight q) → number_says (number.Number n) ≡ number_at x
+      ((q : Record) → slot_no counted i s ≡ used q → n ≡ weight q) → number_says (Ok n) ≡ number_at x
   unfolding number_says
   number_weighs {r} {i} {n} h e f =
       let g = subst (Sighted (store_of s).slots x) e h in
       ap accepted (f g.1.0 g.1.1) ∙ ap number_at (sym g.1.2)
 
-  pub number_none : x ≡ nothing → number_says (number.Number 0) ≡ number_at x
+  pub number_none : x ≡ nothing → number_says (Ok 0) ≡ number_at x
   unfolding number_says
   number_none e = ap number_at (sym e)
 
-  pub number_spoilt : {n : ℕ} (i : ℕ) → x ≡ spoilt i → n ≡ refusal_of (spoilt_record i) → number_says (number.Refused n) ≡ number_at x
+  pub number_spoilt : (n : ReadRefusal) (i : ℕ) → x ≡ spoilt i → code n ≡ refusal_of (spoilt_record i) → number_says (Err n) ≡ number_at x
   unfolding number_says
-  number_spoilt i e f = ap refused f ∙ ap number_at (sym e)
+  number_spoilt n i e f = ap refused f ∙ ap number_at (sym e)
 
 -- what was tested first
-module _ (s : Bytes) (v : ℕ) {o : declared-opened.Opened} (says : opened_says o ≡ opened s v) where
-  first_refused : {n : ℕ} → o ≡ Refused n → refused n ≡ opened s v
-  first_refused e = sym (ap opened_says e) ∙ says
+module _ (s : Bytes) (v : ℕ) where
+  pub size_kept : accepted tt ≡ opened s v → size_right counted (length s) ≡ true
+  size_kept e = opening.kept_size s v e
 
-  first_kept_lem : o ≡ Kept → accepted tt ≡ opened s v
-  first_kept_lem e = sym (ap opened_says e) ∙ says
-
-  pub size_kept : o ≡ Kept → size_right counted (length s) ≡ true
-  size_kept e = opening.kept_size s v (first_kept_lem e)
-
-  pub number_refused : (table : List ℕ) {n : ℕ} → o ≡ Refused n → number_says (number.Refused n) ≡ number_answer_by s table v
+  pub number_refused : (table : List ℕ) (r : Refusal) → refused (number_of r) ≡ opened s v → number_says (Err (Plain r)) ≡ number_answer_by s table v
   unfolding number_says number_answer_by
-  number_refused table e = opening.refused_first (number_at (root_by table (store_of s) v)) s v (first_refused e)
+  number_refused table r e = opening.refused_first (number_at (root_by table (store_of s) v)) s v e
 
-  pub number_is_read : (table : List ℕ) (r : declared.NumberRead) → o ≡ Kept → number_says r ≡ number_at (root_by table (store_of s) v) → number_says r ≡ number_answer_by s table v
+  pub number_is_read : (table : List ℕ) (r : Result ℕ ReadRefusal) → accepted tt ≡ opened s v → number_says r ≡ number_at (root_by table (store_of s) v) → number_says r ≡ number_answer_by s table v
   unfolding number_answer_by
-  number_is_read table r e f = f ∙ sym (opening.rest_decides (number_at (root_by table (store_of s) v)) s v (first_kept_lem e))
+  number_is_read table r e f = f ∙ sym (opening.rest_decides (number_at (root_by table (store_of s) v)) s v e)
 
 -- by a table without entries it is that of the scan
 pub number_plain : (s : Bytes) (v : ℕ) → number_answer_by s [] v ≡ number_answer s none v

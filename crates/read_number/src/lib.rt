@@ -10,21 +10,14 @@ ghost use Rattle.read_number.specs.Numbers.{number_says, number_answer_by};
 
 use check_counts::weight_at;
 use index_sights::look_root_by;
-use read_open::{Opened, open};
+use read_open::open;
 use read_step::{Trouble, refusal};
+use refusal_numbers::ReadRefusal;
 use sights::Sight;
 use terms::Form;
 
-// What the read of a number answers.
-#[derive(Clone, Copy)]
-pub enum NumberRead {
-    // The number, and in the high half a spoilt slot + 1.
-    Refused(u64),
-    Number(u64),
-}
-
 // The leaves at a version's root record, 0 where there is none; refused where it is spoilt.
-fn root_number(store: &[u8], index: &[u32], version: u32) -> NumberRead
+fn root_number(store: &[u8], index: &[u32], version: u32) -> Result<u64, ReadRefusal>
     requires { size_right Form.Counted (length store.now) ≡ true }
     ensures { number_says result ≡ number_at (root_by index.now (store_of store.now) version) }
 {
@@ -32,24 +25,21 @@ fn root_number(store: &[u8], index: &[u32], version: u32) -> NumberRead
     match sight {
         Sight::Matches(i) => {
             let n = weight_at(Form::Counted, store, i);
-            NumberRead::Number(n)
+            Ok(n)
         }
-        Sight::Nothing => NumberRead::Number(0),
+        Sight::Nothing => Ok(0),
         Sight::Spoilt(i) => {
             let slot = i as u16;
-            let number = refusal(Trouble::Spoilt(slot));
-            NumberRead::Refused(number)
+            Err(refusal(Trouble::Spoilt(slot)))
         }
     }
 }
 
 // Reads the number of grants of a version by a table of any length; one without entries is the scan.
-pub fn grants_count(store: &[u8], index: &[u32], version: u32) -> NumberRead
+pub fn grants_count(store: &[u8], index: &[u32], version: u32) -> Result<u64, ReadRefusal>
     ensures { number_says result ≡ number_answer_by store.now index.now version }
 {
-    let opened = open(store, version);
-    if let Opened::Refused(n) = opened {
-        return NumberRead::Refused(n as u64);
-    }
+    // The reads share this opening; a shared function with a closure for what follows it would be longer than these two lines.
+    open(store, version)?;
     root_number(store, index, version)
 }

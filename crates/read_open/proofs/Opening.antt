@@ -12,33 +12,35 @@ use Rattle.meaning.specs.Calls.{Answer, refused, accepted, is_kept}
 use Rattle.layout.specs.Headers.{Headed, refusal, header, size_right, header_of}
 use Rattle.layout.specs.Stores.{store_of}
 use Rattle.header.specs.Answer.{header_says}
-use Rattle.header.specs.declared.Header as declared
-use Rattle.header.specs.declared.Header.TheVariants.{Refused, Accepted}
+use Rattle.std.specs.Prelude.{Result, Ok, Err}
+use Rattle.refusal_numbers.specs.Refusals.{number}
+use Rattle.refusal_numbers.specs.declared.Refusal.{Refusal}
+use Rattle.header.specs.declared.Header.{Header}
 use Rattle.layout.proofs.Headers as headers
 use Rattle.read_open.specs.Opening.{opened}
 use Rattle.promises.specs.Headed.{by_header}
 
-module _ (s : Bytes) (v : ℕ) {h : declared.Header} (says : header_says h ≡ header_of counted s) where
-  pub header_refused : {n : ℕ} → h ≡ Refused n → refused n ≡ opened s v
+module _ (s : Bytes) (v : ℕ) {h : Result Header Refusal} (says : header_says h ≡ header_of counted s) where
+  pub header_refused : {r : Refusal} → h ≡ Err r → refused (number r) ≡ opened s v
   unfolding opened header_says
   header_refused e = rw (← says, e)
 
-  module _ {n o l : ℕ} (e : h ≡ Accepted n o l) where
-    header_is : header_of counted s ≡ header n o l
+  module _ {d : Header} (e : h ≡ Ok d) where
+    header_is : header_of counted s ≡ header d.capacity d.oldest d.latest
     unfolding header_says
     header_is = sym says ∙ ap header_says e
 
-    pub before_oldest : v < o → refused 8 ≡ opened s v
+    pub before_oldest : v < d.oldest → refused 8 ≡ opened s v
     unfolding opened is_kept
-    before_oldest k = let a = headers.accepted s n o l header_is in rw (header_is, a.oldest, lt-leb o v k)
+    before_oldest k = let a = headers.accepted s d.capacity d.oldest d.latest header_is in rw (header_is, a.oldest, lt-leb d.oldest v k)
 
-    pub after_latest : o ≤ v → l < v → refused 8 ≡ opened s v
+    pub after_latest : d.oldest ≤ v → d.latest < v → refused 8 ≡ opened s v
     unfolding opened is_kept
-    after_latest j k = let a = headers.accepted s n o l header_is in rw (header_is, a.oldest, a.latest, le-leb o v j, lt-leb v l k)
+    after_latest j k = let a = headers.accepted s d.capacity d.oldest d.latest header_is in rw (header_is, a.oldest, a.latest, le-leb d.oldest v j, lt-leb v d.latest k)
 
-    pub version_kept : o ≤ v → v ≤ l → accepted tt ≡ opened s v
+    pub version_kept : d.oldest ≤ v → v ≤ d.latest → accepted tt ≡ opened s v
     unfolding opened is_kept
-    version_kept j k = let a = headers.accepted s n o l header_is in rw (header_is, a.oldest, a.latest, le-leb o v j, le-leb v l k)
+    version_kept j k = let a = headers.accepted s d.capacity d.oldest d.latest header_is in rw (header_is, a.oldest, a.latest, le-leb d.oldest v j, le-leb v d.latest k)
 
 -- what is refused first is the answer, else the rest decides
 abbrev after : {A : Type 0} → Headed → Bool → Answer A → Answer A

@@ -5,39 +5,23 @@ ghost use Rattle.std.specs.Prelude.{◌≡◌};
 ghost use Rattle.promises.specs.Headed.{as_many};
 ghost use Rattle.read_open.specs.Opening.{opened, opened_says};
 
-use header::{Header, read_header};
+use header::read_header;
 use layout::sizes::{COUNTED_SIZE, HEADER_SIZE};
-use refusal_numbers::NOT_KEPT;
+use refusal_numbers::Refusal;
 use terms::Form;
 
-// What a read tests first.
-#[derive(Clone, Copy)]
-pub enum Opened {
-    Refused(u32),
-    Kept,
-}
-
-// The header, then the version.
-pub fn open(store: &[u8], version: u32) -> Opened
+// What a read tests first: the header, then the version.
+pub fn open(store: &[u8], version: u32) -> Result<(), Refusal>
     ensures { opened_says result ≡ opened store.now version }
 {
-    let header = read_header(Form::Counted, store);
-    match header {
-        Header::Refused(n) => Opened::Refused(n),
-        Header::Accepted {
-            capacity: _,
-            oldest,
-            latest,
-        } => {
-            if version < oldest {
-                return Opened::Refused(NOT_KEPT);
-            }
-            if latest < version {
-                return Opened::Refused(NOT_KEPT);
-            }
-            Opened::Kept
-        }
+    let header = read_header(Form::Counted, store)?;
+    if version < header.oldest {
+        return Err(Refusal::NotKept);
     }
+    if header.latest < version {
+        return Err(Refusal::NotKept);
+    }
+    Ok(())
 }
 
 // Whether a table has as many entries as a store has slots.

@@ -24,9 +24,7 @@ use Rattle.sights.specs.Sights.{Sighted}
 use Rattle.sights.specs.declared.Sight as declared-sight
 use Rattle.sights.specs.declared.Sight.TheVariants as sight
 use Rattle.promises.specs.Headed.{by_header, as_many}
-use Rattle.read_open.specs.Opening.{opened, opened_says}
-use Rattle.read_open.specs.declared.Opened as declared-opened
-use Rattle.read_open.specs.declared.Opened.TheVariants.{Refused, Kept}
+use Rattle.read_open.specs.Opening.{opened}
 use Rattle.read_open.proofs.Opening as opening
 use Rattle.read_step.specs.Walk.{body_in}
 use Rattle.read_step.proofs.Seeing.{body_is, inside}
@@ -34,8 +32,13 @@ use Rattle.read_position.specs.Positions.{position_answer_by}
 use Rattle.contracts.specs.Numbers.{position_answer}
 use Rattle.contracts.proofs.Heading.{as_many_lem, not_as_many}
 use Rattle.read_descent.specs.Parts.{position_says, kids_from, body_at}
-use Rattle.read_descent.specs.declared.PositionRead as declared
-use Rattle.read_descent.specs.declared.PositionRead.TheVariants as position
+use Rattle.std.specs.Prelude.{Result, Ok, Err}
+use Rattle.refusal_numbers.specs.Refusals.{number as number_of, code}
+use Rattle.refusal_numbers.specs.declared.Refusal.{Refusal}
+use Rattle.refusal_numbers.specs.declared.ReadRefusal.{ReadRefusal}
+use Rattle.refusal_numbers.specs.declared.ReadRefusal.TheVariants.{Plain}
+use Rattle.refusal_numbers.specs.declared.Refusal.TheVariants.{PastNumber}
+use Rattle.read_descent.specs.declared.Grant as declared
 use Rattle.read_descent.proofs.Descending.{counts_are_lem}
 
 choose_yes : {b : Bool} (x y : Answer Grant) → b ≡ true → cond b x y ≡ x
@@ -63,44 +66,38 @@ module _ (s : Bytes) (table : List ℕ) (x : Sight) (n : ℕ) where
     its : w ≡ weight q
     its = weighs q it.1.1
 
-    pub past_number : w ≤ n → Says (position_says (position.Refused 20))
+    pub past_number : w ≤ n → Says (position_says (Err (Plain PastNumber)))
     unfolding position_says
     past_number l = sym (ap (λ y. position_at (by_table table (store_of s)) y n) it.1.2 ∙ choose_no _ (refused 20) (le-ltb n (weight q) (subst (λ m. m ≤ n) its l)))
 
-    pub from_root : n < w → (a : declared.PositionRead) → position_says a ≡ body_at s table [] i n → Says (position_says a)
+    pub from_root : n < w → (a : Result declared.Grant ReadRefusal) → position_says a ≡ body_at s table [] i n → Says (position_says a)
     unfolding body_at longer
     from_root l a f =
         f
         ∙ ap₂ (λ b t. at_body [] b t n (kids_from s table [])) (sym (body_is (slot_in counted i s) q is)) (sym (counts_are_lem (slot_in counted i s) q is))
         ∙ sym (ap (λ y. position_at (by_table table (store_of s)) y n) it.1.2 ∙ choose_yes _ (refused 20) (lt-ltb n (weight q) (subst (λ m. n < m) its l)))
 
-  pub at_nothing : x ≡ nothing → Says (position_says (position.Refused 20))
+  pub at_nothing : x ≡ nothing → Says (position_says (Err (Plain PastNumber)))
   unfolding position_says
   at_nothing e = sym (ap (λ y. position_at (by_table table (store_of s)) y n) e)
 
-  pub at_spoilt : {m : ℕ} (i : ℕ) → x ≡ spoilt i → m ≡ refusal_of (spoilt_record i) → Says (position_says (position.Refused m))
+  pub at_spoilt : (m : ReadRefusal) (i : ℕ) → x ≡ spoilt i → code m ≡ refusal_of (spoilt_record i) → Says (position_says (Err m))
   unfolding position_says
-  at_spoilt i e f = ap refused f ∙ sym (ap (λ y. position_at (by_table table (store_of s)) y n) e)
+  at_spoilt m i e f = ap refused f ∙ sym (ap (λ y. position_at (by_table table (store_of s)) y n) e)
 
 -- what was tested first
-module _ (s : Bytes) (v n : ℕ) {o : declared-opened.Opened} (says : opened_says o ≡ opened s v) where
-  first_refused : {m : ℕ} → o ≡ Refused m → refused m ≡ opened s v
-  first_refused e = sym (ap opened_says e) ∙ says
+module _ (s : Bytes) (v n : ℕ) where
+  pub size_kept : accepted tt ≡ opened s v → size_right counted (length s) ≡ true
+  size_kept e = opening.kept_size s v e
 
-  first_kept_lem : o ≡ Kept → accepted tt ≡ opened s v
-  first_kept_lem e = sym (ap opened_says e) ∙ says
-
-  pub size_kept : o ≡ Kept → size_right counted (length s) ≡ true
-  size_kept e = opening.kept_size s v (first_kept_lem e)
-
-  pub position_refused : (table : List ℕ) {m : ℕ} → o ≡ Refused m → position_says (position.Refused m) ≡ position_answer_by s table v n
+  pub position_refused : (table : List ℕ) (r : Refusal) → refused (number_of r) ≡ opened s v → position_says (Err (Plain r)) ≡ position_answer_by s table v n
   unfolding position_says position_answer_by
-  position_refused table e = opening.refused_first (position_at (by_table table (store_of s)) (root_by table (store_of s) v) n) s v (first_refused e)
+  position_refused table r e = opening.refused_first (position_at (by_table table (store_of s)) (root_by table (store_of s) v) n) s v e
 
-  pub position_is_read : (table : List ℕ) (r : declared.PositionRead) → o ≡ Kept → position_says r ≡ position_at (by_table table (store_of s)) (root_by table (store_of s) v) n →
+  pub position_is_read : (table : List ℕ) (r : Result declared.Grant ReadRefusal) → accepted tt ≡ opened s v → position_says r ≡ position_at (by_table table (store_of s)) (root_by table (store_of s) v) n →
       position_says r ≡ position_answer_by s table v n
   unfolding position_answer_by
-  position_is_read table r e f = f ∙ sym (opening.rest_decides (position_at (by_table table (store_of s)) (root_by table (store_of s) v) n) s v (first_kept_lem e))
+  position_is_read table r e f = f ∙ sym (opening.rest_decides (position_at (by_table table (store_of s)) (root_by table (store_of s) v) n) s v e)
 
 -- by a table without entries it is that of the scan
 pub position_plain : (s : Bytes) (v n : ℕ) → position_answer_by s [] v n ≡ position_answer s none v n

@@ -11,15 +11,20 @@ ghost use Rattle.read_position.specs.Positions.{position_answer_by};
 
 use check_counts::weight_at;
 use index_sights::look_root_by;
-use read_descent::{PositionRead, descend};
-use read_open::{Opened, open};
+use read_descent::{Grant, descend};
+use read_open::open;
 use read_step::{Trouble, refusal};
-use refusal_numbers::wide::PAST_NUMBER;
+use refusal_numbers::{ReadRefusal, Refusal};
 use sights::Sight;
 use terms::Form;
 
 // The root record first: 3 where it is spoilt, 20 for a position that isn't below its number.
-fn root_position(store: &[u8], index: &[u32], version: u32, position: u64) -> PositionRead
+fn root_position(
+    store: &[u8],
+    index: &[u32],
+    version: u32,
+    position: u64,
+) -> Result<Grant, ReadRefusal>
     requires { size_right Form.Counted (length store.now) ≡ true }
     ensures { position_says result ≡ position_at (by_table index.now (store_of store.now)) (root_by index.now (store_of store.now) version) position }
 {
@@ -28,26 +33,28 @@ fn root_position(store: &[u8], index: &[u32], version: u32, position: u64) -> Po
         Sight::Matches(i) => {
             let number = weight_at(Form::Counted, store, i);
             if number <= position {
-                return PositionRead::Refused(PAST_NUMBER);
+                return Err(ReadRefusal::Plain(Refusal::PastNumber));
             }
             descend(store, index, i, position)
         }
-        Sight::Nothing => PositionRead::Refused(PAST_NUMBER),
+        Sight::Nothing => Err(ReadRefusal::Plain(Refusal::PastNumber)),
         Sight::Spoilt(i) => {
             let slot = i as u16;
-            let refused = refusal(Trouble::Spoilt(slot));
-            PositionRead::Refused(refused)
+            Err(refusal(Trouble::Spoilt(slot)))
         }
     }
 }
 
 // Reads the grant at a position of a version, 0 the least key, by a table of any length; one without entries is the scan.
-pub fn grants_at(store: &[u8], index: &[u32], version: u32, position: u64) -> PositionRead
+pub fn grants_at(
+    store: &[u8],
+    index: &[u32],
+    version: u32,
+    position: u64,
+) -> Result<Grant, ReadRefusal>
     ensures { position_says result ≡ position_answer_by store.now index.now version position }
 {
-    let opened = open(store, version);
-    if let Opened::Refused(n) = opened {
-        return PositionRead::Refused(n as u64);
-    }
+    // The reads share this opening; a shared function with a closure for what follows it would be longer than these two lines.
+    open(store, version)?;
     root_position(store, index, version, position)
 }

@@ -13,20 +13,13 @@ use hash::{Hash, no_hash};
 use index_sights::look_root_by;
 use read_hash::record_hash;
 use read_step::{Trouble, refusal};
+use refusal_numbers::ReadRefusal;
 use sights::Sight;
 use store::slot_of;
 use terms::Form;
 
-// What a root read answers.
-#[derive(Clone, Copy)]
-pub enum RootRead {
-    // The number, and in the high half a spoilt slot + 1.
-    Refused(u64),
-    Hash(Hash),
-}
-
 // The hash of a version's root record, found by a table, or zeros; refused where it is spoilt.
-pub fn root_hash(store: &[u8], index: &[u32], version: u32) -> RootRead
+pub fn root_hash(store: &[u8], index: &[u32], version: u32) -> Result<Hash, ReadRefusal>
     requires { size_right Form.Counted (length store.now) ≡ true }
     ensures { root_says result ≡ root_read leaf_hash inner_hash (root_by index.now (store_of store.now) version) }
 {
@@ -34,16 +27,15 @@ pub fn root_hash(store: &[u8], index: &[u32], version: u32) -> RootRead
     match sight {
         Sight::Matches(i) => {
             let hash = record_hash(slot_of(Form::Counted, store, i));
-            RootRead::Hash(hash)
+            Ok(hash)
         }
         Sight::Nothing => {
             let zeros = no_hash();
-            RootRead::Hash(zeros)
+            Ok(zeros)
         }
         Sight::Spoilt(i) => {
             let slot = i as u16;
-            let number = refusal(Trouble::Spoilt(slot));
-            RootRead::Refused(number)
+            Err(refusal(Trouble::Spoilt(slot)))
         }
     }
 }

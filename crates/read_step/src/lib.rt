@@ -4,6 +4,7 @@
 
 ghost use Rattle.std.specs.Prelude.{◌≡◌, true, [], ◌<◌, length};
 ghost use Rattle.meaning.specs.Reading.{refusal_of, seen};
+ghost use Rattle.refusal_numbers.specs.Refusals.{code};
 ghost use Rattle.indexed.specs.Index.{by_table};
 ghost use Rattle.place.specs.Place.{place_of};
 ghost use Rattle.layout.specs.Sizes.{room_of};
@@ -13,14 +14,12 @@ ghost use Rattle.read_step.specs.Walk.{trouble_says, kid_in, seen_below, Sees, S
 
 use index_sights::{look_by, look_root_by};
 use place::{Place, begins};
-use refusal_numbers::wide::{LOST, NOT_SOUND};
+use refusal_numbers::{ReadRefusal, Refusal};
 use sights::Sight;
 use slots::key_of;
 use slots_form::is_leaf;
 use store::{child_version_at, slot_of};
 use terms::Form;
-
-const HIGH: u64 = 4294967296;
 
 // What stops a read.
 #[derive(Clone, Copy)]
@@ -33,14 +32,14 @@ pub enum Trouble {
     Stray,
 }
 
-// The number of refusal, with the slot beside it where a record is spoilt.
-pub fn refusal(trouble: Trouble) -> u64
-    ensures { result ≡ refusal_of (trouble_says trouble) }
+// Why a read that is stopped refuses.
+pub fn refusal(trouble: Trouble) -> ReadRefusal
+    ensures { code result ≡ refusal_of (trouble_says trouble) }
 {
     match trouble {
-        Trouble::Lost => LOST,
-        Trouble::Spoilt(i) => NOT_SOUND + HIGH * (i as u64 + 1),
-        Trouble::Stray => NOT_SOUND,
+        Trouble::Lost => ReadRefusal::Plain(Refusal::Lost),
+        Trouble::Spoilt(slot) => ReadRefusal::Spoilt(slot),
+        Trouble::Stray => ReadRefusal::Plain(Refusal::NotSound),
     }
 }
 

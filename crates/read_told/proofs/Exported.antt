@@ -15,30 +15,29 @@ use Rattle.hash.specs.Hash.{hash_bytes}
 use Rattle.hash.proofs.Laws.{put_over}
 use Rattle.read_key.specs.Parts.{read_says}
 use Rattle.read_root.specs.Parts.{root_says}
-use Rattle.read_root.specs.declared.RootRead as declared-root
-use Rattle.read_root.specs.declared.RootRead.TheVariants as root
-use Rattle.read_key.specs.declared.KeyRead as declared-read
-use Rattle.read_key.specs.declared.KeyRead.TheVariants as read
+use Rattle.std.specs.Prelude.{Option, Result, Some, None, Ok, Err}
+use Rattle.refusal_numbers.specs.Refusals.{code}
+use Rattle.refusal_numbers.specs.declared.ReadRefusal.{ReadRefusal}
 
-module _ {a : Answer Bytes} {r : declared-root.RootRead} (says : root_says r ≡ a) (old : Bytes) where
-  pub root_refused : {n : ℕ} → r ≡ root.Refused n → Exported a (λ x. x) old n old
+module _ {a : Answer Bytes} {r : Result Hash ReadRefusal} (says : root_says r ≡ a) (old : Bytes) where
+  pub root_refused : {n : ReadRefusal} → r ≡ Err n → Exported a (λ x. x) old (code n) old
   unfolding root_says
   root_refused e = exported_refusal (sym (ap root_says e) ∙ says)
 
-  pub root_written : {h : Hash} {new : Bytes} → r ≡ root.Hash h → length old ≡ 32 → new ≡ hash_bytes h ++ drop 32 old → Exported a (λ x. x) old 0 new
+  pub root_written : {h : Hash} {new : Bytes} → r ≡ Ok h → length old ≡ 32 → new ≡ hash_bytes h ++ drop 32 old → Exported a (λ x. x) old 0 new
   unfolding root_says
   root_written {h} {new} e l w = exported_answer (sym (ap root_says e) ∙ says) (put_over h old new l w)
 
-module _ {a : Answer Verdict} {r : declared-read.KeyRead} (says : read_says r ≡ a) (old : Bytes) where
-  pub key_refused : {n : ℕ} → r ≡ read.Refused n → Exported a found_bytes old n old
+module _ {a : Answer Verdict} {r : Result (Option Hash) ReadRefusal} (says : read_says r ≡ a) (old : Bytes) where
+  pub key_refused : {n : ReadRefusal} → r ≡ Err n → Exported a found_bytes old (code n) old
   unfolding read_says
   key_refused e = exported_refusal (sym (ap read_says e) ∙ says)
 
-  pub key_present : {h : Hash} {new : Bytes} → r ≡ read.Present h → new ≡ 1 ∷ hash_bytes h → Exported a found_bytes old 0 new
+  pub key_present : {h : Hash} {new : Bytes} → r ≡ Ok (Some h) → new ≡ 1 ∷ hash_bytes h → Exported a found_bytes old 0 new
   unfolding read_says
   key_present e w = exported_answer (sym (ap read_says e) ∙ says) w
 
-  pub key_absent : (h : Hash) {new : Bytes} → r ≡ read.Absent → hash_bytes h ≡ zeros → new ≡ 0 ∷ hash_bytes h → Exported a found_bytes old 0 new
+  pub key_absent : (h : Hash) {new : Bytes} → r ≡ Ok None → hash_bytes h ≡ zeros → new ≡ 0 ∷ hash_bytes h → Exported a found_bytes old 0 new
   unfolding read_says
   key_absent h e q w = exported_answer (sym (ap read_says e) ∙ says) (w ∙ ap (0 ∷◌) q)
 

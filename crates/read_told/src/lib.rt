@@ -7,8 +7,6 @@ ghost use Rattle.read.specs.Parts.{root_answer_by, key_answer_by};
 ghost use Rattle.meaning.specs.Answers.{found_bytes, Exported};
 
 use hash::{Hash, no_hash, put_hash};
-use read_key::KeyRead;
-use read_root::RootRead;
 
 // The root of a version, by a table of any length.
 pub fn root_by(store: &[u8], index: &[u32], version: u32, root: &mut [u8; 32]) -> u64
@@ -16,8 +14,8 @@ pub fn root_by(store: &[u8], index: &[u32], version: u32, root: &mut [u8; 32]) -
 {
     let read = read::root(store, index, version);
     match read {
-        RootRead::Refused(n) => n,
-        RootRead::Hash(hash) => {
+        Err(refusal) => refusal.code(),
+        Ok(hash) => {
             put_hash(root, hash);
             0
         }
@@ -39,12 +37,12 @@ pub fn get_by(store: &[u8], index: &[u32], version: u32, key: &[u8], found: &mut
 {
     let read = read::get(store, index, version, key);
     match read {
-        KeyRead::Refused(n) => n,
-        KeyRead::Present(value) => {
+        Err(refusal) => refusal.code(),
+        Ok(Some(value)) => {
             put_found(found, 1, value);
             0
         }
-        KeyRead::Absent => {
+        Ok(None) => {
             put_found(found, 0, no_hash());
             0
         }

@@ -1,64 +1,119 @@
-// The numbers by which a call refuses, each once and in the documents' words. 0 is acceptance.
+// Why a call refuses: each reason once, with the number that a caller in another language gets for it. 0 is acceptance.
 #![tactic(auto)]
 
-pub mod wide;
+ghost use Rattle.std.specs.Prelude.{◌≡◌};
+ghost use Rattle.refusal_numbers.specs.Refusals.{number, number_told, code};
+ghost use Rattle.refusal_numbers.specs.declared.ReadRefusal.TheVariants.{Plain};
 
-// 1: the store's length isn't 24 + 128n, n in 1 to 16,384.
-pub const WRONG_SIZE: u32 = 1;
+// A reason to refuse a call.
+#[derive(Clone, Copy, Debug, PartialEq, Eq)]
+pub enum Refusal {
+    // 1: the store's length isn't 24 + 128n, n in 1 to 16,384.
+    WrongSize,
+    // 2: a header field isn't as it should be, its capacity isn't n, or oldest is above latest.
+    WrongHeader,
+    // 3: not sound (check, apply, prune and what else asks for full soundness), or the walk says so (reads).
+    NotSound,
+    // 4: the batch isn't whole records in form, or has over 1,024.
+    BadBatch,
+    // 5: keys not strictly ascending.
+    BadOrder,
+    // 7: fewer free slots than new records.
+    FewSlots,
+    // 8: the version isn't in oldest to latest.
+    NotKept,
+    // 9: what is to be written is longer than the buffer.
+    NoRoom,
+    // 10: the proof isn't one whole record in form, no byte over.
+    NotInForm,
+    // 11: in form, but doesn't hold.
+    NotHolding,
+    // 12: a key or root handed in isn't 32 bytes.
+    Not32Bytes,
+    // 13: more visits than the limit.
+    TooManyVisits,
+    // 14: proving in an empty version: there is no neighbour to show.
+    EmptyVersion,
+    // 15: a raw key or value has another length, or doesn't hash to what the proof holds.
+    NotRaw,
+    // 16: the table of slot numbers isn't right.
+    WrongIndex,
+    // 17: no slot matches a present child.
+    Lost,
+    // 18: the number is not above latest.
+    NotAbove,
+    // 19: a leaf is shown with more than 32 steps, outside the pocket profile.
+    OutsidePocket,
+    // 20: the position isn't below the number of grants.
+    PastNumber,
+    // 21: a shelf has at most 12 bits.
+    TooManyBits,
+}
 
-// 2: a header field isn't as it should be, its capacity isn't n, or oldest is above latest.
-pub const WRONG_HEADER: u32 = 2;
+impl Refusal {
+    // Its number.
+    pub fn number(self) -> u32
+        ensures { result ≡ number self }
+    {
+        match self {
+            Refusal::WrongSize => 1,
+            Refusal::WrongHeader => 2,
+            Refusal::NotSound => 3,
+            Refusal::BadBatch => 4,
+            Refusal::BadOrder => 5,
+            Refusal::FewSlots => 7,
+            Refusal::NotKept => 8,
+            Refusal::NoRoom => 9,
+            Refusal::NotInForm => 10,
+            Refusal::NotHolding => 11,
+            Refusal::Not32Bytes => 12,
+            Refusal::TooManyVisits => 13,
+            Refusal::EmptyVersion => 14,
+            Refusal::NotRaw => 15,
+            Refusal::WrongIndex => 16,
+            Refusal::Lost => 17,
+            Refusal::NotAbove => 18,
+            Refusal::OutsidePocket => 19,
+            Refusal::PastNumber => 20,
+            Refusal::TooManyBits => 21,
+        }
+    }
+}
 
-// 3: not sound (check, apply, prune and what else asks for full soundness), or the walk says so (reads).
-pub const NOT_SOUND: u32 = 3;
+// What a caller in another language is told: 0, or the number of the reason.
+pub fn number_told(answer: Result<(), Refusal>) -> u32
+    ensures { result ≡ number_told answer }
+{
+    match answer {
+        Ok(()) => 0,
+        Err(refusal) => refusal.number(),
+    }
+}
 
-// 4: the batch isn't whole records in form, or has over 1,024.
-pub const BAD_BATCH: u32 = 4;
+// Why a read refuses: for a reason that any call may have, or since the record in a slot is spoilt.
+#[derive(Clone, Copy, Debug, PartialEq, Eq)]
+pub enum ReadRefusal {
+    Plain(Refusal),
+    // The number of the slot.
+    Spoilt(u16),
+}
 
-// 5: keys not strictly ascending.
-pub const BAD_ORDER: u32 = 5;
+impl ReadRefusal {
+    // Its number in the low half; 3 with the slot + 1 in the high half where a record is spoilt.
+    pub fn code(self) -> u64
+        ensures { result ≡ code self }
+    {
+        match self {
+            ReadRefusal::Plain(refusal) => u64::from(refusal.number()),
+            ReadRefusal::Spoilt(slot) => 3 + 4_294_967_296 * (u64::from(slot) + 1),
+        }
+    }
+}
 
-// 7: fewer free slots than new records.
-pub const FEW_SLOTS: u32 = 7;
+impl From<Refusal> for ReadRefusal {
+    ghost from_gives = { λ r e. e ≡ Plain r };
 
-// 8: the version isn't in oldest to latest.
-pub const NOT_KEPT: u32 = 8;
-
-// 9: what is to be written is longer than the buffer.
-pub const NO_ROOM: u32 = 9;
-
-// 10: the proof isn't one whole record in form, no byte over.
-pub const NOT_IN_FORM: u32 = 10;
-
-// 11: in form, but doesn't hold.
-pub const NOT_HOLDING: u32 = 11;
-
-// 12: a key or root handed in isn't 32 bytes.
-pub const NOT_32_BYTES: u32 = 12;
-
-// 13: more visits than the limit.
-pub const TOO_MANY_VISITS: u32 = 13;
-
-// 14: proving in an empty version: there is no neighbour to show.
-pub const EMPTY_VERSION: u32 = 14;
-
-// 15: a raw key or value has another length, or doesn't hash to what the proof holds.
-pub const NOT_RAW: u32 = 15;
-
-// 16: the table of slot numbers isn't right.
-pub const WRONG_INDEX: u32 = 16;
-
-// 17: no slot matches a present child.
-pub const LOST: u32 = 17;
-
-// 18: the number is not above latest.
-pub const NOT_ABOVE: u32 = 18;
-
-// 19: a leaf is shown with more than 32 steps, outside the pocket profile.
-pub const OUTSIDE_POCKET: u32 = 19;
-
-// 20: the position isn't below the number of grants.
-pub const PAST_NUMBER: u32 = 20;
-
-// 21: a shelf has at most 12 bits.
-pub const TOO_MANY_BITS: u32 = 21;
+    fn from(refusal: Refusal) -> ReadRefusal {
+        ReadRefusal::Plain(refusal)
+    }
+}

@@ -1,10 +1,15 @@
--- Document 02, request 2026-08: what each case of a rescue's answer says. Assumes nothing.
-use Rattle.meaning.specs.Calls.{Answer, refused, accepted}
+-- Document 02, request 2026-08: what a rescue's answer says. Assumes nothing.
+use Rattle.std.specs.Prelude.{Result}
+use Rattle.meaning.specs.Calls.{Answer}
 use Rattle.rescue_bytes.specs.Rescues.{Report}
 use Rattle.rescue_count.specs.Count.{counts_say}
+use Rattle.refusal_numbers.specs.Refusals.{answer_of}
+use Rattle.refusal_numbers.specs.declared.Refusal.{Refusal}
 use Rattle.rescue.specs.declared.Rescued as declared
-use Rattle.rescue.specs.declared.Rescued.TheVariants.{Refused, Kept}
 
-abbrev pub rescued_says : declared.Rescued → Answer Report
-rescued_says (Refused n) = refused n
-rescued_says (Kept first c) = accepted (record { first = first; numbers = counts_say c })
+-- The run's first version and the numbers.
+abbrev pub report_of : declared.Rescued → Report
+report_of k = record { first = k.first; numbers = counts_say k.counts }
+
+abbrev pub rescued_says : Result declared.Rescued Refusal → Answer Report
+rescued_says = answer_of report_of

@@ -12,7 +12,9 @@ use Rattle.meaning.specs.Answers.{exports_refusal, exports_answer}
 use Rattle.rescue_bytes.specs.Rescues.{Rescues, report_bytes, RescueExports}
 use Rattle.rescue.specs.Answer.{rescued_says}
 use Rattle.rescue.specs.declared.Rescued as declared
-use Rattle.rescue.specs.declared.Rescued.TheVariants.{Refused, Kept}
+use Rattle.std.specs.Prelude.{Result, Ok, Err}
+use Rattle.refusal_numbers.specs.Refusals.{number}
+use Rattle.refusal_numbers.specs.declared.Refusal.{Refusal}
 use Rattle.rescue_count.specs.declared.Counts as declared-counts
 use Rattle.rescue_c.specs.Export.{report_says}
 
@@ -27,9 +29,9 @@ report_put v c f f₁ f₂ f₃ f₄ l a b d e =
     (length_le 4 v, (length_le 4 c.same, (length_le 4 c.other, (length_le 4 c.out, tt)))) (sym l)
     ∙ ap (λ z. le 4 v ++ (le 4 c.same ++ (le 4 c.other ++ z))) (append-nil (le 4 c.out))
 
-module _ (oldest latest : ℕ) {s old t f : Bytes} {a : declared.Rescued} (o : Rescues oldest latest s old (rescued_says a) t) where
-  pub export_refused : {n : ℕ} → a ≡ Refused n → RescueExports oldest latest s old f n t f
+module _ (oldest latest : ℕ) {s old t f : Bytes} {a : Result declared.Rescued Refusal} (o : Rescues oldest latest s old (rescued_says a) t) where
+  pub export_refused : {r : Refusal} → a ≡ Err r → RescueExports oldest latest s old f (number r) t f
   export_refused e = exports_refusal (subst (λ q. Rescues oldest latest s old (rescued_says q) t) e o)
 
-  pub export_kept : {v : ℕ} {c : declared-counts.Counts} {g : Bytes} → a ≡ Kept v c → g ≡ report_bytes (report_says v c) → RescueExports oldest latest s old f 0 t g
+  pub export_kept : {k : declared.Rescued} {g : Bytes} → a ≡ Ok k → g ≡ report_bytes (report_says k.first k.counts) → RescueExports oldest latest s old f 0 t g
   export_kept e q = subst (RescueExports oldest latest s old f 0 t) (sym q) (exports_answer (subst (λ r. Rescues oldest latest s old (rescued_says r) t) e o))

@@ -33,8 +33,8 @@ pub fn grants_rescue(
 {
     let rescued = rescue(source, oldest, latest, target);
     match rescued {
-        Rescued::Refused(n) => n,
-        Rescued::Kept { first, counts } => {
+        Err(refusal) => refusal.number(),
+        Ok(Rescued { first, counts }) => {
             put_report(answer, first, counts);
             0
         }

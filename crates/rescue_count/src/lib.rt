@@ -51,15 +51,12 @@ pub fn count(source: &[u8], target: &[u8]) -> Counts
     requires { Pair source.now target.now }
     ensures { counts_say result ≡ counts (store_of source.now).slots (store_of target.now).slots }
 {
-    let n = slot_count(Form::Counted, source);
     let mut c = Counts {
         same: 0,
         other: 0,
         out: 0,
     };
-    let mut i = n;
-    while 0 < i {
-        i -= 1;
+    for i in (0..slot_count(Form::Counted, source)).rev() {
         c = count_slot(source, target, i, c);
     }
     c

@@ -21,8 +21,8 @@ use Rattle.layout.specs.Stores.{slot_in, store_of, store_bytes, slot_no, Has, Sl
 use Rattle.layout.proofs.Slots.{slot_back}
 use Rattle.layout.proofs.Stores.{slot_put_form, slot_put_bytes, retired_put_bytes, store_said}
 use Rattle.store.proofs.Slots.{slots_many, slot_long, slot_bytes_lem, slot_within, slot_is, slot_formed}
-use Rattle.lookup.specs.declared.Found as found
-use Rattle.lookup.specs.declared.Found.TheVariants.{At, Nothing}
+use Rattle.std.specs.declared.option.Option as option
+use Rattle.std.specs.Prelude.{Some, None}
 use Rattle.rescue_rules.specs.Entering.{LowestAt, Put, nothing, puts}
 use Rattle.rescue_look.specs.Look.{LowestIn}
 use Rattle.rescue_enter.specs.Enter.{Target, Held, Puts}
@@ -33,18 +33,18 @@ set_twice (z ∷ xs) zero x y = refl
 set_twice (z ∷ xs) (suc i) x y = ap (z ∷◌) (set_twice xs i x y)
 
 -- nothing was found
-pub put_none : (s t : Bytes) (n : ℕ) {f : found.Found} → Target s t → f ≡ Nothing → Puts s f n t t
+pub put_none : (s t : Bytes) (n : ℕ) {f : option.Option ℕ} → Target s t → f ≡ None → Puts s f n t t
 put_none s t n h e = record { target = h; puts = λ v p l. nothing (subst (LowestIn (store_of s).slots v p) e l) }
 
 -- the slot of a record lies in both
-pub held_slot : (s t : Bytes) {f : found.Found} {i : ℕ} → Target s t → Held s f → f ≡ At i → SlotWithin counted i s × SlotWithin counted i t
+pub held_slot : (s t : Bytes) {f : option.Option ℕ} {i : ℕ} → Target s t → Held s f → f ≡ Some i → SlotWithin counted i s × SlotWithin counted i t
 held_slot s t {f} {i} h k e =
     let x = subst (Held s) e k in
     let w = slot_within x.0 in
     (w, omega (arith, w, h.equal))
 
-module _ (s t : Bytes) (target : Target s t) {f : found.Found} {i : ℕ} (held : Held s f) (e : f ≡ At i) (bytes : All Byte s) (n : ℕ) (small : n ≤ top32) where
-  it : Held s (At i)
+module _ (s t : Bytes) (target : Target s t) {f : option.Option ℕ} {i : ℕ} (held : Held s f) (e : f ≡ Some i) (bytes : All Byte s) (n : ℕ) (small : n ≤ top32) where
+  it : Held s (Some i)
   it = subst (Held s) e held
 
   abbrev r : Record

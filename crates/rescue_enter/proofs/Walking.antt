@@ -18,8 +18,8 @@ use Rattle.layout.specs.Sizes.{room_of}
 use Rattle.layout.specs.Headers.{size_right}
 use Rattle.layout.specs.Stores.{store_of, slot_no, Has}
 use Rattle.store.proofs.Slots.{slots_many}
-use Rattle.lookup.specs.declared.Found as found
-use Rattle.lookup.specs.declared.Found.TheVariants.{At, Nothing}
+use Rattle.std.specs.declared.option.Option as option
+use Rattle.std.specs.Prelude.{Some, None}
 use Rattle.rescue_rules.specs.Joining.{kid_of}
 use Rattle.rescue_rules.specs.Entering.{LowestAt, Put, Entered}
 use Rattle.rescue_laws.proofs.Entered.{entered_same, entered_end, entered_step}
@@ -34,9 +34,9 @@ slots_formed s z b r h =
     its_form s b k.0 (record { size = z; inside = omega (arith, k.1, slots_many counted s) }) r k.2
 
 -- what was found is held
-pub held_of : (s : Bytes) (z : size_right counted (length s) ≡ true) (v : ℕ) (p : Place) (f : found.Found) → LowestIn (store_of s).slots v p f → Held s f
-held_of s z v p (At i) h = (record { size = z; inside = omega (arith, h.0, slots_many counted s) }, (h.1.0, h.1.1.at))
-held_of s z v p Nothing h = tt
+pub held_of : (s : Bytes) (z : size_right counted (length s) ≡ true) (v : ℕ) (p : Place) (f : option.Option ℕ) → LowestIn (store_of s).slots v p f → Held s f
+held_of s z v p (Some i) h = (record { size = z; inside = omega (arith, h.0, slots_many counted s) }, (h.1.0, h.1.1.at))
+held_of s z v p None h = tt
 
 module _ (s : Bytes) (bytes : All Byte s) (n : ℕ) (p : place.Place) (a b : ℕ) where
   abbrev S : List Slot
@@ -49,7 +49,7 @@ module _ (s : Bytes) (bytes : All Byte s) (n : ℕ) (p : place.Place) (a b : ℕ
     entered = entered_same S (slots_formed s h.target.size bytes) n (256 - p.count) a b (place_of p) (store_of t).slots e;
   }
 
-  module _ (f : a ≡ b → ⊥) {t t₁ : Bytes} (h : Entering s t p) {here : found.Found} (low : LowestIn S a (place_of p) here) (put : Puts s here n t t₁) where
+  module _ (f : a ≡ b → ⊥) {t t₁ : Bytes} (h : Entering s t p) {here : option.Option ℕ} (low : LowestIn S a (place_of p) here) (put : Puts s here n t t₁) where
     formed : Formed S
     formed = slots_formed s h.target.size bytes
 

@@ -2,7 +2,7 @@
 // one alone, and what it alone has is entered once it has passed.
 #![tactic(auto)]
 
-ghost use Rattle.std.specs.Prelude.{◌≡◌};
+ghost use Rattle.std.specs.Prelude.{◌≡◌, length};
 ghost use Rattle.layout.specs.Stores.{store_of};
 ghost use Rattle.ordered.specs.Ordered.{Guide};
 ghost use Rattle.rescue_fill.specs.Fill.{bounded, Shaped, Fillable, Filled};
@@ -12,7 +12,7 @@ use format::format;
 use header::put_header;
 use place::Place;
 use rescue_enter::enter;
-use rescue_step::{Stepped, step};
+use rescue_step::step;
 use store::slot_count;
 use terms::Form;
 
@@ -30,22 +30,23 @@ fn finish(target: &mut [u8], first: u32, latest: u32) -> u32
 // Fills the target with the longest run; answers its first version.
 pub fn fill(
     source: &[u8],
-    table: &[u16; 16384],
-    many: usize,
+    order: &[u16],
     oldest: u32,
     latest: u32,
     root: u32,
     floor: u32,
     target: &mut [u8],
 ) -> u32
-    requires { Fillable source.now oldest latest root floor target.old × Guide (store_of source.now).slots table.now many }
+    requires { Fillable source.now oldest latest root floor target.old × Guide (store_of source.now).slots order.now (length order.now) }
     ensures { Filled source.now oldest latest result target.new }
 {
     let top = Place::top();
-    format(target);
-    enter(source, table, many, target, 0, top, root, 0);
+    // The target has the size of a store, so this refuses nothing.
+    let _ = format(target);
+    enter(source, order, target, 0, top, root, 0);
     let mut b = root;
     let mut low = floor;
+    // From root to older root, which is no count.
     loop {
         let first = later(later(oldest, low), b);
         if first <= oldest {
@@ -54,12 +55,12 @@ pub fn fill(
         if b < first {
             return finish(target, first, latest);
         }
-        let stepped = step(source, table, many, first - 1, first, b, low);
-        let Stepped::Yes { root: a, floor: l } = stepped else {
+        let stepped = step(source, order, first - 1, first, b, low);
+        let Some(earlier) = stepped else {
             return finish(target, first, latest);
         };
-        enter(source, table, many, target, first, top, a, b);
-        b = a;
-        low = l;
+        enter(source, order, target, first, top, earlier.root, b);
+        b = earlier.root;
+        low = earlier.floor;
     }
 }

@@ -1,10 +1,9 @@
 -- One tree joins the next at a place exactly if what is looked at there is right, and both sides join. Assumes nothing.
-use Prim.Native.Nat.{ℕ, zero, suc, ◌+◌, ◌-◌, ◌<◌, ◌≤◌, max}
+use Prim.Native.Nat.{ℕ, zero, suc, ◌-◌, ◌<◌, ◌≤◌, max}
 use native.Mathlib.Omega.{arith}
-use mathlib.Core.Path.{◌≡◌, refl, ap, ap₂, sym, ◌∙◌, subst}
-use mathlib.Core.Bool.{Bool, true, false, cond, ◌&&◌, ◌||◌}
+use mathlib.Core.Path.{◌≡◌, refl, ap, ap₂, sym, ◌∙◌}
+use mathlib.Core.Bool.{Bool, true, false, ◌&&◌, ◌||◌}
 use mathlib.Core.List.{List}
-use lib.ListN.{length}
 use lib.Dec.{eqb}
 use borrow.Author.Tests.{eq-eqb, ne_eqb}
 use Rattle.terms.specs.Bits.{Bytes, Side, left, right, Place, longer}
@@ -16,8 +15,7 @@ use Rattle.place.specs.Place.{place_of, Grown}
 use Rattle.layout.specs.Stores.{store_of}
 use Rattle.rescue_rules.specs.Joining.{kid_of, newer, newest_child, record_right, join_at}
 use Rattle.rescue_join.specs.Join.{joins_here, floor_here, JoinSays}
-use Rattle.rescue_join.specs.declared.Joined as joined
-use Rattle.rescue_join.specs.declared.Joined.TheVariants.{Broken, Fits}
+use Rattle.std.specs.Prelude.{Some, None}
 
 -- here by here
 no_left : (a b : Bool) → a ≡ false → a && b ≡ false
@@ -38,7 +36,7 @@ module _ (s : Bytes) (next : ℕ) (p : place.Place) (a b : ℕ) where
   Ahead = (eqb b 0 || eqb b next) && record_right leaf_hash inner_hash S a (place_of p) (find a (place_of p) S)
 
   -- the same version
-  pub joins_same : a ≡ b → JoinSays s next p a b (Fits 0)
+  pub joins_same : a ≡ b → JoinSays s next p a b (Some 0)
   unfolding joins_here floor_here
   joins_same e = (go (256 - p.count), low (256 - p.count))
     where
@@ -52,7 +50,7 @@ module _ (s : Bytes) (next : ℕ) (p : place.Place) (a b : ℕ) where
 
   module _ (f : a ≡ b → ⊥) where
     -- what is looked at here is wrong
-    wrong : Ahead ≡ false → JoinSays s next p a b Broken
+    wrong : Ahead ≡ false → JoinSays s next p a b None
     unfolding joins_here
     wrong e = go (256 - p.count)
       where
@@ -60,11 +58,11 @@ module _ (s : Bytes) (next : ℕ) (p : place.Place) (a b : ℕ) where
         go zero = rw (ne_eqb a b f) (no_left Ahead _ e)
         go (suc n) = rw (ne_eqb a b f) (no_left Ahead _ e)
 
-    pub joins_apart : {t : Bool} → t ≡ (eqb b 0 || eqb b next) → t ≡ false → JoinSays s next p a b Broken
+    pub joins_apart : {t : Bool} → t ≡ (eqb b 0 || eqb b next) → t ≡ false → JoinSays s next p a b None
     joins_apart k e = wrong (no_left (eqb b 0 || eqb b next) _ (sym k ∙ e))
 
     module _ {t : Bool} (k : t ≡ (eqb b 0 || eqb b next)) (e : t ≡ true) {q : Bool} (judged : q ≡ record_right leaf_hash inner_hash S a (place_of p) (find a (place_of p) S)) where
-      pub joins_wrong : q ≡ false → JoinSays s next p a b Broken
+      pub joins_wrong : q ≡ false → JoinSays s next p a b None
       joins_wrong g = wrong (no_right (eqb b 0 || eqb b next) _ (sym judged ∙ g))
 
       module _ (g : q ≡ true) where
@@ -72,7 +70,7 @@ module _ (s : Bytes) (next : ℕ) (p : place.Place) (a b : ℕ) where
         ahead = rw (sym k ∙ e, sym judged ∙ g)
 
         -- at the place of a whole key
-        pub joins_end : 256 ≤ p.count → JoinSays s next p a b (Fits 0)
+        pub joins_end : 256 ≤ p.count → JoinSays s next p a b (Some 0)
         unfolding joins_here floor_here
         joins_end h = let n : 256 - p.count ≡ 0 = omega arith in (go (256 - p.count) n, low (256 - p.count) n)
           where
@@ -121,16 +119,16 @@ module _ (s : Bytes) (next : ℕ) (p : place.Place) (a b : ℕ) where
 
           module _ {l : place.Place} (gl : Grown left p l) {x y : ℕ} (kx : x ≡ kid_of left (find a (place_of p) S)) (ky : y ≡ kid_of left (find b (place_of p) S))
             where
-              pub left_broken : JoinSays s next l x y Broken → JoinSays s next p a b Broken
+              pub left_broken : JoinSays s next l x y None → JoinSays s next p a b None
               left_broken h = deeper ∙ no_right Ahead _ (no_left (join_on left) (join_on right) (sym (join_side left gl kx ky) ∙ h))
 
           module _ {r : place.Place} (gr : Grown right p r) {x y : ℕ} (kx : x ≡ kid_of right (find a (place_of p) S)) (ky : y ≡ kid_of right (find b (place_of p) S)) where
-            pub right_broken : JoinSays s next r x y Broken → JoinSays s next p a b Broken
+            pub right_broken : JoinSays s next r x y None → JoinSays s next p a b None
             right_broken h = deeper ∙ no_right Ahead _ (no_right (join_on left) (join_on right) (sym (join_side right gr kx ky) ∙ h))
 
             pub both_fit : {l : place.Place} (gl : Grown left p l) {u v : ℕ} (ku : u ≡ kid_of left (find a (place_of p) S)) (kv : v ≡ kid_of left (find b (place_of p) S)) →
-                {i j d₁ d₂ d o z : ℕ} → JoinSays s next l u v (Fits i) → JoinSays s next r x y (Fits j) →
-                d₁ ≡ newer a u → d₂ ≡ newer a x → d ≡ max d₁ d₂ → o ≡ max i j → z ≡ max d o → JoinSays s next p a b (Fits z)
+                {i j d₁ d₂ d o z : ℕ} → JoinSays s next l u v (Some i) → JoinSays s next r x y (Some j) →
+                d₁ ≡ newer a u → d₂ ≡ newer a x → d ≡ max d₁ d₂ → o ≡ max i j → z ≡ max d o → JoinSays s next p a b (Some z)
             both_fit gl ku kv hl hr pd pe pf po pz = (
               deeper ∙ all_three Ahead (join_on left) (join_on right) ahead (sym (join_side left gl ku kv) ∙ hl.0) (sym (join_side right gr kx ky) ∙ hr.0),
               low_deeper

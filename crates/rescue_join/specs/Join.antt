@@ -1,6 +1,6 @@
 -- Document 02, request 2026-08, over the bytes of a source: whether one tree joins the next from a place on. No public
 -- promise reaches this file. Assumes nothing.
-use Rattle.std.specs.Prelude.{ℕ, zero, suc, ◌-◌, ◌≡◌, Bool, true, false, List}
+use Rattle.std.specs.Prelude.{ℕ, zero, suc, ◌-◌, ◌≡◌, Bool, true, false, List, Option, Some, None}
 use Rattle.terms.specs.Bits.{Bytes, Side, Place, longer}
 use Rattle.terms.specs.Records.{Slot}
 use Rattle.meaning.specs.Store.{find}
@@ -9,8 +9,6 @@ use Rattle.place.specs.declared.Place as place
 use Rattle.place.specs.Place.{place_of}
 use Rattle.layout.specs.Stores.{store_of}
 use Rattle.rescue_rules.specs.Joining.{kid_of, record_right, join_at, newest_child}
-use Rattle.rescue_join.specs.declared.Joined as declared
-use Rattle.rescue_join.specs.declared.Joined.TheVariants.{Broken, Fits}
 
 -- From a place on: the node of version a joins that of version b, and the greatest version of a child newer than its
 -- parent.
@@ -20,9 +18,9 @@ joins_here s next p a b = join_at leaf_hash inner_hash (256 - p.count) (store_of
 unfoldable pub floor_here : Bytes → place.Place → ℕ → ℕ → ℕ
 floor_here s p a b = newest_child (256 - p.count) (store_of s).slots a b (place_of p)
 
-abbrev pub JoinSays : Bytes → ℕ → place.Place → ℕ → ℕ → declared.Joined → Type 0
-JoinSays s next p a b Broken = joins_here s next p a b ≡ false
-JoinSays s next p a b (Fits l) = (joins_here s next p a b ≡ true) × (floor_here s p a b ≡ l)
+abbrev pub JoinSays : Bytes → ℕ → place.Place → ℕ → ℕ → Option ℕ → Type 0
+JoinSays s next p a b None = joins_here s next p a b ≡ false
+JoinSays s next p a b (Some l) = (joins_here s next p a b ≡ true) × (floor_here s p a b ≡ l)
 
 -- Each record of the tree of version v is right, from a place n bits short of a key on.
 abbrev pub RightFrom : ℕ → List Slot → ℕ → Place → Type 0

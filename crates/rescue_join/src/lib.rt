@@ -35,56 +35,35 @@ fn newer(a: u32, child: u32) -> u32
     0
 }
 
-#[derive(Clone, Copy)]
-pub enum Joined {
-    Broken,
-    // The floor: the greatest version of a child newer than its parent, among the records of the first tree that the second lacks.
-    Fits { floor: u32 },
-}
-
 // Joins the node of version a at a place, and all below it, to the node of version b in the tree of the version `next`, which is right.
-pub fn join(
-    source: &[u8],
-    table: &[u16; 16384],
-    many: usize,
-    next: u32,
-    place: Place,
-    a: u32,
-    b: u32,
-) -> Joined
-    requires { (size_right Form.Counted (length source.now) ≡ true) × Proper place × Guide (store_of source.now).slots table.now many × RightHere source.now place b }
+// Where they fit it answers the floor: the greatest version of a child newer than its parent, among the records of
+// the first tree that the second lacks; None where they don't fit.
+pub fn join(source: &[u8], order: &[u16], next: u32, place: Place, a: u32, b: u32) -> Option<u32>
+    requires { (size_right Form.Counted (length source.now) ≡ true) × Proper place × Guide (store_of source.now).slots order.now (length order.now) × RightHere source.now place b }
     ensures { JoinSays source.now next place a b result }
 {
     if a == b {
-        return Joined::Fits { floor: 0 };
+        return Some(0);
     }
     if !of_next(b, next) {
-        return Joined::Broken;
+        return None;
     }
-    let here = lowest(source, table, many, a, place);
-    let there = lowest(source, table, many, b, place);
-    if !record_right(source, table, many, a, place, here, there) {
-        return Joined::Broken;
+    let here = lowest(source, order, a, place);
+    let there = lowest(source, order, b, place);
+    if !record_right(source, order, a, place, here, there) {
+        return None;
     }
     if 256 <= place.count {
-        return Joined::Fits { floor: 0 };
+        return Some(0);
     }
     let a_left = kid(source, here, false);
     let a_right = kid(source, here, true);
     let b_left = kid(source, there, false);
     let b_right = kid(source, there, true);
     let left = place.left();
-    let on_left = join(source, table, many, next, left, a_left, b_left);
-    let Joined::Fits { floor: l } = on_left else {
-        return Joined::Broken;
-    };
+    let l = join(source, order, next, left, a_left, b_left)?;
     let right = place.right();
-    let on_right = join(source, table, many, next, right, a_right, b_right);
-    let Joined::Fits { floor: r } = on_right else {
-        return Joined::Broken;
-    };
+    let r = join(source, order, next, right, a_right, b_right)?;
     let own = later(newer(a, a_left), newer(a, a_right));
-    Joined::Fits {
-        floor: later(own, later(l, r)),
-    }
+    Some(later(own, later(l, r)))
 }

@@ -26,8 +26,8 @@ use Rattle.layout.specs.Stores.{slot_in, store_of, slot_no, Has}
 use Rattle.layout.proofs.Slots.{record_is}
 use Rattle.store.proofs.Slots.{slots_many, slot_is, slot_formed}
 use Rattle.store.proofs.Scans.{Scan, Each, scan_many, scan_inside, each_from, each_passed, each_next}
-use Rattle.lookup.specs.declared.Found as found
-use Rattle.lookup.specs.declared.Found.TheVariants.{At, Nothing}
+use Rattle.std.specs.declared.option.Option as option
+use Rattle.std.specs.Prelude.{Some, None}
 use Rattle.lookup.specs.Lookup.{FoundIn}
 use Rattle.order_find.specs.Finds.{NoLower}
 use Rattle.lookup.proofs.Searching.{past}
@@ -65,7 +65,7 @@ Passed s v p n i = Scan counted s (Each counted s (NoHolder v p)) n i
 pub passed_start : (s : Bytes) (v : ℕ) (p : Place) {n : ℕ} → size_right counted (length s) ≡ true → n ≡ room_of counted (length s) → Passed s v p n 0
 passed_start s v p e m = each_from s (NoHolder v p) e m (omega arith) (λ j l. absurd (omega arith))
 
-pub passed_end : (s : Bytes) (v : ℕ) (p : Place) {n i : ℕ} → Passed s v p n i → n ≤ i → LowestIn (store_of s).slots v p Nothing
+pub passed_end : (s : Bytes) (v : ℕ) (p : Place) {n i : ℕ} → Passed s v p n i → n ≤ i → LowestIn (store_of s).slots v p None
 passed_end s v p w h = find_none (store_of s).slots v p (λ j q l u. each_passed (NoHolder v p) w j (omega (arith, scan_many w)) q u)
 
 -- by whether slot i holds the node
@@ -73,7 +73,7 @@ module _ {s : Bytes} (v : ℕ) (p : Place) {n i : ℕ} (w : Passed s v p n i) (h
   pub passed_next : t ≡ false → Passed s v p n (i + 1)
   passed_next f = each_next (NoHolder v p) w h (λ q u. ap (node_here v p) (sym u) ∙ sym e ∙ f)
 
-  pub passed_found : t ≡ true → LowestIn (store_of s).slots v p (At i)
+  pub passed_found : t ≡ true → LowestIn (store_of s).slots v p (Some i)
   passed_found f =
       let x = its_record v p (slot_no counted i s) (sym e ∙ f) in
       let none_yet : (j : ℕ) (q : Record) → j < i → slot_no counted j s ≡ used q → is_node v p q ≡ false = λ j q l u. each_passed (NoHolder v p) w j l q u in (
@@ -103,7 +103,7 @@ module _ (s : Bytes) (bytes : All Byte s) (i : ℕ) (has : Has counted s i) (r :
   inner_counts t = ap (λ (q : Record). q.counts) (sym (rw t at (record_is (slot_in counted i s) r says)))
 
 -- version 0 is no node
-pub no_version : (s : Bytes) → size_right counted (length s) ≡ true → All Byte s → (v : ℕ) (p : Place) → v ≡ 0 → LowestIn (store_of s).slots v p Nothing
+pub no_version : (s : Bytes) → size_right counted (length s) ≡ true → All Byte s → (v : ℕ) (p : Place) → v ≡ 0 → LowestIn (store_of s).slots v p None
 no_version s z b v p e = go _ refl
   where
     go : (o : Option Record) → find v p (store_of s).slots ≡ o → o ≡ none
@@ -114,18 +114,18 @@ no_version s z b v p e = go _ refl
         absurd (omega (arith, (its_form s b f.0 h r f.1.1).versioned.0, f.2))
 
 -- what was found is in a slot
-pub inside_of : (s : Bytes) (z : size_right counted (length s) ≡ true) (v : ℕ) (p : Place) (f : found.Found) → LowestIn (store_of s).slots v p f → Inside s f
-inside_of s z v p (At i) h = record { size = z; inside = omega (arith, h.0, slots_many counted s) }
-inside_of s z v p Nothing h = tt
+pub inside_of : (s : Bytes) (z : size_right counted (length s) ≡ true) (v : ℕ) (p : Place) (f : option.Option ℕ) → LowestIn (store_of s).slots v p f → Inside s f
+inside_of s z v p (Some i) h = record { size = z; inside = omega (arith, h.0, slots_many counted s) }
+inside_of s z v p None h = tt
 
 -- the child's version
-module _ (s : Bytes) {f : found.Found} (b : Side) where
-  pub kid_nothing : f ≡ Nothing → KidSays s f b 0
+module _ (s : Bytes) {f : option.Option ℕ} (b : Side) where
+  pub kid_nothing : f ≡ None → KidSays s f b 0
   kid_nothing e v p h = sym (ap (kid_of b) (subst (LowestIn (store_of s).slots v p) e h))
 
-  module _ (bytes : All Byte s) {i : ℕ} (has : Has counted s i) (e : f ≡ At i) where
+  module _ (bytes : All Byte s) {i : ℕ} (has : Has counted s i) (e : f ≡ Some i) where
     module _ (v : ℕ) (p : Place) (h : LowestIn (store_of s).slots v p f) where
-      at_i : LowestIn (store_of s).slots v p (At i)
+      at_i : LowestIn (store_of s).slots v p (Some i)
       at_i = subst (LowestIn (store_of s).slots v p) e h
 
       kid_by : (y : Body) → at_i.1.0.body ≡ y → kid_of b (find v p (store_of s).slots) ≡ child_version b y
@@ -142,17 +142,17 @@ module _ (s : Bytes) {f : found.Found} (b : Side) where
         ∙ sym (kid_by v p h _ (inner_is s bytes i has (at_i v p h).1.0 (at_i v p h).1.1.at (ap is_leaf (sym q) ∙ sym d ∙ t)))
 
 -- the count on a side, and what was found there
-module _ (s : Bytes) (i : ℕ) (b : Side) {f : found.Found} {c : ℕ} (e : c ≡ count_on b (counts_in (slot_in counted i s))) where
-  pub weighs_nothing : f ≡ Nothing → WeighsSay s i b f (eqb c 0)
+module _ (s : Bytes) (i : ℕ) (b : Side) {f : option.Option ℕ} {c : ℕ} (e : c ≡ count_on b (counts_in (slot_in counted i s))) where
+  pub weighs_nothing : f ≡ None → WeighsSay s i b f (eqb c 0)
   weighs_nothing k v p h = ap₂ eqb e (sym (ap weighed (subst (LowestIn (store_of s).slots v p) k h)))
 
-  pub weighs_found : {j n : ℕ} → f ≡ At j → ((q : Record) → slot_no counted j s ≡ used q → n ≡ weight q) → WeighsSay s i b f (eqb c n)
+  pub weighs_found : {j n : ℕ} → f ≡ Some j → ((q : Record) → slot_no counted j s ≡ used q → n ≡ weight q) → WeighsSay s i b f (eqb c n)
   weighs_found {j} k w v p h =
-      let x : LowestIn (store_of s).slots v p (At j) = subst (LowestIn (store_of s).slots v p) k h in
+      let x : LowestIn (store_of s).slots v p (Some j) = subst (LowestIn (store_of s).slots v p) k h in
       ap₂ eqb e (w x.1.0 x.1.1.at ∙ sym (ap weighed x.1.1.found))
 
 -- both tests of the child on a side
-module _ (s : Bytes) (i : ℕ) (b : Side) (p : Place) {v : ℕ} (f : found.Found) (k : v ≡ (kid_on b (slot_in counted i s)).version)
+module _ (s : Bytes) (i : ℕ) (b : Side) (p : Place) {v : ℕ} (f : option.Option ℕ) (k : v ≡ (kid_on b (slot_in counted i s)).version)
     (h : LowestIn (store_of s).slots v p f) where
   weighs_is : {m : Bool} → WeighsSay s i b f m → m ≡ weighs_at s i b p
   unfolding weighs_at
@@ -167,17 +167,17 @@ module _ (s : Bytes) (i : ℕ) (b : Side) (p : Place) {v : ℕ} (f : found.Found
   tied_on say e g = g ∙ ap (◌&& linked_at s i b p) (sym e ∙ weighs_is say)
 
 -- the child on a side, sought at a place
-module _ (s : Bytes) (i : ℕ) (b : Side) (p : Place) {v : ℕ} {f : found.Found} (k : v ≡ (kid_on b (slot_in counted i s)).version)
+module _ (s : Bytes) (i : ℕ) (b : Side) (p : Place) {v : ℕ} {f : option.Option ℕ} (k : v ≡ (kid_on b (slot_in counted i s)).version)
     (h : LowestIn (store_of s).slots v p f) where
-  pub link_nothing : f ≡ Nothing → eqb v 0 ≡ linked_at s i b p
+  pub link_nothing : f ≡ None → eqb v 0 ≡ linked_at s i b p
   unfolding linked_at
   link_nothing e =
       let n : find (kid_on b (slot_in counted i s)).version p (store_of s).slots ≡ none =
       ap (λ w. find w p (store_of s).slots) (sym k) ∙ subst (LowestIn (store_of s).slots v p) e h in
       rw n (ap (λ w. eqb w 0) k)
 
-  module _ (size : size_right counted (length s) ≡ true) (bytes : All Byte s) {j : ℕ} (e : f ≡ At j) where
-    at_j : LowestIn (store_of s).slots v p (At j)
+  module _ (size : size_right counted (length s) ≡ true) (bytes : All Byte s) {j : ℕ} (e : f ≡ Some j) where
+    at_j : LowestIn (store_of s).slots v p (Some j)
     at_j = subst (LowestIn (store_of s).slots v p) e h
 
     pub has_j : Has counted s j
@@ -213,6 +213,6 @@ module _ (s : Bytes) (i : ℕ) (b : Side) (p : Place) {v : ℕ} {f : found.Found
         link_leaf u w = sym (linked_found ∙ rw (same_is, right-hash, ap is_leaf (sym slot) ∙ sym kind ∙ u) (ap (λ n. not (eqb n 0)) (sym w)))
 
 -- what is found by a table is the lowest slot
-pub as_lowest : (s : List Slot) (v : ℕ) (p : Place) (f : found.Found) → FoundIn s v p f → NoLower s v p f → LowestIn s v p f
-as_lowest s v p (At i) w l = (w.0, (w.1.0, record { at = w.1.1; found = w.1.2; lowest = l }))
-as_lowest s v p Nothing w l = w
+pub as_lowest : (s : List Slot) (v : ℕ) (p : Place) (f : option.Option ℕ) → FoundIn s v p f → NoLower s v p f → LowestIn s v p f
+as_lowest s v p (Some i) w l = (w.0, (w.1.0, record { at = w.1.1; found = w.1.2; lowest = l }))
+as_lowest s v p None w l = w

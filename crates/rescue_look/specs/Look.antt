@@ -1,6 +1,6 @@
 -- Document 02, request 2026-08, over the bytes of a source: what a search for a node found. No public promise reaches
 -- this file. Assumes nothing.
-use Rattle.std.specs.Prelude.{ℕ, ◌<◌, ◌≡◌, Bool, not, ◌&&◌, List, length, eqb}
+use Rattle.std.specs.Prelude.{ℕ, ◌<◌, ◌≡◌, Bool, not, ◌&&◌, List, length, eqb, Some, None}
 use Rattle.std.proofs.Math.Option.{none}
 use Rattle.terms.specs.declared.Form.TheVariants.{Counted as counted}
 use Rattle.terms.specs.Bits.{Bytes, Side, Place}
@@ -10,23 +10,22 @@ use Rattle.meaning.specs.Local.{weighed}
 use Rattle.nodehash.specs.Node.{leaf_hash, inner_hash}
 use Rattle.layout.specs.Slots.{counts_in, kid_on}
 use Rattle.layout.specs.Stores.{slot_in, store_of, Has}
-use Rattle.lookup.specs.declared.Found as found
-use Rattle.lookup.specs.declared.Found.TheVariants.{At, Nothing}
+use Rattle.std.specs.declared.option.Option as option
 use Rattle.rescue_rules.specs.Joining.{kid_of, linked}
 use Rattle.rescue_rules.specs.Entering.{LowestAt}
 
 -- What a search for a node found: its lowest slot, or nothing.
-abbrev pub LowestIn : List Slot → ℕ → Place → found.Found → Type 0
-LowestIn s v p (At i) = (i < length s) × ((r : Record) × LowestAt s v p i r)
-LowestIn s v p Nothing = find v p s ≡ none
+abbrev pub LowestIn : List Slot → ℕ → Place → option.Option ℕ → Type 0
+LowestIn s v p (Some i) = (i < length s) × ((r : Record) × LowestAt s v p i r)
+LowestIn s v p None = find v p s ≡ none
 
 -- What is found is in a slot of the source.
-abbrev pub Inside : Bytes → found.Found → Type 0
-Inside s (At i) = Has counted s i
-Inside s Nothing = Unit {0}
+abbrev pub Inside : Bytes → option.Option ℕ → Type 0
+Inside s (Some i) = Has counted s i
+Inside s None = Unit {0}
 
 -- The version of the child on a side of whatever node was sought.
-abbrev pub KidSays : Bytes → found.Found → Side → ℕ → Type 0
+abbrev pub KidSays : Bytes → option.Option ℕ → Side → ℕ → Type 0
 KidSays s f b r = (v : ℕ) (p : Place) → LowestIn (store_of s).slots v p f → r ≡ kid_of b (find v p (store_of s).slots)
 
 -- Whether the child on a side of the inner record in slot i, sought at a place, is linked.
@@ -36,7 +35,7 @@ linked_at s i b p =
     (kid_on b (slot_in counted i s)) (kid_on (not b) (slot_in counted i s))
 
 -- Whether the count on a side is that of the leaves at whatever child was sought.
-abbrev pub WeighsSay : Bytes → ℕ → Side → found.Found → Bool → Type 0
+abbrev pub WeighsSay : Bytes → ℕ → Side → option.Option ℕ → Bool → Type 0
 WeighsSay s i b f r =
     (v : ℕ) (p : Place) → LowestIn (store_of s).slots v p f → r ≡ eqb (count_on b (counts_in (slot_in counted i s)))
     (weighed (find v p (store_of s).slots))

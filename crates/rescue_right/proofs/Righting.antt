@@ -25,8 +25,8 @@ use Rattle.layout.specs.Headers.{size_right}
 use Rattle.layout.specs.Slots.{is_leaf, key_in, counts_in, left_in, right_in, kid_on}
 use Rattle.layout.specs.Stores.{slot_in, store_of, Has}
 use Rattle.store.proofs.Slots.{slots_many}
-use Rattle.lookup.specs.declared.Found as found
-use Rattle.lookup.specs.declared.Found.TheVariants.{At, Nothing}
+use Rattle.std.specs.declared.option.Option as option
+use Rattle.std.specs.Prelude.{Some, None}
 use Rattle.check_pass.specs.Passes.{Passed}
 use Rattle.order_near.proofs.Near.{passed_if}
 use Rattle.rescue_rules.specs.Joining.{linked, body_right, record_right}
@@ -45,16 +45,16 @@ both_sides false b true y = refl
 both_sides false b false y = refl
 
 -- a record that was sought
-module _ (s : Bytes) (v : ℕ) (p : place.Place) {f : found.Found} (w : Sought s v p f) where
+module _ (s : Bytes) (v : ℕ) (p : place.Place) {f : option.Option ℕ} (w : Sought s v p f) where
   abbrev Right : Bool
   Right = record_right leaf_hash inner_hash (store_of s).slots v (place_of p) (find v (place_of p) (store_of s).slots)
 
-  pub right_nothing : f ≡ Nothing → eqb v 0 ≡ Right
+  pub right_nothing : f ≡ None → eqb v 0 ≡ Right
   right_nothing e =
       sym (ap (record_right leaf_hash inner_hash (store_of s).slots v (place_of p)) (subst (LowestIn (store_of s).slots v (place_of p)) e w.lowest))
 
-  module _ (bytes : All Byte s) {i : ℕ} (e : f ≡ At i) where
-    at_slot : LowestIn (store_of s).slots v (place_of p) (At i)
+  module _ (bytes : All Byte s) {i : ℕ} (e : f ≡ Some i) where
+    at_slot : LowestIn (store_of s).slots v (place_of p) (Some i)
     at_slot = subst (LowestIn (store_of s).slots v (place_of p)) e w.lowest
 
     pub sought_has : Has counted s i
@@ -138,9 +138,9 @@ module _ (s : Bytes) (i j : ℕ) (b : Side) (p : Place) (a : Alike s i j b) wher
   unfolding tied_at
   tied_alike t = both_true (weighs_at s i b p) (linked_at s i b p) (weighs_alike ∙ and_left _ _ t) (linked_alike (and_right (weighs_at s j b p) _ t))
 
-pub told_tied : (s : Bytes) (i : ℕ) (b : Side) (p : Place) (f : found.Found) → Told s i b f → Tied s b p f → tied_at s i b p ≡ true
-told_tied s i b p (At j) w t = tied_alike s i j b p w.1 (t.1 w.0)
-told_tied s i b p Nothing w t = absurd w
+pub told_tied : (s : Bytes) (i : ℕ) (b : Side) (p : Place) (f : option.Option ℕ) → Told s i b f → Tied s b p f → tied_at s i b p ≡ true
+told_tied s i b p (Some j) w t = tied_alike s i j b p w.1 (t.1 w.0)
+told_tied s i b p None w t = absurd w
 
 -- what the tests say
 pub alike_if : (s : Bytes) (i j : ℕ) (b : Side) {o v w m n : ℕ} {x y f g : Bytes} {t : Bool} → o ≡ (kid_on (not b) (slot_in counted i s)).version → (o ≡ 0 → ⊥) →
@@ -161,25 +161,25 @@ pub passed_then : {P Q : Type 0} (r : Bool) → (P → Q) → Passed r P → Pas
 passed_then true f h = f h
 passed_then false f h = tt
 
-pub tied_inside : (s : Bytes) (b : Side) (p : Place) (f : found.Found) → Tied s b p f → Inside s f
-tied_inside s b p (At j) t = t.0
-tied_inside s b p Nothing t = tt
+pub tied_inside : (s : Bytes) (b : Side) (p : Place) (f : option.Option ℕ) → Tied s b p f → Inside s f
+tied_inside s b p (Some j) t = t.0
+tied_inside s b p None t = tt
 
 -- Both children of a right record are tied.
 module _ (s : Bytes) (size : size_right counted (length s) ≡ true) (bytes : All Byte s) (p : place.Place) (proper : Proper p) {l : place.Place} (on_left_lem : Grown left p l) where
-  as_sought : {f : found.Found} (h : Beside s p f) → Sought s h.version p f
+  as_sought : {f : option.Option ℕ} (h : Beside s p f) → Sought s h.version p f
   as_sought h = record { size = size; proper = proper; lowest = h.lowest }
 
-  both_tied : {j : ℕ} (h : Beside s p (At j)) → is_leaf (slot_in counted j s) ≡ false → tied_at s j left (place_of l) && tied_at s j right (longer right (place_of p)) ≡ true
+  both_tied : {j : ℕ} (h : Beside s p (Some j)) → is_leaf (slot_in counted j s) ≡ false → tied_at s j left (place_of l) && tied_at s j right (longer right (place_of p)) ≡ true
   both_tied h u = sym (sides s h.version p (as_sought h) bytes refl refl refl u on_left_lem) ∙ h.right
 
-  pub beside_left : (f : found.Found) → Beside s p f → Tied s left (place_of l) f
-  beside_left (At j) h = (sought_has s h.version p (as_sought h) bytes refl, λ u. and_left _ _ (both_tied h u))
-  beside_left Nothing h = tt
+  pub beside_left : (f : option.Option ℕ) → Beside s p f → Tied s left (place_of l) f
+  beside_left (Some j) h = (sought_has s h.version p (as_sought h) bytes refl, λ u. and_left _ _ (both_tied h u))
+  beside_left None h = tt
 
-  pub beside_right : {r : place.Place} → Grown right p r → (f : found.Found) → Beside s p f → Tied s right (place_of r) f
-  beside_right g (At j) h = (
+  pub beside_right : {r : place.Place} → Grown right p r → (f : option.Option ℕ) → Beside s p f → Tied s right (place_of r) f
+  beside_right g (Some j) h = (
     sought_has s h.version p (as_sought h) bytes refl,
     λ u. ap (tied_at s j right) g.place ∙ and_right (tied_at s j left (place_of l)) _ (both_tied h u),
   )
-  beside_right g Nothing h = tt
+  beside_right g None h = tt

@@ -1,7 +1,7 @@
 // Whether a record of a source of any contents is right by itself, document 02, request 2026-08; a child of which a right record says the same needs no look.
 #![tactic(auto)]
 
-ghost use Rattle.std.specs.Prelude.{◌≡◌};
+ghost use Rattle.std.specs.Prelude.{◌≡◌, length};
 ghost use Rattle.meaning.specs.Store.{find};
 ghost use Rattle.nodehash.specs.Node.{leaf_hash, inner_hash};
 ghost use Rattle.place.specs.Place.{place_of, Proper};
@@ -12,7 +12,6 @@ ghost use Rattle.rescue_rules.specs.Joining.{record_right};
 ghost use Rattle.rescue_look.specs.Look.{Inside, tied_at};
 ghost use Rattle.rescue_right.specs.Right.{Sought, Alike, Told, Tied, Beside};
 
-use lookup::Found;
 use place::{Place, begins, same};
 use rescue_look::linked;
 use slots::{child_hash, key_of};
@@ -45,11 +44,11 @@ fn alike(source: &[u8], i: usize, j: usize, right: bool) -> bool
 }
 
 // Whether the record found beside that in slot i is an inner one, and says the same.
-fn told(source: &[u8], i: usize, right: bool, beside: Found) -> bool
+fn told(source: &[u8], i: usize, right: bool, beside: Option<usize>) -> bool
     requires { Has Form.Counted source.now i × Inside source.now beside }
     ensures { Passed result (Told source.now i right beside) }
 {
-    let Found::At(j) = beside else {
+    let Some(j) = beside else {
         return false;
     };
     if is_leaf(slot_of(Form::Counted, source, j)) {
@@ -61,37 +60,35 @@ fn told(source: &[u8], i: usize, right: bool, beside: Found) -> bool
 // Whether the child on a side of the inner record in slot i is linked, by the record beside it or by a look.
 fn tied(
     source: &[u8],
-    table: &[u16; 16384],
-    many: usize,
+    order: &[u16],
     i: usize,
     right: bool,
     place: Place,
-    beside: Found,
+    beside: Option<usize>,
 ) -> bool
-    requires { Has Form.Counted source.now i × Proper place × Guide (store_of source.now).slots table.now many × Tied source.now right (place_of place) beside }
+    requires { Has Form.Counted source.now i × Proper place × Guide (store_of source.now).slots order.now (length order.now) × Tied source.now right (place_of place) beside }
     ensures { result ≡ tied_at source.now i right (place_of place) }
 {
     if told(source, i, right, beside) {
         return true;
     }
-    linked(source, table, many, i, right, place)
+    linked(source, order, i, right, place)
 }
 
 // Whether no node was asked for, or it was found and is right: a leaf's key begins with its place, an inner record's children are linked. The record found
 // beside it, at the same place, is right.
 pub fn record_right(
     source: &[u8],
-    table: &[u16; 16384],
-    many: usize,
+    order: &[u16],
     version: u32,
     place: Place,
-    found: Found,
-    beside: Found,
+    found: Option<usize>,
+    beside: Option<usize>,
 ) -> bool
-    requires { Sought source.now version place found × Guide (store_of source.now).slots table.now many × Beside source.now place beside }
+    requires { Sought source.now version place found × Guide (store_of source.now).slots order.now (length order.now) × Beside source.now place beside }
     ensures { result ≡ record_right leaf_hash inner_hash (store_of source.now).slots version (place_of place) (find version (place_of place) (store_of source.now).slots) }
 {
-    let Found::At(i) = found else {
+    let Some(i) = found else {
         return version == 0;
     };
     let slot = slot_of(Form::Counted, source, i);
@@ -99,9 +96,9 @@ pub fn record_right(
         return begins(key_of(slot), place);
     }
     let left = place.left();
-    if !tied(source, table, many, i, false, left, beside) {
+    if !tied(source, order, i, false, left, beside) {
         return false;
     }
     let right = place.right();
-    tied(source, table, many, i, true, right, beside)
+    tied(source, order, i, true, right, beside)
 }

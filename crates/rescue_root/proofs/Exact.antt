@@ -5,7 +5,6 @@ use mathlib.Core.Path.{◌≡◌, refl, ap, sym, ◌∙◌, subst}
 use mathlib.Core.Bool.{Bool, true, false, cond, ◌&&◌, true≢false}
 use mathlib.Core.List.{List, [], ◌∷◌}
 use mathlib.Core.Option.{Option, none, some}
-use lib.ListN.{length, get_or}
 use lib.Dec.{leb, eqb}
 use borrow.Author.Tests.{leb-true, leb-false, le-leb, lt-leb, eq-eqb}
 use Rattle.terms.specs.Bits.{Place, same_place}
@@ -13,8 +12,8 @@ use Rattle.terms.specs.Records.{Record, Slot, free, used, spoiled}
 use Rattle.meaning.specs.Store.{is_node, find}
 use Rattle.meaning.proofs.Finding.{is_node_eq, found_in}
 use Rattle.lookup.specs.Lookup.{Located, FoundIn}
-use Rattle.lookup.specs.declared.Found as found
-use Rattle.lookup.specs.declared.Found.TheVariants.{At, Nothing}
+use Rattle.std.specs.declared.option.Option as option
+use Rattle.std.specs.Prelude.{Some, None}
 use Rattle.rescue_rules.specs.Rescue.{newer_root, root_up_to, newest_root}
 
 both_left : (a b : Bool) → a && b ≡ true → a ≡ true
@@ -95,10 +94,10 @@ exact (used q ∷ s) v r e = go (λ u. exact s v r u) (is_node v [] q) refl e
     go rest true f u = rw (node_up_to v q f) (stays v q (newest_root v s) (is_node_eq v [] q f).0 (λ x g. newest_most v s x g) ∙ u)
     go rest false f u = past r (found_in s v [] r u).2 (rest u) f (root_up_to v q) refl
 
-pub exact_located : (s : List Slot) (v : ℕ) {p : Place} {f : found.Found} {i : ℕ} → p ≡ [] → FoundIn s v p f → f ≡ At i → Located s (newest_root v s) (At i)
+pub exact_located : (s : List Slot) (v : ℕ) {p : Place} {f : option.Option ℕ} {i : ℕ} → p ≡ [] → FoundIn s v p f → f ≡ Some i → Located s (newest_root v s) (Some i)
 exact_located s v {p} {f} {i} top w e =
     let h = subst (λ z. Located s (find v p s) z) e w in
     (h.0, (h.1.0, h.1.1, exact s v h.1.0 (subst (λ z. find v z s ≡ some h.1.0) top h.1.2)))
 
-pub none_own : (s : List Slot) (v : ℕ) {p : Place} {f : found.Found} → p ≡ [] → FoundIn s v p f → f ≡ Nothing → find v [] s ≡ none
+pub none_own : (s : List Slot) (v : ℕ) {p : Place} {f : option.Option ℕ} → p ≡ [] → FoundIn s v p f → f ≡ None → find v [] s ≡ none
 none_own s v {p} top w e = subst (λ z. find v z s ≡ none) top (subst (λ z. Located s (find v p s) z) e w)

@@ -4,29 +4,28 @@ use Prim.Native.Nat.{ℕ, ◌+◌, ◌<◌, ◌≤◌}
 use native.Mathlib.Omega.{arith}
 use mathlib.Core.Path.{◌≡◌, refl, ap, sym, ◌∙◌, subst}
 use mathlib.Core.Bool.{Bool, true, false, cond, ◌&&◌, true≢false}
-use mathlib.Core.List.{List, [], ◌∷◌}
+use mathlib.Core.List.{[], ◌∷◌}
 use mathlib.Core.Option.{Option, none, some}
-use lib.ListN.{length, get_or, drop}
+use lib.ListN.{length, drop}
 use lib.Dec.{leb, ltb}
 use borrow.Author.Tests.{leb-true, leb-false, ltb-true, ltb-false, lt-ltb, le-ltb, le-leb, lt-leb}
 use Rattle.terms.specs.declared.Form.TheVariants.{Counted as counted}
 use Rattle.terms.specs.Bits.{Bytes, Byte, All, Place, same_place}
-use Rattle.terms.specs.Fields.{field}
 use Rattle.terms.specs.Records.{Record, Slot, free, used, spoiled}
 use Rattle.terms.specs.Form.{RecordForm}
 use Rattle.meaning.specs.Store.{retired_by}
 use Rattle.local.specs.Test.{by_record}
 use Rattle.layout.specs.Sizes.{slot_size, room_of}
 use Rattle.layout.specs.Headers.{size_right}
-use Rattle.layout.specs.Slots.{count_in, version_in, since_in, slot_of, SlotForm}
+use Rattle.layout.specs.Slots.{count_in, version_in, since_in, slot_of}
 use Rattle.layout.specs.Stores.{slot_in, store_of, slot_no, Has}
 use Rattle.layout.proofs.Slots.{retired_says}
-use Rattle.store.proofs.Slots.{slots_many, slot_long, slot_bytes_lem, slot_within, slot_is, slot_formed}
+use Rattle.store.proofs.Slots.{slots_many, slot_long, slot_bytes_lem, slot_within, slot_is}
 use Rattle.store.proofs.Scans.{Scan, scan_start, scan_many, scan_slot, scan_here, scan_next, scan_end}
 use Rattle.lookup.specs.Lookup.{is_used, Located}
-use Rattle.lookup.specs.declared.Found as found
-use Rattle.lookup.specs.declared.Found.TheVariants.{At, Nothing}
-use Rattle.lookup.proofs.Matching.{Says, says, version_is, count_is_lem}
+use Rattle.std.specs.declared.option.Option as option
+use Rattle.std.specs.Prelude.{Some, None}
+use Rattle.lookup.proofs.Matching.{says, version_is, count_is_lem}
 use Rattle.rescue_rules.specs.Rescue.{newer_root, root_up_to, newest_root, unless_retired, source_root}
 use Rattle.rescue_rules.specs.Joining.{version_of, root_version}
 use Rattle.rescue_root.specs.Roots.{root_above}
@@ -134,13 +133,13 @@ or_none none = refl
 or_none (some r) = refl
 
 -- at slot i of n: the best so far, its slot and its version
-pub record Best (s : Bytes) (v n : ℕ) (best : found.Found) (above i : ℕ) : Type 0 where
+pub record Best (s : Bytes) (v n : ℕ) (best : option.Option ℕ) (above i : ℕ) : Type 0 where
   pub it : Option Record
   pub located : Located (store_of s).slots it best
   pub version : above ≡ version_of it
   pub scan : Scan counted s (λ xs ys. newest_root v (store_of s).slots ≡ or_newer it (newest_root v ys)) n i
 
-pub best_start : (s : Bytes) (v : ℕ) {n : ℕ} → size_right counted (length s) ≡ true → n ≡ room_of counted (length s) → Best s v n Nothing 0 0
+pub best_start : (s : Bytes) (v : ℕ) {n : ℕ} → size_right counted (length s) ≡ true → n ≡ room_of counted (length s) → Best s v n None 0 0
 best_start s v e m = record {
   it = none;
   located = refl;
@@ -148,7 +147,7 @@ best_start s v e m = record {
   scan = scan_start s (λ xs ys. newest_root v (store_of s).slots ≡ or_newer none (newest_root v ys)) e m refl;
 }
 
-module _ {s : Bytes} {v n : ℕ} {best : found.Found} {above i : ℕ} (w : Best s v n best above i) where
+module _ {s : Bytes} {v n : ℕ} {best : option.Option ℕ} {above i : ℕ} (w : Best s v n best above i) where
   pub best_has : i < n → Has counted s i
   best_has h = scan_slot w.scan h
 
@@ -193,10 +192,10 @@ module _ {s : Bytes} {v n : ℕ} {best : found.Found} {above i : ℕ} (w : Best 
 
     -- a newer root
     pub best_next : {t : Bool} {m : ℕ} → t ≡ by_record false (root_above above v) (slot_no counted i s) → t ≡ true → m ≡ version_in (slot_in counted i s) →
-        Best s v n (At i) m (i + 1)
+        Best s v n (Some i) m (i + 1)
     best_next {t} {m} e f k = go (slot_no counted i s) refl
       where
-        go : (y : Slot) → slot_no counted i s ≡ y → Best s v n (At i) m (i + 1)
+        go : (y : Slot) → slot_no counted i s ≡ y → Best s v n (Some i) m (i + 1)
         go free u = absurd (true≢false (sym f ∙ e ∙ ap (by_record false (root_above above v)) u))
         go (spoiled x) u = absurd (true≢false (sym f ∙ e ∙ ap (by_record false (root_above above v)) u))
         go (used r) u = record {
@@ -223,14 +222,14 @@ module _ {s : Bytes} {v n : ℕ} {best : found.Found} {above i : ℕ} (w : Best 
                 (or_over w.it r rest (omega (arith, w.version, ltb-true above r.version (first (ltb above r.version) (root_up_to v r) on))))
 
 -- the root of a version, from the newest
-module _ (s : Bytes) (v : ℕ) (size : size_right counted (length s) ≡ true) (bytes : All Byte s) {f : found.Found}
+module _ (s : Bytes) (v : ℕ) (size : size_right counted (length s) ≡ true) (bytes : All Byte s) {f : option.Option ℕ}
     (l : Located (store_of s).slots (newest_root v (store_of s).slots) f) where
-  pub root_none : f ≡ Nothing → 0 ≡ root_version (store_of s).slots v
+  pub root_none : f ≡ None → 0 ≡ root_version (store_of s).slots v
   unfolding root_version source_root
   root_none e = sym (ap (λ o. version_of (unless_retired v o)) (subst (Located (store_of s).slots (newest_root v (store_of s).slots)) e l))
 
-  module _ {i : ℕ} (e : f ≡ At i) where
-    at_i : Located (store_of s).slots (newest_root v (store_of s).slots) (At i)
+  module _ {i : ℕ} (e : f ≡ Some i) where
+    at_i : Located (store_of s).slots (newest_root v (store_of s).slots) (Some i)
     at_i = subst (Located (store_of s).slots (newest_root v (store_of s).slots)) e l
 
     pub root_has : Has counted s i

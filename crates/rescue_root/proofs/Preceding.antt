@@ -3,7 +3,7 @@
 use Prim.Native.Nat.{ℕ, suc, ◌-◌, ◌<◌, ◌≤◌}
 use native.Mathlib.Omega.{arith}
 use mathlib.Core.Path.{◌≡◌, refl, ap, ap₂, sym, ◌∙◌, subst, subst₂}
-use mathlib.Core.Logic.{◌⊎◌, inl, inr}
+use mathlib.Core.Logic.{inl, inr}
 use mathlib.Core.Bool.{Bool, true, false, cond, ◌&&◌, ◌||◌, true≢false, false≢true}
 use mathlib.Core.List.{List, [], ◌∷◌, ◌++◌}
 use mathlib.Core.Option.{Option, none, some}
@@ -20,7 +20,7 @@ use Rattle.layout.specs.Headers.{size_right}
 use Rattle.layout.specs.Slots.{version_in}
 use Rattle.layout.specs.Stores.{slot_in, store_of, Has}
 use Rattle.lookup.specs.Lookup.{Located, FoundIn}
-use Rattle.lookup.specs.declared.Found as found
+use Rattle.std.specs.declared.option.Option as option
 use Rattle.ordered.specs.Ordered.{node_key, key_no, InForm, Ahead, Named, Ordered, Between}
 use Rattle.ordered.proofs.Ordered.{key_of, same_node_lem, later}
 use Rattle.order_look.proofs.Keys.{inside}
@@ -131,7 +131,7 @@ module _ {s : List Slot} {t : List ℕ} {n : ℕ} (o : Ordered s t n) (v : ℕ) 
       go (some r) e = newest_same s v it.version (omega (arith, its.1)) none_newer ∙ exact s it.version r e
 
   -- What a search for a root of the version in the entry before finds is the newest.
-  pub newest_before : {p : Place} {u : ℕ} (f : found.Found) → p ≡ [] → ((r : Record) → get_or s entry free ≡ used r → u ≡ r.version) → FoundIn s u p f →
+  pub newest_before : {p : Place} {u : ℕ} (f : option.Option ℕ) → p ≡ [] → ((r : Record) → get_or s entry free ≡ used r → u ≡ r.version) → FoundIn s u p f →
       Located s (newest_root v s) f
   newest_before {p} {u} f top version h =
       subst (λ y. Located s y f) (ap₂ (λ x y. find x y s) (version it held.1) top ∙ sym newest_is) h
@@ -142,7 +142,7 @@ module _ (s : Bytes) {t : List ℕ} {n k i : ℕ} (size : size_right counted (le
   pub before_has : Has counted s i
   before_has = subst (Has counted s) (sym e) (entry_has s size o (k - 1) (omega arith))
 
-  pub located_before : All Byte s → (v : ℕ) {p : Place} {u : ℕ} (f : found.Found) → p ≡ [] → Between (store_of s).slots t n (node_key v []) k k →
+  pub located_before : All Byte s → (v : ℕ) {p : Place} {u : ℕ} (f : option.Option ℕ) → p ≡ [] → Between (store_of s).slots t n (node_key v []) k k →
       find v [] (store_of s).slots ≡ none → u ≡ version_in (slot_in counted i s) → FoundIn (store_of s).slots u p f →
       Located (store_of s).slots (newest_root v (store_of s).slots) f
   located_before b v {p} {u} f top w own version h =

@@ -1,7 +1,7 @@
 // The root record of a version in a source of any contents, document 02, requests 2026-08 and 2026-13.
 #![tactic(auto)]
 
-ghost use Rattle.std.specs.Prelude.{◌≡◌, ◌≤◌, true, false, [], length};
+ghost use Rattle.std.specs.Prelude.{◌≡◌, true, false, [], length};
 ghost use Rattle.std.proofs.Math.Option.{none};
 ghost use Rattle.meaning.specs.Store.{find};
 ghost use Rattle.local.specs.Test.{by_record};
@@ -14,7 +14,7 @@ ghost use Rattle.rescue_rules.specs.Rescue.{newest_root};
 ghost use Rattle.rescue_rules.specs.Joining.{root_version};
 ghost use Rattle.rescue_root.specs.Roots.{root_above};
 
-use lookup::{Found, holds_record};
+use lookup::holds_record;
 use order_find::{find_first, first};
 use order_near::first_near;
 use place::Place;
@@ -40,66 +40,59 @@ fn newer_root(source: &[u8], i: usize, above: u32, version: u32) -> bool
 }
 
 // The slot of the newest root record not above a version, the lowest of its version.
-fn newest_root(source: &[u8], version: u32) -> Found
+fn newest_root(source: &[u8], version: u32) -> Option<usize>
     requires { size_right Form.Counted (length source.now) ≡ true }
     ensures { Located (store_of source.now).slots (newest_root version (store_of source.now).slots) result }
 {
-    let n = slot_count(Form::Counted, source);
-    let mut best = Found::Nothing;
+    let mut best = None;
     let mut above = 0;
-    let mut i = 0;
-    'slots: loop {
-        if n <= i {
-            break 'slots best;
+    for i in 0..slot_count(Form::Counted, source) {
+        if newer_root(source, i, above, version) {
+            above = version_at(Form::Counted, source, i);
+            best = Some(i);
         }
-        if !newer_root(source, i, above, version) {
-            i += 1;
-            continue 'slots;
-        }
-        above = version_at(Form::Counted, source, i);
-        best = Found::At(i);
-        i += 1;
     }
+    best
 }
 
 // The same by a table, where no root record is of the version itself: that of the entry before entry k, the lowest of its version. Where no entry is before, the scan.
-fn newest_before(source: &[u8], table: &[u16; 16384], many: usize, k: usize, version: u32) -> Found
-    requires { (size_right Form.Counted (length source.now) ≡ true) × (many ≤ 16384) × Ordered (store_of source.now).slots table.now many × First (store_of source.now).slots table.now many (node_key version []) k × (find version [] (store_of source.now).slots ≡ none) }
+fn newest_before(source: &[u8], order: &[u16], k: usize, version: u32) -> Option<usize>
+    requires { (size_right Form.Counted (length source.now) ≡ true) × Ordered (store_of source.now).slots order.now (length order.now) × First (store_of source.now).slots order.now (length order.now) (node_key version []) k × (find version [] (store_of source.now).slots ≡ none) }
     ensures { Located (store_of source.now).slots (newest_root version (store_of source.now).slots) result }
 {
     if k == 0 {
         return newest_root(source, version);
     }
-    let own = version_at(Form::Counted, source, wide(table[k - 1]));
+    let own = version_at(Form::Counted, source, wide(order[k - 1]));
     let top = Place::top();
-    let m = first_near(source, table, many, k - 1, own, top);
-    find_first(source, table, many, m, own, top)
+    let m = first_near(source, order, k - 1, own, top);
+    find_first(source, order, m, own, top)
 }
 
 // The same by a table to find by: a root record of the version itself is the newest.
-fn newest_by(source: &[u8], table: &[u16; 16384], many: usize, version: u32) -> Found
-    requires { (size_right Form.Counted (length source.now) ≡ true) × Guide (store_of source.now).slots table.now many }
+fn newest_by(source: &[u8], order: &[u16], version: u32) -> Option<usize>
+    requires { (size_right Form.Counted (length source.now) ≡ true) × Guide (store_of source.now).slots order.now (length order.now) }
     ensures { Located (store_of source.now).slots (newest_root version (store_of source.now).slots) result }
 {
-    if many == 0 {
+    if order.is_empty() {
         return newest_root(source, version);
     }
     let top = Place::top();
-    let k = first(source, table, many, version, top);
-    let found = find_first(source, table, many, k, version, top);
-    if let Found::At(i) = found {
-        return Found::At(i);
+    let k = first(source, order, version, top);
+    let found = find_first(source, order, k, version, top);
+    if let Some(i) = found {
+        return Some(i);
     }
-    newest_before(source, table, many, k, version)
+    newest_before(source, order, k, version)
 }
 
 // The version of the root record of a version; 0 where there is none, or where the newest one was retired by then.
-pub fn root_version(source: &[u8], table: &[u16; 16384], many: usize, version: u32) -> u32
-    requires { (size_right Form.Counted (length source.now) ≡ true) × Guide (store_of source.now).slots table.now many }
+pub fn root_version(source: &[u8], order: &[u16], version: u32) -> u32
+    requires { (size_right Form.Counted (length source.now) ≡ true) × Guide (store_of source.now).slots order.now (length order.now) }
     ensures { result ≡ root_version (store_of source.now).slots version }
 {
-    let newest = newest_by(source, table, many, version);
-    let Found::At(i) = newest else {
+    let newest = newest_by(source, order, version);
+    let Some(i) = newest else {
         return 0;
     };
     let since = retired_at(Form::Counted, source, i);

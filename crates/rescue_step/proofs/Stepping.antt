@@ -2,23 +2,21 @@
 use Prim.Native.Nat.{ℕ, ◌-◌, ◌≤◌, ◌<◌, max}
 use native.Mathlib.Omega.{arith}
 use mathlib.Core.Path.{◌≡◌, ap, ap₂, sym, ◌∙◌, subst}
-use mathlib.Core.Bool.{true, false}
+use mathlib.Core.Bool.{true}
 use mathlib.Core.List.{[]}
 use lib.ListN.{length}
 use Rattle.terms.specs.declared.Form.TheVariants.{Counted as counted}
 use Rattle.terms.specs.Bits.{Bytes, Byte, All}
 use Rattle.nodehash.specs.Node.{leaf_hash, inner_hash}
 use Rattle.place.specs.declared.Place as place
-use Rattle.place.specs.Place.{place_of, Stands}
+use Rattle.place.specs.Place.{Stands}
 use Rattle.layout.specs.Headers.{size_right}
 use Rattle.layout.specs.Stores.{store_of}
 use Rattle.rescue_rules.specs.Joining.{root_version, newest_child, join_at}
-use Rattle.rescue_join.specs.declared.Joined as joined
-use Rattle.rescue_join.specs.declared.Joined.TheVariants.{Broken, Fits}
+use Rattle.std.specs.Prelude.{Option, Some, None}
 use Rattle.rescue_join.specs.Join.{joins_here, floor_here, JoinSays, RightFrom, RightHere}
 use Rattle.rescue_join.proofs.Rights.{nothing_right, joined_right}
-use Rattle.rescue_step.specs.Step.{joins_top, floor_top, RightTop, Stops, rootless, apart, above, Joins, StepSays}
-use Rattle.rescue_step.specs.declared.Stepped.TheVariants.{No, Yes}
+use Rattle.rescue_step.specs.Step.{joins_top, floor_top, RightTop, rootless, apart, above, Joins, StepSays}
 
 full : (n c : ℕ) → c ≡ 0 → n - c ≡ n
 full n c e = omega arith
@@ -39,7 +37,7 @@ pub right_joined : (s : Bytes) {v next b low a l : ℕ} → Joins s v next b low
 unfolding RightTop joins_top
 right_joined s {next = next} {b = b} {a = a} j h = joined_right (store_of s).slots next 256 a b [] j.joins h
 
-pub step_rootless : (s : Bytes) (v next b low : ℕ) {a : ℕ} → a ≡ root_version (store_of s).slots v → a ≡ 0 → StepSays s v next b low No
+pub step_rootless : (s : Bytes) (v next b low : ℕ) {a : ℕ} → a ≡ root_version (store_of s).slots v → a ≡ 0 → StepSays s v next b low None
 step_rootless s v next b low r e = rootless (sym r ∙ e)
 
 module _ (s : Bytes) (v next b low : ℕ) {a : ℕ} (r : a ≡ root_version (store_of s).slots v) (there : a ≡ 0 → ⊥) {p : place.Place} (top : Stands [] 0 p) where
@@ -51,19 +49,19 @@ module _ (s : Bytes) (v next b low : ℕ) {a : ℕ} (r : a ≡ root_version (sto
   unfolding floor_here floor_top
   top_floor = ap₂ (λ n q. newest_child n (store_of s).slots a b q) (full 256 p.count top.count) top.place
 
-  module _ (j : joined.Joined) (say : JoinSays s next p a b j) where
-    pub step_apart : j ≡ Broken → StepSays s v next b low No
+  module _ (j : Option ℕ) (say : JoinSays s next p a b j) where
+    pub step_apart : j ≡ None → StepSays s v next b low None
     step_apart e = apart (ap (λ w. joins_top s next w b) (sym r) ∙ sym top_joins ∙ subst (JoinSays s next p a b) e say)
 
-    module _ {l : ℕ} (e : j ≡ Fits l) {h : ℕ} (m : h ≡ max low l) where
-      fits : JoinSays s next p a b (Fits l)
+    module _ {l : ℕ} (e : j ≡ Some l) {h : ℕ} (m : h ≡ max low l) where
+      fits : JoinSays s next p a b (Some l)
       fits = subst (JoinSays s next p a b) e say
 
       low_is : max low l ≡ max low (floor_top s a b)
       low_is = ap (max low) (sym fits.1 ∙ top_floor)
 
-      pub step_above : v < h → StepSays s v next b low No
+      pub step_above : v < h → StepSays s v next b low None
       step_above k = above (subst (λ x. v < x) (m ∙ low_is ∙ ap (λ w. max low (floor_top s w b)) r) k)
 
-      pub step_joins : h ≤ v → StepSays s v next b low (Yes a h)
+      pub step_joins : h ≤ v → StepSays s v next b low (Some (record { root = a; floor = h }))
       step_joins k = record { root = sym r; there = there; joins = sym top_joins ∙ fits.0; floor = m ∙ low_is; within = k }

@@ -1,13 +1,12 @@
 -- Document 02, request 2026-08, over the bytes of a source: whether a version joins the next one's tree. No public
 -- promise reaches this file. Assumes nothing.
-use Rattle.std.specs.Prelude.{ℕ, ◌≤◌, ◌<◌, max, ◌≡◌, Bool, true, false, []}
+use Rattle.std.specs.Prelude.{ℕ, ◌≤◌, ◌<◌, max, ◌≡◌, Bool, true, false, [], Option, Some, None}
 use Rattle.terms.specs.Bits.{Bytes}
 use Rattle.nodehash.specs.Node.{leaf_hash, inner_hash}
 use Rattle.layout.specs.Stores.{store_of}
 use Rattle.rescue_rules.specs.Joining.{root_version, newest_child, join_at}
 use Rattle.rescue_join.specs.Join.{RightFrom}
-use Rattle.rescue_step.specs.declared.Stepped as declared
-use Rattle.rescue_step.specs.declared.Stepped.TheVariants.{No, Yes}
+use Rattle.rescue_step.specs.declared.Reached as declared
 
 -- The tree of a root of version a joins that of a root of version b, and the greatest version of a child newer than its
 -- parent.
@@ -35,6 +34,6 @@ pub record Joins (s : Bytes) (v next b low a l : ℕ) : Type 0 where
   pub floor : l ≡ max low (floor_top s a b)
   pub within : l ≤ v
 
-abbrev pub StepSays : Bytes → ℕ → ℕ → ℕ → ℕ → declared.Stepped → Type 0
-StepSays s v next b low No = Stops s v next b low
-StepSays s v next b low (Yes a l) = Joins s v next b low a l
+abbrev pub StepSays : Bytes → ℕ → ℕ → ℕ → ℕ → Option declared.Reached → Type 0
+StepSays s v next b low None = Stops s v next b low
+StepSays s v next b low (Some r) = Joins s v next b low r.root r.floor

@@ -9,46 +9,36 @@ ghost use Rattle.rescue_step.specs.Step.{StepSays, RightTop};
 
 use check_kin::later;
 use place::Place;
-use rescue_join::{Joined, join};
+use rescue_join::join;
 use rescue_root::root_version;
 use terms::Form;
 
+// Where a run stands at a version that joins: the version of the root, and the floor, the version before which no run
+// begins.
 #[derive(Clone, Copy)]
-pub enum Stepped {
-    No,
-    // The version of the root, and the floor: the version before which no run begins.
-    Yes { root: u32, floor: u32 },
+pub struct Reached {
+    pub root: u32,
+    pub floor: u32,
 }
 
 // Whether version v joins the tree of the version `next`, which is right and whose root is of version b; `low` is the floor of the run up to now. All three
 // are 0 where there is no next version.
-pub fn step(
-    source: &[u8],
-    table: &[u16; 16384],
-    many: usize,
-    v: u32,
-    next: u32,
-    b: u32,
-    low: u32,
-) -> Stepped
-    requires { (size_right Form.Counted (length source.now) ≡ true) × Guide (store_of source.now).slots table.now many × RightTop source.now b }
+pub fn step(source: &[u8], order: &[u16], v: u32, next: u32, b: u32, low: u32) -> Option<Reached>
+    requires { (size_right Form.Counted (length source.now) ≡ true) × Guide (store_of source.now).slots order.now (length order.now) × RightTop source.now b }
     ensures { StepSays source.now v next b low result }
 {
-    let a = root_version(source, table, many, v);
+    let a = root_version(source, order, v);
     if a == 0 {
-        return Stepped::No;
+        return None;
     }
     let top = Place::top();
-    let joined = join(source, table, many, next, top, a, b);
-    let Joined::Fits { floor: l } = joined else {
-        return Stepped::No;
-    };
+    let l = join(source, order, next, top, a, b)?;
     let higher = later(low, l);
     if v < higher {
-        return Stepped::No;
+        return None;
     }
-    Stepped::Yes {
+    Some(Reached {
         root: a,
         floor: higher,
-    }
+    })
 }

@@ -1,115 +1,46 @@
 // The words of a line, and the numbers and keys that they are.
-ghost use Rattle.std.specs.Prelude.{◌≤◌, length};
+ghost use Rattle.std.specs.Prelude.{◌<◌, IfSome};
 
-use hash::Hash;
-
-// What a word is that is no number of at most 32 bits.
-pub const NONE: usize = 4294967296;
-
-// Where the first such byte stands at `from` or after it; the end where there is none.
-pub fn stop(s: &[u8], from: usize, by: u8) -> usize
-    requires { from ≤ length s.now }
-    ensures { (from ≤ result) × (result ≤ length s.now) }
-{
-    let mut i = from;
-    while i < s.len() {
-        if s[i] == by {
-            return i;
-        }
-        i += 1;
-    }
-    i
-}
-
-// Where the part after n such bytes begins; the end where there are fewer.
-fn start(s: &[u8], n: usize, by: u8) -> usize
-    ensures { result ≤ length s.now }
-{
-    let mut left = n;
-    let mut i = 0;
-    while i < s.len() {
-        if left == 0 {
-            return i;
-        }
-        if s[i] == by {
-            left -= 1;
-        }
-        i += 1;
-    }
-    i
-}
+use hash::{Hash, no_hash};
 
 // Part n between such bytes, empty where there is none.
 pub fn part(s: &[u8], n: usize, by: u8) -> &[u8] {
-    let from = start(s, n, by);
-    let end = stop(s, from, by);
-    &s[from..end]
+    s.split(|b| *b == by).nth(n).unwrap_or(&[])
 }
 
 // All that stands after the first such byte.
 pub fn rest(s: &[u8], by: u8) -> &[u8] {
-    let from = start(s, 1, by);
-    let end = s.len();
-    &s[from..end]
+    s.splitn(2, |b| *b == by).nth(1).unwrap_or(&[])
 }
 
-// The number that a word is in decimal or in binary, else NONE.
-fn number_in(ten: bool, w: &[u8]) -> usize
-    ensures { result ≤ 4294967296 }
-{
-    let mut n = 0;
-    let mut i = 0;
-    while i < w.len() {
-        let d = digit(ten, w[i]);
-        if d == NONE {
-            return NONE;
+// The number of at most 32 bits that digits are, in decimal or in a smaller base; 0 where there are none.
+fn number_in(base: u32, w: &[u8]) -> Option<u32> {
+    let mut n: u32 = 0;
+    for b in w {
+        let digit = u32::from(b.checked_sub(b'0')?);
+        if base <= digit {
+            return None;
         }
-        n = times(ten, n) + d;
-        if NONE <= n {
-            return NONE;
-        }
-        i += 1;
+        n = n.checked_mul(base)?.checked_add(digit)?;
     }
-    n
+    Some(n)
 }
 
-// What a digit stands for, else NONE.
-fn digit(ten: bool, b: u8) -> usize
-    ensures { result ≤ 4294967296 }
-{
-    if b < b'0' {
-        return NONE;
-    }
-    if b'9' < b {
-        return NONE;
-    }
-    if ten {
-        return (b - b'0') as usize;
-    }
-    if b'1' < b {
-        return NONE;
-    }
-    (b - b'0') as usize
+// The number of at most 32 bits that a word is in decimal.
+pub fn number(w: &[u8]) -> Option<u32> {
+    if w.is_empty() { None } else { number_in(10, w) }
 }
 
-fn times(ten: bool, n: usize) -> usize
-    requires { n ≤ 4294967296 }
-    ensures { result ≤ 42949672960 }
+// The same number, as a size.
+pub fn size(w: &[u8]) -> Option<usize>
+    ensures { IfSome result (λ n. n < 4294967296) }
 {
-    if ten {
-        return n * 10;
-    }
-    n * 2
+    Some(number(w)? as usize)
 }
 
-// The number that a word is in decimal, else NONE.
-pub fn number(w: &[u8]) -> usize
-    ensures { result ≤ 4294967296 }
-{
-    if w.len() == 0 {
-        return NONE;
-    }
-    number_in(true, w)
+// The number that bits are; 2^32, which no 32 bits are, where they are no bits.
+fn bits(w: &[u8]) -> u64 {
+    number_in(2, w).map_or(4294967296, u64::from)
 }
 
 // A key by the bits it begins with and, after a point, those it ends with; zero between them.
@@ -117,33 +48,18 @@ pub fn key(w: &[u8]) -> Hash {
     let front = part(w, 0, b'.');
     let n = front.len();
     if 64 < n {
-        return hash::no_hash();
+        return no_hash();
     }
-    let first = number_in(false, front) as u64;
-    let last = number_in(false, part(w, 1, b'.')) as u64;
     Hash {
-        a: raised(first, 64 - n),
+        a: bits(front).checked_shl(64 - n as u32).unwrap_or(0),
         b: 0,
         c: 0,
-        d: last,
+        d: bits(part(w, 1, b'.')),
     }
-}
-
-// So many zero bits after a number.
-fn raised(x: u64, n: usize) -> u64 {
-    if 64 <= n {
-        return 0;
-    }
-    x << n as u32
 }
 
 // Whether a word is a key.
 pub fn is_key(w: &[u8]) -> bool {
-    if 32 < part(w, 0, b'.').len() {
-        return false;
-    }
-    if number_in(false, part(w, 0, b'.')) == NONE {
-        return false;
-    }
-    number_in(false, part(w, 1, b'.')) < NONE
+    let front = part(w, 0, b'.');
+    front.len() <= 32 && number_in(2, front).is_some() && number_in(2, part(w, 1, b'.')).is_some()
 }

@@ -1,17 +1,12 @@
 // What came of a call, in words: accepted or refused, the slot that a read named, the root, what was found, what was made.
+ghost use Rattle.std.specs.Prelude.{◌≡◌};
+ghost use Rattle.hash.specs.Hash.{hash_bytes};
+
 use digest::digest;
 use fields::get_u32;
-use hash::{Hash, hash_at, same_hash};
-use place::same;
-use script::words::{NONE, is_key, number, part, rest};
+use hash::{Hash, hash_at, put_hash, same_hash};
+use script::words::{is_key, key, number, part, rest};
 use script::{held, say};
-
-pub fn slots(store: &[u8]) -> usize {
-    if store.len() < 24 {
-        return 0;
-    }
-    (store.len() - 24) / 128
-}
 
 pub fn refused(no: u32, end: &[u8]) {
     say::text(b"refused with ");
@@ -38,20 +33,14 @@ pub fn accepted(no: u32, before: Hash, bytes: &[u8]) -> bool {
     false
 }
 
-// The slot that a read named, where its high half has one: one less than that.
-pub fn say_named(high: u64) {
-    if high == 0 {
-        return;
-    }
-    say::text(b", slot ");
-    say::count((high - 1) as usize);
-}
-
-// What a read refused with: the number in the low half, a slot in the high one.
+// What a read refused with: the number in the low half and, where the high half isn't 0, the slot one below it.
 pub fn refused_read(no: u64, end: &[u8]) {
     say::text(b"refused with ");
     say::count((no % 4294967296) as usize);
-    say_named(no / 4294967296);
+    if let Some(slot) = (no / 4294967296).checked_sub(1) {
+        say::text(b", slot ");
+        say::count(slot as usize);
+    }
     say::text(end);
 }
 
@@ -66,10 +55,10 @@ pub fn say_made(store: &[u8], answer: &[u8; 40], root: Hash) {
     say::text(b", retired since ");
     say::count(version as usize);
     say::text(b": ");
-    say::count(held::retired_since(store, slots(store), version));
+    say::count(held::retired_since(store, version));
     say::text(b"\n");
     if 0 < new && new <= 20 {
-        held::say_slots(store, slots(store), version);
+        held::say_slots(store, Some(version));
     }
     say::text(b"        root ");
     say::hex(hash_at(answer, 4));
@@ -81,8 +70,8 @@ pub fn say_made(store: &[u8], answer: &[u8; 40], root: Hash) {
 }
 
 // The number in an answer of four bytes.
-pub fn number_in(answer: &[u8; 4]) -> usize {
-    get_u32(answer, 0) as usize
+pub fn number_in(answer: &[u8; 4]) -> u32 {
+    get_u32(answer, 0)
 }
 
 pub fn say_root(no: u64, root: &[u8; 32]) {
@@ -99,17 +88,25 @@ pub fn word(l: &[u8], n: usize) -> &[u8] {
     part(part(l, 1, b':'), n, b' ')
 }
 
-// Whether a line asks for a version and a key; if so, the front of what came.
-pub fn asks(call: &[u8], l: &[u8]) -> bool {
-    if NONE <= number(word(l, 1)) {
-        return false;
-    }
-    if !is_key(word(l, 2)) {
-        return false;
+// The 32 bytes of a hash.
+pub fn bytes_of(h: Hash) -> [u8; 32]
+    ensures { result ≡ hash_bytes h }
+{
+    let mut bytes = [0u8; 32];
+    put_hash(&mut bytes, h);
+    bytes
+}
+
+// The version and the key that a line asks for, once the front of what came is written.
+pub fn asks(call: &[u8], l: &[u8]) -> Option<(u32, [u8; 32])> {
+    let version = number(word(l, 1))?;
+    let w = word(l, 2);
+    if !is_key(w) {
+        return None;
     }
     say::line(call, rest(part(l, 0, b':'), b' '), b" in version ");
     say::text(word(l, 1));
-    true
+    Some((version, bytes_of(key(w))))
 }
 
 pub fn say_found(found: &[u8; 33]) {
@@ -131,28 +128,20 @@ pub fn say_got(no: u64, found: &[u8; 33]) {
 }
 
 // How deep the records lie.
-pub fn levels(store: &[u8]) -> bool {
+pub fn levels(store: &[u8]) -> Option<()> {
     say::text(b"  came  ");
-    held::say_levels(store, slots(store));
-    true
+    held::say_levels(store);
+    Some(())
 }
 
 // Comments, which are passed over, and what is written as it stands.
 pub fn said(c: &[u8], words: &[u8]) -> bool {
-    if same(c, b"row") {
-        say::line(b"\n", words, b"\n");
-        return true;
+    match c {
+        b"row" => say::line(b"\n", words, b"\n"),
+        b"01" => say::line(b"  01    ", words, b"\n"),
+        b"02" => say::line(b"  02    ", words, b"\n"),
+        b"#" | b"" => {}
+        _ => return false,
     }
-    if same(c, b"01") {
-        say::line(b"  01    ", words, b"\n");
-        return true;
-    }
-    if same(c, b"02") {
-        say::line(b"  02    ", words, b"\n");
-        return true;
-    }
-    if same(c, b"#") {
-        return true;
-    }
-    c.len() == 0
+    true
 }

@@ -1,7 +1,6 @@
 // The report of a rescue in words.
 use fields::get_u32;
 use script::say;
-use script::words::{NONE, number, part};
 
 // The run's first version and the three numbers.
 pub fn say_report(answer: &[u8; 16]) {
@@ -14,15 +13,4 @@ pub fn say_report(answer: &[u8; 16]) {
     say::text(b", left out ");
     say::count(get_u32(answer, 12) as usize);
     say::text(b"\n");
-}
-
-// Whether the words are two versions and the size of a target.
-pub fn asks(l: &[u8]) -> bool {
-    if NONE <= number(part(l, 1, b' ')) {
-        return false;
-    }
-    if NONE <= number(part(l, 2, b' ')) {
-        return false;
-    }
-    number(part(l, 3, b' ')) <= 17080
 }

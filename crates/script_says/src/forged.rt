@@ -1,14 +1,12 @@
 // What is found of a proof in words.
 use crate::calls::accepted;
-use digest::digest;
-use hash::{Hash, same_hash};
+use hash::Hash;
 use script::say;
 
 // Where the proof tells the truth, all 131 bytes are zero.
 pub fn say_finding(finding: &[u8; 131]) {
-    let truth = [0u8; 131];
     say::choice(
-        same_hash(digest(finding), digest(&truth)),
+        finding.iter().all(|b| *b == 0),
         b"0, the proof tells the truth\n",
         b"A FINDING\n",
     );

@@ -4,7 +4,6 @@ use digest::digest;
 use fields::get_u16;
 use hash::{Hash, same_hash};
 use script::say;
-use script::words::{NONE, number, part};
 
 // What the header of the old form says.
 pub fn say_kind(old: &[u8]) {
@@ -27,21 +26,4 @@ pub fn say_made(no: u32, wanted: Hash, bytes: &[u8]) {
         b"the same bytes",
         b"other bytes",
     );
-}
-
-// Whether the words are a byte's place, a byte, two sizes and a version.
-pub fn asks(l: &[u8]) -> bool {
-    if 2424 <= number(part(l, 1, b' ')) {
-        return false;
-    }
-    if 256 <= number(part(l, 2, b' ')) {
-        return false;
-    }
-    if 2424 < number(part(l, 3, b' ')) {
-        return false;
-    }
-    if 2712 < number(part(l, 4, b' ')) {
-        return false;
-    }
-    number(part(l, 5, b' ')) < NONE
 }

@@ -1,9 +1,7 @@
 // ICS 23's message in words, and the record of a grant whose key and value are the SHA-256 of two words.
-use crate::harmed::put_byte;
 use digest::digest;
 use fields::get_u32;
-use hash::{Hash, hash_at, put_hash, same_hash};
-use place::same;
+use hash::{hash_at, put_hash};
 use script::say;
 use script::words::part;
 
@@ -13,10 +11,10 @@ pub fn word(l: &[u8], n: usize) -> &[u8] {
 
 // A raw word; - is none.
 pub fn raw(w: &[u8]) -> &[u8] {
-    if same(w, b"-") {
-        return &w[0..0];
+    match w {
+        b"-" => &[],
+        _ => w,
     }
-    w
 }
 
 pub fn say_root(answer: &[u8; 40]) {
@@ -25,50 +23,32 @@ pub fn say_root(answer: &[u8; 40]) {
     say::text(b"\n");
 }
 
-fn put_at(record: &mut [u8], at: usize, h: Hash) {
-    if record.len() < 32 {
-        return;
-    }
-    if record.len() - 32 < at {
-        return;
-    }
-    put_hash(&mut record[at..at + 32], h);
-}
-
 // The record that inserts the grant.
-pub fn put_grant(record: &mut [u8], key: &[u8], value: &[u8]) {
-    put_byte(record, 0, 72);
-    put_byte(record, 4, 1);
-    put_at(record, 8, digest(key));
-    put_at(record, 40, digest(value));
+pub fn grant_record(key: &[u8], value: &[u8]) -> [u8; 72] {
+    let mut record = [0u8; 72];
+    record[0] = 72;
+    record[4] = 1;
+    put_hash(&mut record[8..40], digest(key));
+    put_hash(&mut record[40..72], digest(value));
+    record
 }
 
 // Where a raw part stands.
-fn say_spot(answer: &[u8; 44], at: usize) {
-    if 36 < at {
-        return;
-    }
+fn say_spot(spot: &[u8; 8]) {
     say::text(b", ");
-    say::count(get_u32(answer, at + 4) as usize);
+    say::count(get_u32(spot, 4) as usize);
     say::text(b" at ");
-    say::count(get_u32(answer, at) as usize);
+    say::count(get_u32(spot, 0) as usize);
 }
 
-// What was read, beside the record that the message was written from.
+// What was read, beside the record that the message was written from, and where its five raw parts stand.
 pub fn say_read(answer: &[u8; 44], own: &[u8], record: &[u8]) {
-    let n = get_u32(answer, 0) as usize;
-    if own.len() < n {
+    let Some(read) = own.get(..get_u32(answer, 0) as usize) else {
         return;
+    };
+    say::choice(read == record, b"the record again", b"ANOTHER RECORD");
+    for spot in answer[4..].as_chunks().0 {
+        say_spot(spot);
     }
-    say::choice(
-        same_hash(digest(&own[0..n]), digest(record)),
-        b"the record again",
-        b"ANOTHER RECORD",
-    );
-    say_spot(answer, 4);
-    say_spot(answer, 12);
-    say_spot(answer, 20);
-    say_spot(answer, 28);
-    say_spot(answer, 36);
     say::text(b"\n");
 }

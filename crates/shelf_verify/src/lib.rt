@@ -9,8 +9,8 @@ ghost use Rattle.shelf_verify.specs.Both.{is_proof, is_shelf, first_length, Chec
 use fields::{clear, get_u32};
 use hash::put_hash;
 use place::front;
-use refusal_numbers::{NOT_32_BYTES, NOT_IN_FORM, TOO_MANY_BITS};
-use verify::{Checked, verify};
+use refusal_numbers::Refusal;
+use verify::verify;
 use verify_call::grants_verify;
 use verify_form::{is_absence, is_presence};
 
@@ -72,13 +72,13 @@ fn check_both(
     let n = proof.len();
     let list = verify(root, part, &proof[0..e]);
     match list {
-        Checked::Refused(number) => number,
-        Checked::Present(hash) => {
+        Err(refusal) => refusal.number(),
+        Ok(Some(hash)) => {
             let mut top = [0u8; 32];
             put_hash(&mut top, hash);
             grants_verify(&top, key, &proof[e..n], found)
         }
-        Checked::Absent => {
+        Ok(None) => {
             clear(found);
             0
         }
@@ -97,17 +97,17 @@ pub fn grants_shelf_verify(
     ensures { ShelfVerifies root.now bits key.now proof.now found.old result found.new }
 {
     if root.len() != 32 {
-        return NOT_32_BYTES;
+        return Refusal::Not32Bytes.number();
     }
     if key.len() != 32 {
-        return NOT_32_BYTES;
+        return Refusal::Not32Bytes.number();
     }
     if MOST_BITS < bits {
-        return TOO_MANY_BITS;
+        return Refusal::TooManyBits.number();
     }
     let e = first_end(proof);
     if !is_shelf(proof, e) {
-        return NOT_IN_FORM;
+        return Refusal::NotInForm.number();
     }
     let part = front(key, bits as usize).bits;
     check_both(root, &part, key, proof, e, found)

@@ -1,32 +1,30 @@
 -- Whether a slot is spoilt and agrees, from its bytes; and the search for the lowest such slot. Assumes nothing.
 use Prim.Native.Nat.{ℕ, suc, ◌+◌, ◌<◌, ◌≤◌}
 use native.Mathlib.Omega.{arith}
-use mathlib.Core.Path.{◌≡◌, refl, ap, ap₂, sym, ◌∙◌, subst}
+use mathlib.Core.Path.{◌≡◌, refl, ap, ap₂, sym, ◌∙◌}
 use mathlib.Core.Bool.{Bool, true, false, ◌&&◌, not, false≢true, true≢false}
 use mathlib.Core.List.{List, [], ◌∷◌, ◌++◌}
-use mathlib.Core.Option.{Option, none, some}
+use mathlib.Core.Option.{some}
 use lib.ListN.{length, take, drop, length-append}
 use borrow.Author.Tests.{eq-eqb, ne_eqb}
 use Rattle.terms.specs.declared.Form.TheVariants.{Counted as counted}
 use Rattle.terms.specs.Bits.{Bytes}
 use Rattle.terms.specs.Fields.{all_zero, all_of}
-use Rattle.terms.specs.Records.{Record, Slot, free, used, spoiled}
+use Rattle.terms.specs.Records.{Slot, free, used, spoiled}
 use Rattle.terms.proofs.Tests.{and_true}
-use Rattle.meaning.specs.Sight.{agrees, lives_by, agrees_root, lowest_spoilt, sighted}
-use Rattle.place.specs.declared.Place as declared-place
+use Rattle.meaning.specs.Sight.{lives_by, agrees_root, lowest_spoilt, sighted}
 use Rattle.layout.specs.Sizes.{room_of}
 use Rattle.layout.specs.Headers.{size_right}
 use Rattle.layout.specs.Slots.{slot_of, count_in, bits_in, version_in, since_in}
 use Rattle.layout.specs.Stores.{slot_in, slot_no, store_of, Has}
 use Rattle.layout.proofs.Slots.{SlotCases, are_free, are_leaf, are_inner, are_spoiled, slot_cases}
 use Rattle.store.proofs.Slots.{slot_is}
-use Rattle.store.proofs.Scans.{Scan, scan_start, scan_passed, scan_inside, scan_here, scan_next, scan_end}
-use Rattle.lookup.specs.Lookup.{is_used, Located}
+use Rattle.store.proofs.Scans.{Scan, scan_start, scan_passed, scan_inside, scan_slot, scan_here, scan_next, scan_end}
+use Rattle.lookup.specs.Lookup.{is_used}
 use Rattle.lifetime.specs.Lifetime.{covers}
 use Rattle.lookup.proofs.Matching.{and_false}
-use Rattle.lookup.specs.declared.Found as declared-found
-use Rattle.lookup.specs.declared.Found.TheVariants.{At, Nothing}
-use Rattle.sights.specs.Sights.{spoilt_by, is_spoilt, SpoiltIn, Sighted}
+use Rattle.std.specs.Prelude.{Some, None}
+use Rattle.sights.specs.Sights.{spoilt_by, is_spoilt, Tests, SpoiltIn, SightedBy}
 use Rattle.sights.specs.declared.Sight.TheVariants as sight
 
 -- a record in form is not spoilt, and neither is a free slot; what else there is, is
@@ -94,38 +92,40 @@ here test n free ys e = absurd (false≢true e)
 here test n (used r) ys e = absurd (false≢true e)
 here test n (spoiled x) ys e = rw e
 
-pub spoilt_start : (test : Bytes → Bool) (s : Bytes) {n : ℕ} → size_right counted (length s) ≡ true → n ≡ room_of counted (length s) → Scan counted s (Ahead test s) n 0
-spoilt_start test s e m = scan_start s (Ahead test s) e m refl
+-- what is sighted, by the slot that a search found, and by a test's answers at the slots passed
+module _ (s : Bytes) (answers : ℕ → Bool → Type 0) where
+  abbrev pub Passed : List Slot → List Slot → Type 0
+  Passed xs ys = (test : Bytes → Bool) → Tests s answers test → Ahead test s xs ys
 
-module _ (test : Bytes → Bool) {s : Bytes} {n i : ℕ} (w : Scan counted s (Ahead test s) n i) where
-  pub spoilt_next : i < n → spoilt_by test (slot_no counted i s) ≡ false → Scan counted s (Ahead test s) n (i + 1)
-  spoilt_next h e =
-      let xs = take i (store_of s).slots in
-      let ys = drop (i + 1) (store_of s).slots in
-      let more : suc (length xs) ≡ length (xs ++ slot_no counted i s ∷ []) = simp length-append (omega arith) in
-      scan_next w h (Ahead test s) (scan_here w h ∙ past test (length xs) (slot_no counted i s) ys e ∙ ap (λ m. lowest_spoilt test m ys) more)
+  pub matched : (i : ℕ) → SightedBy s (Some i) answers (sight.Matches i)
+  matched i o test l t = (l.0, (l.1.0, l.1.1, ap (λ q. sighted q (lowest_spoilt test 0 (store_of s).slots)) l.1.2))
 
-  pub spoilt_found : i < n → spoilt_by test (slot_no counted i s) ≡ true → SpoiltIn test (store_of s).slots (At i)
-  spoilt_found h e =
-      let xs = take i (store_of s).slots in
-      (scan_inside w h, scan_here w h ∙ here test (length xs) (slot_no counted i s) (drop (i + 1) (store_of s).slots) e ∙ ap some (scan_passed w))
+  pub spoilt_start : {n : ℕ} → size_right counted (length s) ≡ true → n ≡ room_of counted (length s) → Scan counted s Passed n 0
+  spoilt_start e m = scan_start s Passed e m (λ test t. refl)
 
-  pub spoilt_nowhere : n ≤ i → SpoiltIn test (store_of s).slots Nothing
-  spoilt_nowhere h = scan_end w h
+  module _ {n i : ℕ} (w : Scan counted s Passed n i) where
+    pub spoilt_next : {b : Bool} → i < n → answers i b → b ≡ false → Scan counted s Passed n (i + 1)
+    spoilt_next h a e =
+        let xs = take i (store_of s).slots in
+        let ys = drop (i + 1) (store_of s).slots in
+        let more : suc (length xs) ≡ length (xs ++ slot_no counted i s ∷ []) = simp length-append (omega arith) in
+        scan_next w h Passed
+        (λ test t.
+        scan_here w h test t
+        ∙ past test (length xs) (slot_no counted i s) ys (sym (t i _ (scan_slot w h) a) ∙ e)
+        ∙ ap (λ m. lowest_spoilt test m ys) more)
 
--- what is sighted, by the two searches
-module _ (s : List Slot) (o : Option Record) (test : Bytes → Bool) {r : declared-found.Found} (located : Located s o r) where
-  pub matched : {i : ℕ} → r ≡ At i → Sighted s (sighted o (lowest_spoilt test 0 s)) (sight.Matches i)
-  matched e =
-      let w = subst (Located s o) e located in
-      (w.0, (w.1.0, w.1.1, ap (λ q. sighted q (lowest_spoilt test 0 s)) w.1.2))
+    spoilt_found : {b : Bool} → i < n → answers i b → b ≡ true → (test : Bytes → Bool) → Tests s answers test → SpoiltIn test (store_of s).slots (Some i)
+    spoilt_found h a e test t =
+        let xs = take i (store_of s).slots in (
+          scan_inside w h,
+          scan_here w h test t
+              ∙ here test (length xs) (slot_no counted i s) (drop (i + 1) (store_of s).slots) (sym (t i _ (scan_slot w h) a) ∙ e)
+              ∙ ap some (scan_passed w),
+        )
 
-  module _ (no : r ≡ Nothing) where
-    none_matches : o ≡ none
-    none_matches = subst (Located s o) no located
+    pub spoilt_sighted : {b : Bool} → i < n → answers i b → b ≡ true → SightedBy s None answers (sight.Spoilt i)
+    spoilt_sighted h a e o test l t = let f = spoilt_found h a e test t in (f.0, ap₂ sighted l f.1)
 
-    pub spoilt_sighted : {t : declared-found.Found} {i : ℕ} → SpoiltIn test s t → t ≡ At i → Sighted s (sighted o (lowest_spoilt test 0 s)) (sight.Spoilt i)
-    spoilt_sighted found e = let w = subst (SpoiltIn test s) e found in (w.0, ap₂ sighted none_matches w.1)
-
-    pub nothing_sighted : {t : declared-found.Found} → SpoiltIn test s t → t ≡ Nothing → Sighted s (sighted o (lowest_spoilt test 0 s)) sight.Nothing
-    nothing_sighted found e = ap₂ sighted none_matches (subst (SpoiltIn test s) e found)
+    pub nothing_sighted : n ≤ i → SightedBy s None answers sight.Nothing
+    nothing_sighted h o test l t = ap₂ sighted l (scan_end w h test t)

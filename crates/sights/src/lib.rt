@@ -1,19 +1,19 @@
 // What finding a node in lent memory tells apart, document 02, 2026-07: a match, nothing, or a spoilt slot whose fields agree.
 #![tactic(auto)]
 
-ghost use Rattle.std.specs.Prelude.{◌≡◌, true, length};
+ghost use Rattle.std.specs.Prelude.{ℕ, ◌≡◌, true, length};
 ghost use Rattle.meaning.specs.Sight.{agrees, agrees_root, root_sight, node_sight};
 ghost use Rattle.place.specs.Place.{place_of, Proper};
 ghost use Rattle.layout.specs.Sizes.{slot_size};
 ghost use Rattle.layout.specs.Headers.{size_right};
 ghost use Rattle.layout.specs.Slots.{slot_of};
 ghost use Rattle.layout.specs.Stores.{store_of, slot_no, Has};
-ghost use Rattle.sights.specs.Sights.{spoilt_by, is_spoilt, SpoiltIn, Sighted};
+ghost use Rattle.sights.specs.Sights.{spoilt_by, is_spoilt, Sighted, SightedBy};
 
 use agree::agrees;
 use fields::all_zero;
 use lifetime::covers;
-use lookup::{Found, find, holds_record};
+use lookup::{find, holds_record};
 use lookup_root::find_root;
 use place::Place;
 use slots::bits_of;
@@ -27,6 +27,24 @@ pub enum Sight {
     Nothing,
     // No slot in form matches; the lowest spoilt slot whose fields agree.
     Spoilt(usize),
+}
+
+// What is sighted: the slot that a search found, else the lowest one that a test says is spoilt with fields that agree, else nothing.
+fn sighted<F: Fn(usize) -> bool>(store: &[u8], found: Option<usize>, test: F) -> Sight
+    requires size { size_right Form.Counted (length store.now) ≡ true }
+    requires each { (i : ℕ) → Has Form.Counted store.now i → F.pre test i }
+    ensures { SightedBy store.now found (F.post test) result }
+{
+    if let Some(i) = found {
+        return Sight::Matches(i);
+    }
+    let n = slot_count(Form::Counted, store);
+    for i in 0..n {
+        if test(i) {
+            return Sight::Spoilt(i);
+        }
+    }
+    Sight::Nothing
 }
 
 // Whether a slot's bytes are neither free nor a record in form.
@@ -51,36 +69,13 @@ fn node_spoilt(store: &[u8], i: usize, version: u32, place: Place) -> bool
     is_spoilt(slot_of(Form::Counted, store, i))
 }
 
-// The lowest spoilt slot that agrees with a version and place.
-fn find_spoilt(store: &[u8], version: u32, place: Place) -> Found
-    requires { (size_right Form.Counted (length store.now) ≡ true) × Proper place }
-    ensures { SpoiltIn (agrees version (place_of place)) (store_of store.now).slots result }
-{
-    let n = slot_count(Form::Counted, store);
-    let mut i = 0;
-    while i < n {
-        if node_spoilt(store, i, version, place) {
-            return Found::At(i);
-        }
-        i += 1;
-    }
-    Found::Nothing
-}
-
 // What is found of a version and place.
 pub fn look(store: &[u8], version: u32, place: Place) -> Sight
     requires { (size_right Form.Counted (length store.now) ≡ true) × Proper place }
     ensures { Sighted (store_of store.now).slots (node_sight (store_of store.now) version (place_of place)) result }
 {
     let found = find(Form::Counted, store, version, place);
-    if let Found::At(i) = found {
-        return Sight::Matches(i);
-    }
-    let spoilt = find_spoilt(store, version, place);
-    if let Found::At(j) = spoilt {
-        return Sight::Spoilt(j);
-    }
-    Sight::Nothing
+    sighted(store, found, |i| node_spoilt(store, i, version, place))
 }
 
 // Whether slot i is spoilt and agrees with a root by empty place and a lifetime that covers a version: the cheap fields first.
@@ -105,34 +100,11 @@ fn root_spoilt(store: &[u8], i: usize, version: u32) -> bool
     is_spoilt(slot)
 }
 
-// The lowest spoilt slot that agrees with a root for a version.
-fn find_spoilt_root(store: &[u8], version: u32) -> Found
-    requires { size_right Form.Counted (length store.now) ≡ true }
-    ensures { SpoiltIn (agrees_root version) (store_of store.now).slots result }
-{
-    let n = slot_count(Form::Counted, store);
-    let mut j = 0;
-    while j < n {
-        if root_spoilt(store, j, version) {
-            return Found::At(j);
-        }
-        j += 1;
-    }
-    Found::Nothing
-}
-
 // What is found of the root of a version.
 pub fn look_root(store: &[u8], version: u32) -> Sight
     requires { size_right Form.Counted (length store.now) ≡ true }
     ensures { Sighted (store_of store.now).slots (root_sight (store_of store.now) version) result }
 {
     let found = find_root(Form::Counted, store, version);
-    if let Found::At(i) = found {
-        return Sight::Matches(i);
-    }
-    let spoilt = find_spoilt_root(store, version);
-    if let Found::At(k) = spoilt {
-        return Sight::Spoilt(k);
-    }
-    Sight::Nothing
+    sighted(store, found, |i| root_spoilt(store, i, version))
 }

@@ -2,10 +2,11 @@
 use crate::calls::accepted;
 use digest::digest;
 use script::say;
-use script::words::{NONE, number, part};
-use script_says::compared::{asks, number_in, say_front};
+use script::words::{number, part, size};
+use script_says::calls::number_in;
+use script_says::compared::say_front;
 
-fn compare_all(store: &[u8], first: u32, second: u32, limit: u32, room: &mut [u8]) {
+fn compare(store: &[u8], first: u32, second: u32, limit: u32, room: &mut [u8]) {
     let before = digest(room);
     let mut records = [0u8; 4];
     let no = grants::grants_changes(store, first, second, limit, room, &mut records);
@@ -14,30 +15,16 @@ fn compare_all(store: &[u8], first: u32, second: u32, limit: u32, room: &mut [u8
     }
 }
 
-// Into the first so many bytes of the room.
-fn compare_in(store: &[u8], first: u32, second: u32, limit: u32, room: &mut [u8], size: usize) {
-    if room.len() < size {
-        return;
-    }
-    compare_all(store, first, second, limit, &mut room[0..size]);
-}
-
 // changes FIRST SECOND LIMIT ROOM
-pub fn changes(l: &[u8], store: &[u8]) -> bool {
-    if !asks(l) {
-        return false;
-    }
+pub fn changes(l: &[u8], store: &[u8]) -> Option<()> {
+    let first = number(part(l, 1, b' '))?;
+    let second = number(part(l, 2, b' '))?;
+    let limit = number(part(l, 3, b' '))?;
+    let mut all = [0u8; 17080];
+    let room = all.get_mut(..size(part(l, 4, b' '))?)?;
     say::line(b"  came  changes ", part(l, 1, b' '), b" to ");
     say::line(part(l, 2, b' '), b", limit ", part(l, 3, b' '));
     say::line(b", buffer ", part(l, 4, b' '), b" bytes: ");
-    let mut room = [0u8; 17080];
-    compare_in(
-        store,
-        (number(part(l, 1, b' ')) % NONE) as u32,
-        (number(part(l, 2, b' ')) % NONE) as u32,
-        (number(part(l, 3, b' ')) % NONE) as u32,
-        &mut room,
-        number(part(l, 4, b' ')),
-    );
-    true
+    compare(store, first, second, limit, room);
+    Some(())
 }

@@ -13,9 +13,8 @@ mod moving;
 mod partners;
 mod several;
 
-use place::same;
 use script::say;
-use script::words::{number, part, rest, stop};
+use script::words::{part, rest, size};
 use script_says::calls::said;
 use script_says::harmed;
 
@@ -35,155 +34,79 @@ fn main() {
 // The length of so large an array is known where it is a parameter.
 fn run(lines: &mut [u8; 32768], memory: &mut [u8; 262144]) {
     let n = io::read_full(0, lines);
-    if n == 32768 {
-        say::text(b"THE SCRIPT IS TOO LONG\n");
-    } else {
-        front(lines, n, memory);
+    match lines.get(..n) {
+        Some(script) if n < 32768 => each(script, memory),
+        _ => say::text(b"THE SCRIPT IS TOO LONG\n"),
     }
-}
-
-// The script is the first n bytes.
-fn front(lines: &[u8], n: usize, memory: &mut [u8]) {
-    if lines.len() < n {
-        return;
-    }
-    each(&lines[0..n], memory);
 }
 
 // Does what each line says.
 fn each(lines: &[u8], memory: &mut [u8]) {
-    let mut store = Region { from: 0, size: 0 };
-    let mut i = 0;
-    while i < lines.len() {
-        let end = stop(lines, i, b'\n');
-        store = line(&lines[i..end], store, memory);
-        if lines.len() <= end {
-            return;
-        }
-        i = end + 1;
+    let mut store = Some(Region { from: 0, size: 0 });
+    for l in lines.split(|b| *b == b'\n') {
+        store = line(l, store, memory);
     }
 }
 
 // Does what a line says, and answers where the store is from then on. A line off the script's form is told as such.
-fn line(l: &[u8], store: Region, memory: &mut [u8]) -> Region {
+fn line(l: &[u8], store: Option<Region>, memory: &mut [u8]) -> Option<Region> {
     let c = part(l, 0, b' ');
-    if same(c, b"store") {
-        return Region {
-            from: number(part(l, 1, b' ')),
-            size: number(part(l, 2, b' ')),
-        };
+    if matches!(c, b"store") {
+        return Region::of(l);
     }
-    if !said(c, rest(l, b' ')) {
-        if !within(l, store, memory) {
-            say::line(b"  BAD LINE OF THE SCRIPT: ", l, b"\n");
-        }
+    if !said(c, rest(l, b' ')) && within(l, store, memory).is_none() {
+        say::line(b"  BAD LINE OF THE SCRIPT: ", l, b"\n");
     }
     store
 }
 
+impl Region {
+    // store FROM SIZE
+    fn of(l: &[u8]) -> Option<Region> {
+        Some(Region {
+            from: size(part(l, 1, b' '))?,
+            size: size(part(l, 2, b' '))?,
+        })
+    }
+}
+
 // A call on the store, where it lies in the memory.
-fn within(l: &[u8], store: Region, memory: &mut [u8]) -> bool {
-    let from = store.from;
-    let size = store.size;
-    if memory.len() < from {
-        return false;
-    }
-    if memory.len() - from < size {
-        return false;
-    }
-    let end = from + size;
-    call(l, part(l, 0, b' '), &mut memory[from..end])
+fn within(l: &[u8], store: Option<Region>, memory: &mut [u8]) -> Option<()> {
+    let Region { from, size } = store?;
+    call(
+        l,
+        part(l, 0, b' '),
+        memory.get_mut(from..)?.get_mut(..size)?,
+    )
 }
 
-// A line for each call. False where it is none, or its words are off their form.
-fn call(l: &[u8], c: &[u8], store: &mut [u8]) -> bool {
-    if same(c, b"format") {
-        return calls::format(store);
+// A line for each call, and for what a damaged disk would do to the store. None where it is none of these, or its words
+// are off their form.
+fn call(l: &[u8], c: &[u8], store: &mut [u8]) -> Option<()> {
+    match c {
+        b"format" => calls::format(store),
+        b"check" => calls::check(store),
+        b"apply" => calls::apply(l, store),
+        b"prune" => calls::prune(l, store),
+        b"root" => calls::root(l, store),
+        b"get" => calls::get(l, store),
+        b"prove" => calls::prove(l, store),
+        b"palette" => several::palette(l, store),
+        b"changes" => compared::changes(l, store),
+        b"rescue" => damaged::rescue(l, store),
+        b"levels" => calls::levels(store),
+        b"count" => counted::count(l, store),
+        b"at" => counted::at(l, store),
+        b"figures" => figured::figures(l, store),
+        b"pocket" => calls::pocket(l, store),
+        b"finding" => forged::finding(l, store),
+        b"grant" => partners::grant(l, store),
+        b"message" => partners::message(l, store),
+        b"read" => partners::read(l),
+        b"back" => moving::back(l, store),
+        b"over" => moving::over(l, store),
+        b"byte" => harmed::byte(l, store),
+        b"lose" => harmed::lose(l, store),
+        _ => None,
     }
-    if same(c, b"check") {
-        return calls::check(store);
-    }
-    if same(c, b"apply") {
-        return calls::apply(l, store);
-    }
-    if same(c, b"prune") {
-        return calls::prune(l, store);
-    }
-    if same(c, b"root") {
-        return calls::root(l, store);
-    }
-    if same(c, b"get") {
-        return calls::get(l, store);
-    }
-    if same(c, b"prove") {
-        return calls::prove(l, store);
-    }
-    if same(c, b"palette") {
-        return several::palette(l, store);
-    }
-    if same(c, b"changes") {
-        return compared::changes(l, store);
-    }
-    if same(c, b"rescue") {
-        return damaged::rescue(l, store);
-    }
-    if same(c, b"levels") {
-        return calls::levels(store);
-    }
-    by_counts(l, c, store)
-}
-
-// The reads by counts.
-fn by_counts(l: &[u8], c: &[u8], store: &mut [u8]) -> bool {
-    if same(c, b"count") {
-        return counted::count(l, store);
-    }
-    if same(c, b"at") {
-        return counted::at(l, store);
-    }
-    by_figures(l, c, store)
-}
-
-// The figures of a range and the pocket profile.
-fn by_figures(l: &[u8], c: &[u8], store: &mut [u8]) -> bool {
-    if same(c, b"figures") {
-        return figured::figures(l, store);
-    }
-    if same(c, b"pocket") {
-        return figured::pocket(l, store);
-    }
-    by_finding(l, c, store)
-}
-
-// What a forged proof would cost.
-fn by_finding(l: &[u8], c: &[u8], store: &mut [u8]) -> bool {
-    if same(c, b"finding") {
-        return forged::finding(l, store);
-    }
-    by_messages(l, c, store)
-}
-
-// ICS 23's messages.
-fn by_messages(l: &[u8], c: &[u8], store: &mut [u8]) -> bool {
-    if same(c, b"grant") {
-        return partners::grant(l, store);
-    }
-    if same(c, b"message") {
-        return partners::message(l, store);
-    }
-    if same(c, b"read") {
-        return partners::read(l);
-    }
-    by_moves(l, c, store)
-}
-
-// The moves to the other form.
-fn by_moves(l: &[u8], c: &[u8], store: &mut [u8]) -> bool {
-    if same(c, b"back") {
-        return moving::back(l, store);
-    }
-    if same(c, b"over") {
-        return moving::over(l, store);
-    }
-    harmed::harm(l, c, store)
 }

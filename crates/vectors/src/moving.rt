@@ -3,11 +3,11 @@
 use crate::calls::{accepted, say_root};
 use digest::digest;
 use script::say;
-use script::words::{NONE, number, part};
-use script_says::harmed::put_byte;
-use script_says::moving::{asks, say_kind, say_made};
+use script::words::{number, part, size};
+use script_says::harmed::{below, put_byte};
+use script_says::moving::{say_kind, say_made};
 
-fn back_all(store: &[u8], target: &mut [u8]) {
+fn back_into(store: &[u8], target: &mut [u8]) {
     let before = digest(target);
     let no = grants::grants_back(store, target);
     if accepted(no, before, target) {
@@ -15,24 +15,13 @@ fn back_all(store: &[u8], target: &mut [u8]) {
     }
 }
 
-// Into the first so many bytes of the room.
-fn back_in(store: &[u8], room: &mut [u8], size: usize) {
-    if room.len() < size {
-        return;
-    }
-    back_all(store, &mut room[0..size]);
-}
-
 // back SIZE
-pub fn back(l: &[u8], store: &[u8]) -> bool {
-    let size = number(part(l, 1, b' '));
-    if 2712 < size {
-        return false;
-    }
-    say::line(b"  came  back, target ", part(l, 1, b' '), b" bytes: ");
+pub fn back(l: &[u8], store: &[u8]) -> Option<()> {
     let mut room = [9u8; 2712];
-    back_in(store, &mut room, size);
-    true
+    let target = room.get_mut(..size(part(l, 1, b' '))?)?;
+    say::line(b"  came  back, target ", part(l, 1, b' '), b" bytes: ");
+    back_into(store, target);
+    Some(())
 }
 
 // Whether the old bytes come back, and a root of the new ones.
@@ -47,7 +36,7 @@ fn say_again(source: &[u8], target: &[u8], version: u32) {
     say_root(found, &root);
 }
 
-fn over_all(store: &[u8], source: &[u8], target: &mut [u8], version: u32) {
+fn over_into(store: &[u8], source: &[u8], target: &mut [u8], version: u32) {
     let before = digest(target);
     let no = grants::grants_over(source, target);
     if accepted(no, before, target) {
@@ -56,42 +45,22 @@ fn over_all(store: &[u8], source: &[u8], target: &mut [u8], version: u32) {
     }
 }
 
-// Into the first so many bytes of the room.
-fn over_in(store: &[u8], source: &[u8], room: &mut [u8], size: usize, version: u32) {
-    if room.len() < size {
-        return;
-    }
-    over_all(store, source, &mut room[0..size], version);
-}
-
-// Of the first so many bytes of the old form.
-fn over_of(l: &[u8], store: &[u8], old: &[u8], size: usize) {
-    if old.len() < size {
-        return;
-    }
-    let mut room = [9u8; 2712];
-    over_in(
-        store,
-        &old[0..size],
-        &mut room,
-        number(part(l, 4, b' ')),
-        (number(part(l, 5, b' ')) % NONE) as u32,
-    );
-}
-
 // over AT BYTE FROM SIZE VERSION
-pub fn over(l: &[u8], store: &[u8]) -> bool {
-    if !asks(l) {
-        return false;
-    }
+pub fn over(l: &[u8], store: &[u8]) -> Option<()> {
+    let at = below(part(l, 1, b' '), 2424)?;
+    let byte = below(part(l, 2, b' '), 256)?;
+    let from = below(part(l, 3, b' '), 2425)?;
+    let mut room = [9u8; 2712];
+    let target = room.get_mut(..size(part(l, 4, b' '))?)?;
+    let version = number(part(l, 5, b' '))?;
     let mut old = [0u8; 2424];
     if grants::grants_back(store, &mut old) != 0 {
-        return false;
+        return None;
     }
     say::line(b"  came  over, byte ", part(l, 1, b' '), b" made ");
     say::line(part(l, 2, b' '), b", source ", part(l, 3, b' '));
     say::line(b" bytes, target ", part(l, 4, b' '), b" bytes: ");
-    put_byte(&mut old, number(part(l, 1, b' ')), number(part(l, 2, b' ')));
-    over_of(l, store, &old, number(part(l, 3, b' ')));
-    true
+    put_byte(&mut old, at, byte as u8);
+    over_into(store, old.get(..from)?, target, version);
+    Some(())
 }

@@ -9,7 +9,7 @@ ghost use Rattle.verify_rules.specs.Verify.{Verifies};
 
 use fields::clear;
 use hash::{Hash, put_hash};
-use verify::{Checked, verify};
+use verify::verify;
 
 // Writes 1 and the value.
 fn put_present(found: &mut [u8], hash: Hash)
@@ -27,12 +27,12 @@ pub fn grants_verify(root: &[u8], key: &[u8], proof: &[u8], found: &mut [u8; 33]
 {
     let answer = verify(root, key, proof);
     match answer {
-        Checked::Refused(number) => number,
-        Checked::Present(hash) => {
+        Err(refusal) => refusal.number(),
+        Ok(Some(hash)) => {
             put_present(found, hash);
             0
         }
-        Checked::Absent => {
+        Ok(None) => {
             clear(found);
             0
         }

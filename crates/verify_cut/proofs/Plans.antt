@@ -9,7 +9,7 @@ use mathlib.Core.List.{List}
 use lib.ListN.{length, get_or, set, take, drop, length-set, length-drop}
 use lib.Seq.{get_or-set_same, get_or-set_other}
 use lib.Dec.{leb, eqb}
-use borrow.Author.Tests.{leb-true, leb-false, eqb-true, eqb-false, eq-eqb, ne_eqb}
+use borrow.Author.Tests.{leb-true, leb-false, eq-eqb, ne_eqb}
 use borrow.Author.Count.{below_more}
 use Rattle.terms.specs.Bits.{Bytes}
 use Rattle.sha256_eight.specs.Each.{Each}
@@ -22,7 +22,7 @@ use Rattle.verify_rows.proofs.Rows.{begins_room, cut_on, cut_off, cut_end}
 use Rattle.verify_plan.proofs.Prefix.{lies_there, leads_there}
 use Rattle.verify_plan.specs.declared.Paths.{Paths}
 use Rattle.verify_plan.specs.Plan.{PathsIn}
-use Rattle.verify_cut.specs.declared.Gathered.{Gathered}
+use Rattle.std.specs.Prelude.{Some, None}
 use Rattle.verify_cut.specs.Row.{Planned, Plan, GatheredAs, KnownAt, Known}
 
 pub plan_none : (p : Bytes) (n : ℕ) (at index : List ℕ) → length at ≡ 512 → length index ≡ 256 → Plan p n at index 0 0 0
@@ -128,30 +128,23 @@ module _ (p : Bytes) (n : ℕ) (at index : List ℕ) (i m a : ℕ) (q : Plan p n
       }
 
 -- no record begins where one should
-pub gathered_off : (p : Bytes) (n : ℕ) (at index : List ℕ) (i m a : ℕ) → Plan p n at index i m a → i < n → begins (drop a p) ≡ false →
-    GatheredAs p n at index (record { whole = false; many = 0 })
-gathered_off p n at index i m a q h b = record {
-  whole_is = sym (sym q.cut ∙ cut_off n i a p h b);
-  plan = λ e. absurd (let z : ◌≡◌ {A = ℕ} 0 1 = cc in omega arith);
-}
+pub gathered_off : (p : Bytes) (n : ℕ) (at index : List ℕ) (i m a : ℕ) → Plan p n at index i m a → i < n → begins (drop a p) ≡ false → cuts_into n p ≡ false
+gathered_off p n at index i m a q h b = sym q.cut ∙ cut_off n i a p h b
 
 -- all records are cut off: nothing may be over
-pub gathered_all : (p : Bytes) (n : ℕ) (at index : List ℕ) (i m a : ℕ) → Plan p n at index i m a → n ≤ i →
-    GatheredAs p n at index (record { whole = eqb a (length p); many = m })
-gathered_all p n at index i m a q h =
-    let u = q.upto in
-    let e : i ≡ n = omega arith in
-    let w : cuts_into n p ≡ eqb (length (drop a p)) 0 = sym q.cut ∙ cut_end n i (drop a p) h in record {
-      whole_is = all_gone a p q.within ∙ sym w;
-      plan = λ k. rw (q.start, e) at q;
-    }
-  where
-    all_gone : (a : ℕ) (p : Bytes) → a ≤ length p → eqb a (length p) ≡ eqb (length (drop a p)) 0
-    all_gone a p b = go (eqb a (length p)) refl
-      where
-        go : (t : Bool) → eqb a (length p) ≡ t → eqb a (length p) ≡ eqb (length (drop a p)) 0
-        go true t = let k = eqb-true a (length p) t in let d = length-drop a p in t ∙ sym (eq-eqb (length (drop a p)) 0 (omega arith))
-        go false t = let d = length-drop a p in t ∙ sym (ne_eqb (length (drop a p)) 0 (λ z. eqb-false a (length p) t (omega arith)))
+module _ (p : Bytes) (n : ℕ) (at index : List ℕ) (i m a : ℕ) (q : Plan p n at index i m a) (h : n ≤ i) where
+  cut_is : cuts_into n p ≡ eqb (length (drop a p)) 0
+  cut_is = sym q.cut ∙ cut_end n i (drop a p) h
+
+  pub gathered_over : (a ≡ length p → ⊥) → GatheredAs p n at index None
+  gathered_over f = let b = q.within in let d = length-drop a p in cut_is ∙ ne_eqb (length (drop a p)) 0 (λ z. f (omega arith))
+
+  pub gathered_all : a ≡ length p → GatheredAs p n at index (Some m)
+  gathered_all f =
+      let d = length-drop a p in
+      let u = q.upto in
+      let e : i ≡ n = omega arith in
+      (cut_is ∙ eq-eqb (length (drop a p)) 0 (omega arith), rw (q.start, e) at q)
 
 -- the part of the bytes that is a record
 pub part_is : (p : Bytes) (a e : ℕ) → e ≡ a + own_length (drop a p) → take (e - a) (drop a p) ≡ piece_at p a

@@ -1,18 +1,16 @@
 -- What the loops over a row of records know. Assumes nothing.
-use Rattle.std.specs.Prelude.{ℕ, ◌+◌, ◌*◌, ◌-◌, ◌<◌, ◌≤◌, ◌≡◌, Bool, true, false, List, length, get_or, drop}
+use Rattle.std.specs.Prelude.{ℕ, ◌+◌, ◌*◌, ◌-◌, ◌<◌, ◌≤◌, ◌≡◌, Bool, true, false, List, length, get_or, drop, Some, None}
+use Rattle.std.specs.declared.option.Option as option
 use Rattle.terms.specs.Bits.{Bytes}
 use Rattle.sha256_eight.specs.Each.{Each}
 use Rattle.verify_lanes.specs.Lanes.{AllLie, LeadsAt}
 use Rattle.verify_given.specs.Given.{Leading}
 use Rattle.verify_rows.specs.Reading.{own_length, begins, cuts_into, start_of, piece_at}
-use Rattle.verify_cut.specs.declared.Gathered.{Gathered}
 
--- Where the record at a ends; 0 where none begins.
-pub record PieceEnd (p : Bytes) (a r : ℕ) : Type 0 where
-  pub off : r ≡ 0 → begins (drop a p) ≡ false
-  pub on : (r ≡ 0 → ⊥) → begins (drop a p) ≡ true
-  pub end : (r ≡ 0 → ⊥) → r ≡ a + own_length (drop a p)
-  pub within : r ≤ length p
+-- Where the record at a ends, if one begins there.
+abbrev pub PieceEnd : Bytes → ℕ → option.Option ℕ → Type 0
+PieceEnd p a (Some e) = (begins (drop a p) ≡ true) × (e ≡ a + own_length (drop a p)) × (e ≤ length p)
+PieceEnd p a None = begins (drop a p) ≡ false
 
 -- The record at s has its first path at index d of the places `at`, of which there are m: where it is known which of
 -- these lead to a root, it is known which of its own do.
@@ -33,9 +31,10 @@ pub record Plan (p : Bytes) (n : ℕ) (at index : List ℕ) (i m a : ℕ) : Type
   pub lie : AllLie p m at
   pub planned : (j : ℕ) → j < i → Planned p at m (start_of p j) (get_or index j 0)
 
-pub record GatheredAs (p : Bytes) (n : ℕ) (at index : List ℕ) (r : Gathered) : Type 0 where
-  pub whole_is : r.whole ≡ cuts_into n p
-  pub plan : r.whole ≡ true → Plan p n at index n r.many (start_of p n)
+-- The bytes are n records, which have m paths; or they aren't.
+abbrev pub GatheredAs : Bytes → ℕ → List ℕ → List ℕ → option.Option ℕ → Type 0
+GatheredAs p n at index (Some m) = (cuts_into n p ≡ true) × Plan p n at index n m (start_of p n)
+GatheredAs p n at index None = cuts_into n p ≡ false
 
 -- It is known of the paths of each of n records whether they lead to the root.
 pub record KnownAt (root p : Bytes) (good : List Bool) (s d : ℕ) : Type 0 where

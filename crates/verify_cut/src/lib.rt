@@ -10,60 +10,46 @@ use fields::{clear, get_u32};
 use hash::{Hash, put_hash};
 use verify_plan::paths_of;
 
-// What came of the cut: whether the bytes are as many records as keys, and how many paths these have.
-#[derive(Clone, Copy)]
-pub struct Gathered {
-    pub whole: bool,
-    pub many: usize,
-}
-
-// Where the record at a ends, by its own length; 0 where no record begins there.
-pub fn piece_end(p: &[u8], a: usize) -> usize
+// Where the record at a ends, by its own length, if a record begins there.
+pub fn piece_end(p: &[u8], a: usize) -> Option<usize>
     requires { a ≤ length p.now }
     ensures { PieceEnd p.now a result }
 {
     let rest = p.len() - a;
     if rest < 4 {
-        return 0;
+        return None;
     }
     let l = get_u32(p, a) as usize;
     if l < 4 {
-        return 0;
+        return None;
     }
     if rest < l {
-        return 0;
+        return None;
     }
-    a + l
+    Some(a + l)
 }
 
-// Cuts the bytes into n records, and gathers where the paths of each begin; the index of its first path stands in `index`.
-pub fn gather(p: &[u8], n: usize, at: &mut [usize; 512], index: &mut [usize; 256]) -> Gathered
+// Cuts the bytes into n records, and gathers where the paths of each begin; the index of its first path stands in `index`. How many paths there are, if
+// the bytes are n records.
+pub fn gather(p: &[u8], n: usize, at: &mut [usize; 512], index: &mut [usize; 256]) -> Option<usize>
     requires { (n ≤ 256) × (length at.old ≡ 512) × (length index.old ≡ 256) }
     ensures { GatheredAs p.now n at.new index.new result }
 {
-    let mut i = 0;
     let mut m = 0;
     let mut a = 0;
-    while i < n {
-        let e = piece_end(p, a);
-        if e == 0 {
-            return Gathered {
-                whole: false,
-                many: 0,
-            };
-        }
+    for i in 0..n {
+        let e = piece_end(p, a)?;
         let w = paths_of(&p[a..e]);
         at[m] = a + w.first;
         at[m + 1] = a + w.second;
         index[i] = m;
         m += w.many;
         a = e;
-        i += 1;
     }
-    Gathered {
-        whole: a == p.len(),
-        many: m,
+    if a != p.len() {
+        return None;
     }
+    Some(m)
 }
 
 // Writes a number of refusal, and 33 zero bytes.

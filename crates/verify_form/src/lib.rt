@@ -22,13 +22,10 @@ fn sides_right(p: &[u8], n: usize) -> bool
     requires { Room n p.now }
     ensures { result ≡ sides_right n (drop 72 p.now) }
 {
-    let mut i = 0;
-    while i < n {
-        let at = PRESENCE_HEAD + STEP_SIZE * i;
-        if 1 < p[at] {
+    for i in 0..n {
+        if 1 < p[PRESENCE_HEAD + STEP_SIZE * i] {
             return false;
         }
-        i += 1;
     }
     true
 }

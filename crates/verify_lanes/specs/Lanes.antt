@@ -1,6 +1,7 @@
 -- Presence proofs where they lie in bytes, one after the other or inside absence proofs, side by side: of each what
 -- `verify_one` says of one. Assumes nothing.
-use Rattle.std.specs.Prelude.{◌≡◌, ℕ, ◌<◌, Bool, List, slice_index, slice_index_or}
+use Rattle.std.specs.Prelude.{◌≡◌, ℕ, ◌<◌, Bool, List, slice_index, slice_index_or, None}
+use Rattle.std.specs.declared.option.Option as option
 use Rattle.terms.specs.Bits.{Bytes}
 use Rattle.hash.specs.declared.Hash.{Hash}
 use Rattle.hash.specs.Hash.{hash_bytes}
@@ -48,5 +49,5 @@ abbrev pub TopOf : Bytes → List ℕ → List ℕ → ℕ → Hash → Type 0
 TopOf p at jobs l h = hash_bytes h ≡ top_of (from p (slice_index at (slice_index jobs l)))
 
 -- What is entered for the first n records is right.
-abbrev pub AllKnown : Bytes → Bytes → List ℕ → ℕ → List ℕ → Type 0
-AllKnown root p at n known = (j : ℕ) → j < n → EntryOf root (from p (slice_index at j)) (slice_index known j)
+abbrev pub AllKnown : Bytes → Bytes → List ℕ → ℕ → List (option.Option Bool) → Type 0
+AllKnown root p at n known = (j : ℕ) → j < n → EntryOf root (from p (slice_index at j)) (slice_index_or known j None)

@@ -15,8 +15,7 @@ ghost use Rattle.verify_cut.specs.Row.{Known};
 use fields::clear;
 use hash::{Hash, hash_at};
 use key_list::{KEY_SIZE, whole_keys};
-use refusal_numbers::{NO_ROOM, NOT_32_BYTES, NOT_IN_FORM};
-use verify::Checked;
+use refusal_numbers::Refusal;
 use verify_cut::{gather, piece_end, put_refusal, put_value};
 use verify_given::verify_given;
 use verify_lanes::lead_many;
@@ -25,20 +24,14 @@ use verify_lanes::lead_many;
 const ANSWER_SIZE: usize = 34;
 
 // Writes an answer in 34 bytes.
-fn put_answer(out: &mut [u8], answer: Checked)
+fn put_answer(out: &mut [u8], answer: Result<Option<Hash>, Refusal>)
     requires { (length out.old ≡ 34) × (number_of (says answer) < 256) }
     ensures { out.new ≡ answer_bytes (says answer) }
 {
     match answer {
-        Checked::Refused(number) => {
-            put_refusal(out, number);
-        }
-        Checked::Present(hash) => {
-            put_value(out, hash);
-        }
-        Checked::Absent => {
-            clear(out);
-        }
+        Err(refusal) => put_refusal(out, refusal.number()),
+        Ok(Some(hash)) => put_value(out, hash),
+        Ok(None) => clear(out),
     }
 }
 
@@ -64,9 +57,9 @@ fn put_answers(
     ensures { out.new ≡ answers_of (hash_bytes root) (keys_from n keys.now) (pieces n p.now) ++ drop (34 * n) out.old }
 {
     let mut a = 0;
-    let mut i = 0;
-    while i < n {
-        let e = piece_end(p, a);
+    for i in 0..n {
+        // The bytes are n records, so one begins here.
+        let e = piece_end(p, a).unwrap();
         let d = index[i];
         let k = KEY_SIZE * i;
         let f = k + KEY_SIZE;
@@ -81,7 +74,6 @@ fn put_answers(
             &mut out[o..q],
         );
         a = e;
-        i += 1;
     }
 }
 
@@ -91,24 +83,23 @@ pub fn grants_verify_many(root: &[u8], keys: &[u8], proofs: &[u8], answers: &mut
     ensures { VerifiesMany root.now keys.now proofs.now answers.old result answers.new }
 {
     if root.len() != 32 {
-        return NOT_32_BYTES;
+        return Refusal::Not32Bytes.number();
     }
     if !whole_keys(keys) {
-        return NOT_32_BYTES;
+        return Refusal::Not32Bytes.number();
     }
     let n = keys.len() / KEY_SIZE;
     let mut at = [0usize; 512];
     let mut index = [0usize; 256];
-    let g = gather(proofs, n, &mut at, &mut index);
-    if !g.whole {
-        return NOT_IN_FORM;
-    }
+    let Some(paths) = gather(proofs, n, &mut at, &mut index) else {
+        return Refusal::NotInForm.number();
+    };
     if answers.len() < ANSWER_SIZE * n {
-        return NO_ROOM;
+        return Refusal::NoRoom.number();
     }
     let top = hash_at(root, 0);
     let mut good = [false; 512];
-    lead_many(top, proofs, &at, g.many, &mut good);
+    lead_many(top, proofs, &at, paths, &mut good);
     put_answers(top, keys, proofs, n, &index, &good, answers);
     0
 }

@@ -1,6 +1,7 @@
 -- A presence proof where it lies in bytes, by itself or inside an absence proof: the message of its leaf and of each
 -- step, where its steps lead, and what is entered of it. Assumes nothing.
-use Rattle.std.specs.Prelude.{ℕ, ◌+◌, ◌*◌, ◌-◌, ◌<◌, ◌≡◌, drop, eqb}
+use Rattle.std.specs.Prelude.{ℕ, ◌+◌, ◌*◌, ◌-◌, ◌<◌, ◌≡◌, Bool, drop, Some, None}
+use Rattle.std.specs.declared.option.Option as option
 use Rattle.terms.specs.Bits.{Bytes}
 use Rattle.terms.specs.Fields.{slice}
 use Rattle.meaning.specs.Checking.{parent_hash, climb}
@@ -52,6 +53,7 @@ top_of x = top_after (step_count x) x
 unfoldable pub Under : Bytes → ℕ → Hash → Type 0
 Under x i h = climb leaf_hash inner_hash (hash_bytes h) (steps_in (step_count x - i) (drop (72 + 33 * i) x)) ≡ top_of x
 
--- What is entered for a record: 2 says nothing, 1 that it leads to the root, any other that it doesn't.
-abbrev pub EntryOf : Bytes → Bytes → ℕ → Type 0
-EntryOf root x v = (v ≡ 2 → ⊥) → eqb v 1 ≡ leads root x
+-- What is entered for a record: whether it leads to the root, or nothing.
+abbrev pub EntryOf : Bytes → Bytes → option.Option Bool → Type 0
+EntryOf root x (Some b) = b ≡ leads root x
+EntryOf root x None = Unit {0}

@@ -80,12 +80,12 @@ pub fn next_hash(x: &[u8], i: usize, old: Hash, new: Hash) -> Hash
 }
 
 // Whether a record leads to the root: what is entered for it, or its path by itself.
-pub fn settled(root: Hash, x: &[u8], v: u8) -> bool
-    requires { Room (step_count x.now) x.now × EntryOf (hash_bytes root) x.now v }
+pub fn settled(root: Hash, x: &[u8], entry: Option<bool>) -> bool
+    requires { Room (step_count x.now) x.now × EntryOf (hash_bytes root) x.now entry }
     ensures { result ≡ leads (hash_bytes root) x.now }
 {
-    if v == 2 {
-        return same_hash(top(x, step_count(x)), root);
+    match entry {
+        Some(leads) => leads,
+        None => same_hash(top(x, step_count(x)), root),
     }
-    v == 1
 }

@@ -1,9 +1,9 @@
 -- The steps of a path as loops take them: from the leaf upwards, and off the tops. A step's bytes lie 33 apart after the head.
 -- Assumes nothing.
-use Prim.Native.Nat.{ℕ, zero, suc, ◌+◌, ◌*◌, ◌-◌, ◌<◌, ◌≤◌}
+use Prim.Native.Nat.{ℕ, zero, suc, ◌+◌, ◌*◌, ◌-◌, ◌<◌, ◌≤◌, min}
 use native.Mathlib.Omega.{arith}
 use mathlib.Core.Path.{◌≡◌, refl, ap, ap₂, ◌∙◌}
-use mathlib.Core.Bool.{Bool, true, false, cond, beq}
+use mathlib.Core.Bool.{Bool, true, false, cond, beq, ◌&&◌}
 use mathlib.Core.List.{List, [], ◌∷◌, ◌++◌, reverse}
 use lib.ListN.{length, get_or, take, drop, length-take, length-drop}
 use lib.Seq.{drop-drop, take-take, take-add, drop_at}
@@ -16,7 +16,10 @@ use Rattle.shown.proofs.Paths.{part_by_tops}
 use Rattle.proofrecords.specs.ProofBytes.{steps_in}
 use Rattle.proofrecords.specs.Steps.{step_at, first_steps}
 use Rattle.proofrecords.proofs.Lying.{first_at, from_step, next_step, one_less, none_left}
-use Rattle.verify_path.specs.Paths.{apart_at}
+use Rattle.hash.specs.Hash.{Fits}
+use Rattle.hash.proofs.Laws.{same_by_numbers}
+use Rattle.verify_path.specs.declared.Step as declared
+use Rattle.verify_path.specs.Paths.{step_of, apart_at}
 
 -- the step at the front of bytes
 abbrev front_step : Bytes → Step
@@ -50,13 +53,13 @@ pub keeps_zero : (b : Bool) {r : Bool} (s : Step) → r ≡ s.side → beq r b �
 unfolding keeps_to
 keeps_zero b s e h = rw (← e, h)
 
-pub other_side : {p q : Bool} (s t : Step) → p ≡ s.side → q ≡ t.side → beq p q ≡ false → same_step s t ≡ false
+-- steps are equal in side and sibling exactly if what is read of them is
+pub steps_equal : (x y : declared.Step) {s t : Step} → step_of x ≡ s → step_of y ≡ t → Fits x.sibling → Fits y.sibling → (b : Bool) →
+    b ≡ (beq x.right y.right && (eqb x.sibling.a y.sibling.a && (eqb x.sibling.b y.sibling.b && (eqb x.sibling.c y.sibling.c && eqb x.sibling.d y.sibling.d)))) →
+    b ≡ same_step s t
 unfolding same_step
-other_side s t e d h = rw (← e, ← d, h)
-
-pub same_side : {p q : Bool} (s t : Step) → p ≡ s.side → q ≡ t.side → beq p q ≡ true → same_step s t ≡ same_bytes s.sibling t.sibling
-unfolding same_step
-same_side s t e d h = rw (← e, ← d, h)
+steps_equal x y e d f g b q =
+    q ∙ ap (λ c. beq x.right y.right && c) (same_by_numbers x.sibling y.sibling f g _ refl) ∙ ap₂ (λ s t. beq s.side t.side && same_bytes s.sibling t.sibling) e d
 
 -- the last of the steps in bytes
 last_step : (n : ℕ) (y : Bytes) → steps_in (suc n) y ≡ steps_in n y ++ (front_step (drop (33 * n) y) ∷ [])
@@ -90,17 +93,16 @@ pub other_tops : (i j : ℕ) (x y : Bytes) → (i ≡ 0 → ⊥) → (j ≡ 0 �
     paths_part (first_steps i x) (first_steps j y) ≡ apart_at (i - 1) x (j - 1) y
 other_tops i j x y p q e = tops_part i j x y p q ∙ rw e
 
-pub left_done : (i j : ℕ) (x y : Bytes) → i ≡ 0 → paths_part (first_steps i x) (first_steps j y) ≡ false
-unfolding paths_part
-left_done i j x y e = rw e
-
 none_from : (xs : List Step) → part_from_top xs [] ≡ false
 none_from [] = refl
 none_from (x ∷ xs) = refl
 
-pub right_done : (i j : ℕ) (x y : Bytes) → j ≡ 0 → paths_part (first_steps i x) (first_steps j y) ≡ false
+-- one of the paths has no step left
+pub no_tops : (i j : ℕ) (x y : Bytes) → min i j ≡ 0 → paths_part (first_steps i x) (first_steps j y) ≡ false
 unfolding paths_part
-right_done i j x y e = rw e (none_from (reverse (first_steps i x)))
+no_tops zero j x y e = refl
+no_tops (suc i) zero x y e = none_from (reverse (first_steps (suc i) x))
+no_tops (suc i) (suc j) x y e = absurd (omega arith)
 
 -- the key and the value of a presence proof, as the 64 bytes of a grant
 pub grant_at_lem : (x : Bytes) → 72 ≤ length x → (take 32 (take 64 (drop 8 x)) ≡ slice 8 32 x) × (drop 32 (take 64 (drop 8 x)) ≡ slice 40 32 x)

@@ -3,9 +3,16 @@
 use Rattle.std.specs.Prelude.{ℕ, Bool, not, ◌&&◌}
 use Rattle.terms.specs.Bits.{Bytes, left, right}
 use Rattle.terms.specs.Fields.{slice}
+use Rattle.terms.specs.Records.{Step}
 use Rattle.meaning.specs.Checking.{outermost, climb}
+use Rattle.hash.specs.Hash.{hash_bytes}
 use Rattle.nodehash.specs.Node.{leaf_hash, inner_hash}
 use Rattle.proofrecords.specs.Steps.{step_at, first_steps}
+use Rattle.verify_path.specs.declared.Step as declared
+
+-- The step that is read.
+abbrev pub step_of : declared.Step → Step
+step_of s = record { side = s.right; sibling = hash_bytes s.sibling }
 
 -- The hash that the first n steps lead to from the leaf hash.
 abbrev pub top_after : ℕ → Bytes → Bytes

@@ -7,11 +7,18 @@ ghost use Rattle.meaning.specs.Checking.{keeps_to, outermost, same_step, paths_p
 ghost use Rattle.hash.specs.Hash.{hash_bytes};
 ghost use Rattle.nodehash.specs.Node.{leaf_hash, inner_hash};
 ghost use Rattle.proofrecords.specs.Steps.{Room, step_at, first_steps};
-ghost use Rattle.verify_path.specs.Paths.{top_after, apart_at};
+ghost use Rattle.verify_path.specs.Paths.{step_of, top_after, apart_at};
 
-use hash::{Hash, hash_at, is_zero, same_hash};
+use hash::{Hash, hash_at, is_zero};
 use nodehash::{inner_hash, leaf_hash};
 use proofrecords::{KEY_AT, PRESENCE_HEAD, STEP_SIZE};
+
+// A step: whether its node is the right child, and the sibling's hash.
+#[derive(Clone, Copy, PartialEq, Eq)]
+struct Step {
+    right: bool,
+    sibling: Hash,
+}
 
 // Whether the node of step i is the right child.
 pub fn is_right(p: &[u8], i: usize) -> bool
@@ -28,6 +35,17 @@ pub fn sibling(p: &[u8], i: usize) -> Hash
     ensures { hash_bytes result ≡ (step_at i p.now).sibling }
 {
     hash_at(p, PRESENCE_HEAD + STEP_SIZE * i + 1)
+}
+
+// Step i.
+fn step_at(p: &[u8], i: usize) -> Step
+    requires { Room (suc i) p.now }
+    ensures { step_of result ≡ step_at i p.now }
+{
+    Step {
+        right: is_right(p, i),
+        sibling: sibling(p, i),
+    }
 }
 
 // The hash of the parent that step i leads to, from a node with hash h.
@@ -48,10 +66,8 @@ pub fn top(p: &[u8], n: usize) -> Hash
     ensures { hash_bytes result ≡ top_after n p.now }
 {
     let mut h = leaf_hash(&p[KEY_AT..PRESENCE_HEAD]);
-    let mut i = 0;
-    while i < n {
+    for i in 0..n {
         h = parent(p, i, h);
-        i += 1;
     }
     h
 }
@@ -72,12 +88,10 @@ pub fn outermost(side: bool, p: &[u8], n: usize) -> bool
     requires { Room n p.now }
     ensures { result ≡ outermost side (first_steps n p.now) }
 {
-    let mut i = 0;
-    while i < n {
+    for i in 0..n {
         if !keeps_to(side, p, i) {
             return false;
         }
-        i += 1;
     }
     true
 }
@@ -88,10 +102,7 @@ fn same_step(l: &[u8], i: usize, r: &[u8], j: usize) -> bool
     requires room_2 { Room (suc j) r.now }
     ensures { result ≡ same_step (step_at i l.now) (step_at j r.now) }
 {
-    if is_right(l, i) != is_right(r, j) {
-        return false;
-    }
-    same_hash(sibling(l, i), sibling(r, j))
+    step_at(l, i) == step_at(r, j)
 }
 
 // Whether the two paths go apart at steps i and j, to the left and to the right, and keep to the gap below.
@@ -118,19 +129,12 @@ pub fn paths_part(l: &[u8], m: usize, r: &[u8], n: usize) -> bool
     requires room_2 { Room n r.now }
     ensures { result ≡ paths_part (first_steps m l.now) (first_steps n r.now) }
 {
-    let mut i = m;
-    let mut j = n;
-    loop {
-        if i == 0 {
-            return false;
-        }
-        if j == 0 {
-            return false;
-        }
-        i -= 1;
-        j -= 1;
+    for k in 0..m.min(n) {
+        let i = m - k - 1;
+        let j = n - k - 1;
         if !same_step(l, i, r, j) {
             return apart(l, i, r, j);
         }
     }
+    false
 }

@@ -1,12 +1,17 @@
 -- `apply::apply` meets its contract: it is refused by check, or the store is sound. Assumes nothing.
+use mathlib.Core.Path.{refl}
+use Rattle.std.proofs.lemmas.Result.{err_from_is_err_and}
+use Rattle.refusal_numbers.proofs.Numbers.{not_zero}
 use Rattle.apply_answer.specs.Answers.{applied_says}
 use Rattle.promises.specs.Calls.{not_checked}
 use Rattle.promises.proofs.Calls.{checked_sound}
 use Rattle.apply.proofs.apply.Goals as goal
 
-pub returns-then-refusal-ne0 : goal.returns-then-refusal-ne0
+pub returns-in_err-check : goal.returns-in_err-check
 unfolding applied_says
-returns-then-refusal-ne0 c = not_checked c.check-refusal.ensures c.if-refusal-ne0.true
+returns-in_err-check c =
+    let p = err_from_is_err_and c.from_residual.result c.from_residual.ensures.1 in
+    rw (p.1, p.2) (not_checked c.in_err-check.ensures (not_zero c.in_err-check.field-0.0))
 
 pub apply_sound-requires : goal.apply_sound-requires
-apply_sound-requires c = checked_sound c.check-refusal.ensures c.if-refusal-ne0.false
+apply_sound-requires c = checked_sound c.in_ok-check.ensures refl

@@ -20,7 +20,7 @@ returns-in_default c =
 
 pub put_retired_at-requires : goal.put_retired_at-requires
 put_retired_at-requires c =
-    let f = found_at c.args.version (place_of c.args.place) (store_of c.args.store.now).slots c.in-At.is c.find_near.ensures in
+    let f = found_at c.args.version (place_of c.args.place) (store_of c.args.store.now).slots c.in-Some.is c.find_near.ensures in
     slot_within c.requires.stored _ f.0
 
 pub returns : goal.returns
@@ -28,8 +28,8 @@ returns c =
     let v = c.args.version in
     let p = place_of c.args.place in
     let s = (store_of c.args.store.now).slots in
-    let f = found_at v p s c.in-At.is c.find_near.ensures in
+    let f = found_at v p s c.in-Some.is c.find_near.ensures in
     let m = marks c.args.since v p in
     writing c.args.writes m c.if-not-writes.false
     (mark_changed c.requires.stored _ f.0 m f.1.0 c.args.since (omega arith) f.1.1
-    (mark_found c.args.since v p s c.in-At.i f.1.0 c.requires.single f.1.1 f.1.2) c.put_retired_at.ensures)
+    (mark_found c.args.since v p s c.in-Some.i f.1.0 c.requires.single f.1.1 f.1.2) c.put_retired_at.ensures)

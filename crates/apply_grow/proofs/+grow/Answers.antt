@@ -1,6 +1,5 @@
 -- `apply_grow::grow` meets its contract: each side grows on its run, and a new inner node stands above them. The bits that are left fall.
 -- Assumes nothing.
-use Prim.Native.Nat.{◌-◌}
 use mathlib.Core.Path.{sym, subst}
 use mathlib.Core.Bool.{true, false}
 use native.Mathlib.Omega.{arith}

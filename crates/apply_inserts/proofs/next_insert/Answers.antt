@@ -1,5 +1,4 @@
 -- `apply_inserts::next_insert` meets its contract: each record passed is a delete. Assumes nothing.
-use Prim.Native.Nat.{◌-◌}
 use mathlib.Core.Path.{refl, sym, ◌∙◌}
 use native.Mathlib.Omega.{arith}
 use Rattle.apply_inserts.proofs.Inserts.{pass_one, stop_here, stop_at_end}

@@ -1,7 +1,5 @@
 -- `apply_place::find_free` meets its contract: no slot that was passed is free. Assumes nothing.
-use Prim.Native.Nat.{◌-◌}
 use mathlib.Core.Path.{ap, sym, ◌∙◌}
-use native.Mathlib.Omega.{arith}
 use Rattle.terms.specs.Fields.{all_zero}
 use Rattle.store.proofs.Slots.{slot_within}
 use Rattle.store.proofs.Scans.{scan_slot}
@@ -16,19 +14,13 @@ pub loop-i-init : goal.loop-i-init
 loop-i-init c = search_from_lem c.requires.0 c.slot_count-n.ensures c.requires.1
 
 pub slot_of-requires : goal.slot_of-requires
-slot_of-requires c = slot_within (scan_slot c.loop-i.invariant c.if-n-i.false)
-
-pub overflow_add-i : goal.overflow_add-i
-overflow_add-i c = omega (arith, c.loop-i.invariant.small, c.if-n-i.false)
-
-pub loop-i-smaller : goal.loop-i-smaller
-loop-i-smaller c = omega (arith, c.if-n-i.false)
+slot_of-requires c = slot_within (scan_slot c.loop-i.invariant c.loop-i-test.true)
 
 pub loop-i-preserved : goal.loop-i-preserved
-loop-i-preserved c = one_more c.loop-i.invariant c.if-n-i.false (ap all_zero (sym c.slot_of.ensures.0) ∙ sym c.all_zero.ensures ∙ c.if-all_zero.false)
+loop-i-preserved c = one_more c.loop-i.invariant c.loop-i-test.true (ap all_zero (sym c.slot_of.ensures.0) ∙ sym c.all_zero.ensures ∙ c.if-all_zero.false)
 
-pub returns-then-n-i : goal.returns-then-n-i
-returns-then-n-i c = none_free c.loop-i.invariant c.if-n-i.true
+pub returns : goal.returns
+returns c = none_free c.loop-i.invariant c.loop-i-test.false
 
 pub returns-then-all_zero : goal.returns-then-all_zero
-returns-then-all_zero c = free_here c.loop-i.invariant c.if-n-i.false (ap all_zero (sym c.slot_of.ensures.0) ∙ sym c.all_zero.ensures ∙ c.if-all_zero.true)
+returns-then-all_zero c = free_here c.loop-i.invariant c.loop-i-test.true (ap all_zero (sym c.slot_of.ensures.0) ∙ sym c.all_zero.ensures ∙ c.if-all_zero.true)

@@ -1,10 +1,6 @@
 -- `apply_place::find_free` meets its contract: no slot that was passed is free. Assumes nothing.
-use Prim.Native.Nat.{◌-◌}
 use Rattle.apply_place.proofs.Placing.{Passed}
 use Rattle.apply_place.proofs.find_free.Given as goal
 
 abbrev pub invariant-loop-i : goal.invariant-loop-i
 invariant-loop-i l = Passed l.store l.n l.i
-
-abbrev pub decreases-loop-i : goal.decreases-loop-i
-decreases-loop-i l = l.n - l.i

@@ -32,14 +32,14 @@ put_node-requires c =
     record {
       stored = c.requires.stored;
       proper = c.requires.proper;
-      lowest = free_at (store_of c.args.store.now).slots c.in-At.is c.find_free.ensures;
+      lowest = free_at (store_of c.args.store.now).slots c.in-Some.is c.find_free.ensures;
       form = c.requires.form c.if-not-writes.false;
     }
 
 pub overflow_add-result : goal.overflow_add-result
 overflow_add-result c =
-    let l = (free_at (store_of c.args.store.now).slots c.in-At.is c.find_free.ensures).within in
+    let l = (free_at (store_of c.args.store.now).slots c.in-Some.is c.find_free.ensures).within in
     omega (arith, l, (stored_accepted c.requires.stored).fits, c.size-n.ensures, size_small c.args.node)
 
 pub returns : goal.returns
-returns c = put c.args.writes (place_of c.args.place) c.args.node c.if-not-writes.false c.requires.stored (free_at (store_of c.args.store.now).slots c.in-At.is c.find_free.ensures) c.size-n.ensures c.put_node.ensures
+returns c = put c.args.writes (place_of c.args.place) c.args.node c.if-not-writes.false c.requires.stored (free_at (store_of c.args.store.now).slots c.in-Some.is c.find_free.ensures) c.size-n.ensures c.put_node.ensures

@@ -2,6 +2,9 @@
 use Prim.Native.Nat.{◌<◌}
 use native.Mathlib.Omega.{arith}
 use mathlib.Core.Bool.{false}
+use mathlib.Core.Path.{refl}
+use Rattle.std.proofs.lemmas.Result.{err_from_is_err_and}
+use Rattle.refusal_numbers.proofs.Numbers.{not_zero}
 use Rattle.terms.specs.Bits.{Byte}
 use Rattle.terms.proofs.Lists.{all_of}
 use Rattle.apply_place.proofs.Changing.{changed_stored, stored_accepted}
@@ -16,9 +19,11 @@ use Rattle.apply_publish.proofs.publish.Goals as goal
 pub latest_of-latest-requires : goal.latest_of-latest-requires
 latest_of-latest-requires c = omega (arith, sound_long c.requires.sound)
 
-pub returns-then-late-ne0 : goal.returns-then-late-ne0
+pub returns-in_err-number_refusal : goal.returns-in_err-number_refusal
 unfolding applied_says
-returns-then-late-ne0 c = refused_18 c.args.number c.requires c.latest_of-latest.ensures c.number_refusal-late.ensures c.if-late-ne0.true
+returns-in_err-number_refusal c =
+    let p = err_from_is_err_and c.from_residual.result c.from_residual.ensures.1 in
+    rw (p.1, p.2) (refused_18 c.args.number c.requires c.latest_of-latest.ensures c.in_err-number_refusal.ensures (not_zero c.in_err-number_refusal.field-0.0))
 
 pub root_version-old-requires : goal.root_version-old-requires
 root_version-old-requires c =
@@ -32,7 +37,7 @@ guess_all-requires c =
 
 pub at_root-needs-requires : goal.at_root-needs-requires
 at_root-needs-requires c =
-    let above : c.latest_of-latest.result < c.args.number = is_above c.args.number c.latest_of-latest.result c.number_refusal-late.ensures c.if-late-ne0.false in
+    let above : c.latest_of-latest.result < c.args.number = is_above c.args.number c.latest_of-latest.result c.in_ok-number_refusal.ensures refl in
     let b = all_of Byte c.args.store.now 0 (λ i _. omega (arith, c.slice_known-1.given i)) in
     let d = all_of Byte c.args.batch.now 0 (λ i _. omega (arith, c.shared_slice_known-1.given i)) in
     first_time c.requires b d c.latest_of-latest.ensures above c.top-top.ensures c.root_version-old.ensures false
@@ -40,17 +45,18 @@ at_root-needs-requires c =
 pub count_free-requires : goal.count_free-requires
 count_free-requires c = changed_stored c.at_root-needs.ensures.bytes
 
-pub returns-then-short-ne0 : goal.returns-then-short-ne0
+pub returns-in_err-room_refusal : goal.returns-in_err-room_refusal
 unfolding applied_says
-returns-then-short-ne0 c =
-    let above : c.latest_of-latest.result < c.args.number = is_above c.args.number c.latest_of-latest.result c.number_refusal-late.ensures c.if-late-ne0.false in
+returns-in_err-room_refusal c =
+    let above : c.latest_of-latest.result < c.args.number = is_above c.args.number c.latest_of-latest.result c.in_ok-number_refusal.ensures refl in
     let b = all_of Byte c.args.store.now 0 (λ i _. omega (arith, c.slice_known-1.given i)) in
     let d = all_of Byte c.args.batch.now 0 (λ i _. omega (arith, c.shared_slice_known-1.given i)) in
-    no_room c.requires b d c.latest_of-latest.ensures above c.top-top.ensures c.root_version-old.ensures c.at_root-needs.ensures c.count_free.ensures c.room_refusal-short.ensures c.if-short-ne0.true
+    let p = err_from_is_err_and c.from_residual-in_err-room_refusal.result c.from_residual-in_err-room_refusal.ensures.1 in
+    rw (p.1, p.2) (no_room c.requires b d c.latest_of-latest.ensures above c.top-top.ensures c.root_version-old.ensures c.at_root-needs.ensures c.count_free.ensures c.in_err-room_refusal.ensures (not_zero c.in_err-room_refusal.field-0.0))
 
 pub at_root-made-requires : goal.at_root-made-requires
 at_root-made-requires c =
-    let above : c.latest_of-latest.result < c.args.number = is_above c.args.number c.latest_of-latest.result c.number_refusal-late.ensures c.if-late-ne0.false in
+    let above : c.latest_of-latest.result < c.args.number = is_above c.args.number c.latest_of-latest.result c.in_ok-number_refusal.ensures refl in
     let b = all_of Byte c.args.store.now 0 (λ i _. omega (arith, c.slice_known-1.given i)) in
     let d = all_of Byte c.args.batch.now 0 (λ i _. omega (arith, c.shared_slice_known-1.given i)) in
     second_time c.requires b d c.latest_of-latest.ensures above c.top-top.ensures c.root_version-old.ensures c.at_root-needs.ensures
@@ -63,7 +69,7 @@ made_answer-requires c = omega (arith, c.at_root-needs.ensures.reach.starts.few)
 
 pub returns : goal.returns
 returns c =
-    let above : c.latest_of-latest.result < c.args.number = is_above c.args.number c.latest_of-latest.result c.number_refusal-late.ensures c.if-late-ne0.false in
+    let above : c.latest_of-latest.result < c.args.number = is_above c.args.number c.latest_of-latest.result c.in_ok-number_refusal.ensures refl in
     let b = all_of Byte c.args.store.now 0 (λ i _. omega (arith, c.slice_known-1.given i)) in
     let d = all_of Byte c.args.batch.now 0 (λ i _. omega (arith, c.shared_slice_known-1.given i)) in
-    published c.requires b d c.latest_of-latest.ensures above c.top-top.ensures c.root_version-old.ensures c.at_root-needs.ensures c.count_free.ensures (has_room c.count_free.result c.at_root-needs.result.reach c.room_refusal-short.ensures c.if-short-ne0.false) c.child_of-says.result c.at_root-made.ensures c.put_latest.ensures c.child_of-says.ensures c.made_answer.ensures
+    published c.requires b d c.latest_of-latest.ensures above c.top-top.ensures c.root_version-old.ensures c.at_root-needs.ensures c.count_free.ensures (has_room c.count_free.result c.at_root-needs.result.reach c.in_ok-room_refusal.ensures refl) c.child_of-says.result c.at_root-made.ensures c.put_latest.ensures c.child_of-says.ensures c.made_answer.ensures

@@ -2,10 +2,10 @@
 use Rattle.apply_put.proofs.Putting.{sent_refusal, sent_made}
 use Rattle.apply_put.proofs.send.Goals as goal
 
-pub returns-in-Refused : goal.returns-in-Refused
-returns-in-Refused c = let a = c.args in sent_refusal a.applied a.answer.now c.in-Refused.is
+pub returns-in-Err : goal.returns-in-Err
+returns-in-Err c = let a = c.args in rw c.number.ensures (sent_refusal a.applied a.answer.now c.in-Err.is)
 
-pub returns-in-Made : goal.returns-in-Made
-returns-in-Made c =
+pub returns-in-Ok : goal.returns-in-Ok
+returns-in-Ok c =
     let a = c.args in
-    sent_made a.applied a.answer.now c.in-Made.is c.put_answer.ensures
+    sent_made a.applied a.answer.now c.in-Ok.is c.put_answer.ensures

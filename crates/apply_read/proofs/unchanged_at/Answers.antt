@@ -10,7 +10,7 @@ pub returns-in_default : goal.returns-in_default
 returns-in_default c = record { change = refl; node = node_none c.requires.0 c.find_near-found.ensures c.in_default.is; reach = refl }
 
 pub node_in-node-requires : goal.node_in-node-requires
-node_in-node-requires c = slot_used c.requires.0 c.find_near-found.ensures c.in-At.is
+node_in-node-requires c = slot_used c.requires.0 c.find_near-found.ensures c.in-Some.is
 
 pub returns : goal.returns
-returns c = record { change = refl; node = node_there c.requires.0 c.find_near-found.ensures c.in-At.is c.node_in-node.result c.node_in-node.ensures; reach = refl }
+returns c = record { change = refl; node = node_there c.requires.0 c.find_near-found.ensures c.in-Some.is c.node_in-node.result c.node_in-node.ensures; reach = refl }

@@ -1,5 +1,4 @@
 -- `apply_ready::count_free` meets its contract: each slot is passed once. Assumes nothing.
-use Prim.Native.Nat.{◌-◌}
 use native.Mathlib.Omega.{arith}
 use mathlib.Core.Path.{ap, sym, ◌∙◌}
 use Rattle.terms.specs.Fields.{all_zero}
@@ -8,6 +7,7 @@ use Rattle.store.proofs.Slots.{slot_within}
 use Rattle.store.proofs.Scans.{scan_slot}
 use Rattle.apply_ready.proofs.Counting.{from_none, one_free, not_one, all_counted}
 use Rattle.apply_ready.proofs.count_free.Goals as goal
+use Rattle.apply_ready.proofs.count_free.Goals.{then-all_zero, else-all_zero}
 
 pub slot_count-n-requires : goal.slot_count-n-requires
 slot_count-n-requires c = stored_size c.requires
@@ -21,23 +21,13 @@ slot_of-requires c = slot_within (scan_slot c.loop-i.invariant.scan c.loop-i-tes
 pub overflow_add-free : goal.overflow_add-free
 overflow_add-free c = let w = c.loop-i.invariant in omega (arith, w.few, w.scan.within, w.scan.small)
 
-pub overflow_add-i : goal.overflow_add-i
-overflow_add-i c = let w = c.loop-i.invariant in omega (arith, w.scan.within, w.scan.small)
-
-pub loop-i-smaller-then-all_zero : goal.loop-i-smaller-then-all_zero
-loop-i-smaller-then-all_zero c = omega (arith, c.loop-i-test)
-
-pub loop-i-preserved-then-all_zero : goal.loop-i-preserved-then-all_zero
-loop-i-preserved-then-all_zero c = one_free c.loop-i.invariant c.loop-i-test.true (ap all_zero (sym c.slot_of.ensures.0) ∙ sym c.all_zero.ensures ∙ c.if-all_zero.true)
-
-pub overflow_add-i-in-loop-i : goal.overflow_add-i-in-loop-i
-overflow_add-i-in-loop-i c = let w = c.loop-i.invariant in omega (arith, w.scan.within, w.scan.small)
-
-pub loop-i-smaller : goal.loop-i-smaller
-loop-i-smaller c = omega (arith, c.loop-i-test)
-
 pub loop-i-preserved : goal.loop-i-preserved
-loop-i-preserved c = not_one c.loop-i.invariant c.loop-i-test.true (ap all_zero (sym c.slot_of.ensures.0) ∙ sym c.all_zero.ensures ∙ c.if-all_zero.false)
+loop-i-preserved c =
+    let z = ap all_zero (sym c.slot_of.ensures.0) ∙ sym c.all_zero.ensures in
+    elim c.if-all_zero.branch [
+      | then-all_zero w ↦ rw w.free-is (one_free c.loop-i.invariant c.loop-i-test.true (z ∙ w.if-all_zero.true))
+      | else-all_zero w ↦ rw w.free-is (not_one c.loop-i.invariant c.loop-i-test.true (z ∙ w.if-all_zero.false))
+    ]
 
 pub returns : goal.returns
 returns c = all_counted c.loop-i.invariant c.loop-i-test.false

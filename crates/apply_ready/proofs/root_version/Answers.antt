@@ -26,8 +26,8 @@ version_at-requires c =
     let a = c.args in
     let s = a.store.now in
     let o = root_of (store_of s) a.version in
-    slot_within c.requires c.in-At.i
-    (subst (Located (store_of s).slots o) c.in-At.is c.find_root-found.ensures).0
+    slot_within c.requires c.in-Some.i
+    (subst (Located (store_of s).slots o) c.in-Some.is c.find_root-found.ensures).0
 
 pub returns : goal.returns
 returns c =
@@ -36,5 +36,5 @@ returns c =
     let b = all_of Byte s 0 (λ i _. omega (arith, c.shared_slice_known-1.given i)) in
     let o = root_of (store_of s) a.version in
     c.version_at.ensures
-    ∙ found_version c.requires b o c.in-At.i
-    (subst (Located (store_of s).slots o) c.in-At.is c.find_root-found.ensures)
+    ∙ found_version c.requires b o c.in-Some.i
+    (subst (Located (store_of s).slots o) c.in-Some.is c.find_root-found.ensures)

@@ -1,6 +1,5 @@
--- `batch_form::batch_form` meets its contract: the first i records are in form, so those from i on decide. The measure is the number of records left.
+-- `batch_form::batch_form` meets its contract: the first i records are in form, so those from i on decide.
 -- Assumes nothing.
-use Prim.Native.Nat.{◌-◌}
 use native.Mathlib.Omega.{arith}
 use mathlib.Core.Path.{sym, ap, ◌∙◌}
 use Rattle.batch.specs.Batch.{ask_form}
@@ -26,4 +25,4 @@ pub loop-i-preserved : goal.loop-i-preserved
 loop-i-preserved c = (omega arith, c.loop-i.invariant.1 ∙ form_next c.args.b.now c.loop-i.i (omega arith) (sym (ap ask_form c.record_at.ensures.0) ∙ sym c.record_form.ensures ∙ c.if-not-record_form.false))
 
 pub returns : goal.returns
-returns c = sym (c.loop-i.invariant.1 ∙ form_end c.args.b.now c.loop-i.i c.loop-i-test.false)
+returns c = sym (c.loop-i.invariant.1 ∙ form_end c.args.b.now c.loop-i.i (omega arith))

@@ -3,14 +3,14 @@ use Rattle.changes_c.proofs.Exported.{changes_refused, changes_listed}
 use borrow.Author.Rules.{rules}
 use Rattle.changes_c.proofs.grants_changes.Goals as goal
 
-pub returns-in-Refused : goal.returns-in-Refused
-returns-in-Refused c =
+pub returns-in-Err : goal.returns-in-Err
+returns-in-Err c =
     let a = c.args in
     let d = c.changes-compared in
-    changes_refused d.result d.ensures a.records.now c.in-Refused.is
+    rw c.number.ensures (changes_refused d.result d.ensures a.records.now c.in-Err.is)
 
-pub returns-in-Listed : goal.returns-in-Listed
-returns-in-Listed c =
+pub returns-in-Ok : goal.returns-in-Ok
+returns-in-Ok c =
     let a = c.args in
     let d = c.changes-compared in
-    changes_listed d.result d.ensures a.records.now c.in-Listed.is (search rules) c.put_u32.ensures
+    changes_listed d.result d.ensures a.records.now c.in-Ok.is (search rules) c.put_u32.ensures

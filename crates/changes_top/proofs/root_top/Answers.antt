@@ -22,7 +22,7 @@ top_in-requires c =
     let a = c.args in
     let s = a.store.now in
     let b = all_of Byte s 0 (λ i _. omega (arith, c.shared_slice_known-1.given i)) in
-    let f = subst (Located (store_of s).slots (root_of (store_of s) a.version)) c.in-At.is c.find_root-found.ensures in
+    let f = subst (Located (store_of s).slots (root_of (store_of s) a.version)) c.in-Some.is c.find_root-found.ensures in
     its_slot s c.requires.0 b _ f.1.0 f.0 f.1.1
 
 pub returns : goal.returns
@@ -31,6 +31,6 @@ returns c =
     let h = c.requires in
     let s = a.store.now in
     let b = all_of Byte s 0 (λ i _. omega (arith, c.shared_slice_known-1.given i)) in
-    let f = subst (Located (store_of s).slots (root_of (store_of s) a.version)) c.in-At.is c.find_root-found.ensures in
+    let f = subst (Located (store_of s).slots (root_of (store_of s) a.version)) c.in-Some.is c.find_root-found.ensures in
     subst (TopSays s a.top (tree_at_version (store_of s) a.version)) (sym c.top_in.ensures)
     (root_found s h.0 b _ f.1.0 f.0 f.1.1 a.top h.1 a.version f.1.2)

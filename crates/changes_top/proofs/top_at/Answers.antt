@@ -28,7 +28,7 @@ top_in-requires c =
     let a = c.args in
     let s = a.store.now in
     let b = all_of Byte s 0 (λ i _. omega (arith, c.shared_slice_known-1.given i)) in
-    let f = subst (FoundIn (store_of s).slots a.version (place_of a.place)) c.in-At.is c.find_near-found.ensures in
+    let f = subst (FoundIn (store_of s).slots a.version (place_of a.place)) c.in-Some.is c.find_near-found.ensures in
     its_slot s c.requires.0.0 b _ f.1.0 f.0 f.1.1
 
 pub returns : goal.returns
@@ -37,6 +37,6 @@ returns c =
     let h = c.requires in
     let s = a.store.now in
     let b = all_of Byte s 0 (λ i _. omega (arith, c.shared_slice_known-1.given i)) in
-    let f = subst (FoundIn (store_of s).slots a.version (place_of a.place)) c.in-At.is c.find_near-found.ensures in
+    let f = subst (FoundIn (store_of s).slots a.version (place_of a.place)) c.in-Some.is c.find_near-found.ensures in
     subst (TopSays s a.place (tree_here s a.place a.version)) (sym c.top_in.ensures)
     (child_top s h.0.0 b _ f.1.0 f.0 f.1.1 a.place h.1 a.version f.1.2 (omega (arith, c.if-version-eq0.false)))

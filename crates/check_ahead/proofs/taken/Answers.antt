@@ -1,7 +1,6 @@
 -- `check_ahead::taken` meets its contract: a link that is wanted fits the store. Assumes nothing.
 use native.Mathlib.Omega.{arith}
-use Rattle.check_pass.proofs.Passes.{passed_so}
-use Rattle.check_ahead.proofs.Waiting.{room_small, slots_next, links_next}
+use Rattle.check_ahead.proofs.Waiting.{room_small}
 use Rattle.check_ahead.proofs.taken.Goals as goal
 
 pub overflow_cast-links : goal.overflow_cast-links

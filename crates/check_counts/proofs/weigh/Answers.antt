@@ -9,14 +9,14 @@ use Rattle.check_counts.proofs.weigh.Goals as goal
 pub weight_at-n-requires : goal.weight_at-n-requires
 weight_at-n-requires c =
     let a = c.args in
-    found_has a.form a.store.now a.version (place_of a.place) _ c.requires.0 (subst (FoundIn (store_in a.form a.store.now).slots a.version (place_of a.place)) c.in-At.is c.find.ensures)
+    found_has a.form a.store.now a.version (place_of a.place) _ c.requires.0 (subst (FoundIn (store_in a.form a.store.now).slots a.version (place_of a.place)) c.in-Some.is c.find.ensures)
 
-pub returns-in-At : goal.returns-in-At
-returns-in-At c =
+pub returns-in-Some : goal.returns-in-Some
+returns-in-Some c =
     let a = c.args in
-    found_weighs a.form a.store.now a.version (place_of a.place) _ (subst (FoundIn (store_in a.form a.store.now).slots a.version (place_of a.place)) c.in-At.is c.find.ensures) c.weight_at-n.ensures.0
+    found_weighs a.form a.store.now a.version (place_of a.place) _ (subst (FoundIn (store_in a.form a.store.now).slots a.version (place_of a.place)) c.in-Some.is c.find.ensures) c.weight_at-n.ensures.0
 
-pub returns-in-Nothing : goal.returns-in-Nothing
-returns-in-Nothing c =
+pub returns-in-None : goal.returns-in-None
+returns-in-None c =
     let a = c.args in
-    nothing_weighs a.form a.store.now a.version (place_of a.place) (subst (FoundIn (store_in a.form a.store.now).slots a.version (place_of a.place)) c.in-Nothing.is c.find.ensures)
+    nothing_weighs a.form a.store.now a.version (place_of a.place) (subst (FoundIn (store_in a.form a.store.now).slots a.version (place_of a.place)) c.in-None.is c.find.ensures)

@@ -1,5 +1,4 @@
 -- `check_order::ahead` meets its contract: bit count, then bits, then version. Assumes nothing.
-use native.Mathlib.Omega.{arith}
 use mathlib.Core.Path.{ap, ◌∙◌}
 use Rattle.hash.proofs.Laws.{read_whole}
 use Rattle.layout.specs.Slots.{bits_in}
@@ -26,12 +25,6 @@ slot_of-requires c = slot_within c.requires.0
 
 pub slot_of-requires-2 : goal.slot_of-requires-2
 slot_of-requires-2 c = slot_within c.requires.1
-
-pub hash_at-requires : goal.hash_at-requires
-hash_at-requires c = omega (arith, c.bits_of-x.ensures.1)
-
-pub hash_at-requires-2 : goal.hash_at-requires-2
-hash_at-requires-2 c = omega (arith, c.bits_of-y.ensures.1)
 
 pub version_at-requires : goal.version_at-requires
 version_at-requires c = slot_within c.requires.0

@@ -18,15 +18,6 @@ place_at-place-requires c =
     leaf_place (slot_in c.args.form c.args.i c.args.store.now) c.requires.1 c.count_at-count.ensures
     (c.bits_of.ensures.0 ∙ ap bits_in c.slot_of-s.ensures.0) c.bits_of.ensures.1
 
-pub begins-requires : goal.begins-requires
-begins-requires c = (c.key_of.ensures.1, c.place_at-place.ensures.proper)
-
-pub returns-then-not-begins : goal.returns-then-not-begins
-returns-then-not-begins c = tt
-
-pub head_right-requires : goal.head_right-requires
-head_right-requires c = c.requires.0
-
 pub returns : goal.returns
 returns c =
     let key = key_begins (slot_in c.args.form c.args.i c.args.store.now) c.count_at-count.ensures

@@ -18,18 +18,12 @@ returns-then-all_zero c =
     free_own c.requires.0 (all_of Byte c.args.store.now 0 (λ i _. omega (arith, c.shared_slice_known-1.given i)))
     c.requires.1 (ap all_zero (sym c.slot_of-s.ensures.0) ∙ sym c.all_zero.ensures ∙ c.if-all_zero.true)
 
-pub leaf_right-requires : goal.leaf_right-requires
-leaf_right-requires c = (c.requires.0, (ap is_leaf (sym c.slot_of-s.ensures.0) ∙ sym c.is_leaf.ensures ∙ c.if-is_leaf.true))
-
 pub returns-then-is_leaf : goal.returns-then-is_leaf
 returns-then-is_leaf c =
     pass_map c.leaf_right.result
     (leaf_own c.requires.0 (all_of Byte c.args.store.now 0 (λ i _. omega (arith, c.shared_slice_known-1.given i)))
     c.requires.1 (ap all_zero (sym c.slot_of-s.ensures.0) ∙ sym c.all_zero.ensures ∙ c.if-all_zero.false)
     (ap is_leaf (sym c.slot_of-s.ensures.0) ∙ sym c.is_leaf.ensures ∙ c.if-is_leaf.true)) c.leaf_right.ensures
-
-pub head_right-requires : goal.head_right-requires
-head_right-requires c = c.requires.0
 
 pub returns-then-is_inner : goal.returns-then-is_inner
 returns-then-is_inner c =
@@ -38,6 +32,3 @@ returns-then-is_inner c =
     c.requires.1 (ap all_zero (sym c.slot_of-s.ensures.0) ∙ sym c.all_zero.ensures ∙ c.if-all_zero.false)
     (ap is_leaf (sym c.slot_of-s.ensures.0) ∙ sym c.is_leaf.ensures ∙ c.if-is_leaf.false)
     (ap is_inner (sym c.slot_of-s.ensures.0) ∙ sym c.is_inner.ensures ∙ c.if-is_inner.true)) c.head_right.ensures
-
-pub returns : goal.returns
-returns c = tt

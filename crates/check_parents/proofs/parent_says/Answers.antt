@@ -43,9 +43,6 @@ returns-in_default c = (
       (others _ c.in_default.not-Inner),
 )
 
-pub link-requires : goal.link-requires
-link-requires c = c.ends_before-ends.ensures.1
-
 pub returns : goal.returns
 returns c = (
   c.link.ensures.0,

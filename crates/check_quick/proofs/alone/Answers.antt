@@ -2,15 +2,9 @@
 use Rattle.check_quick.proofs.Fine.{room_fits}
 use Rattle.check_quick.proofs.alone.Goals as goal
 
-pub slot_count-n-requires : goal.slot_count-n-requires
-slot_count-n-requires c = c.requires.keeps.size
-
 pub sort-many-requires : goal.sort-many-requires
 sort-many-requires c = (
   (record { size = c.requires.keeps.size; many = c.slot_count-n.ensures }),
   room_fits c.args.store.now
       (record { size = c.requires.keeps.size; many = c.slot_count-n.ensures }),
 )
-
-pub guessed-requires : goal.guessed-requires
-guessed-requires c = ((record { size = c.requires.keeps.size; many = c.slot_count-n.ensures }), c.sort-many.ensures)

@@ -1,19 +1,12 @@
 -- `check_quick::linked` meets its contract: at the end of both passes each record is tied and covered. Assumes nothing.
 use native.Mathlib.Omega.{arith}
 use lib.ListN.{replicate}
-use Rattle.check_pass.proofs.Records.{room_has}
 use Rattle.check_hash.proofs.Knowing.{known_none}
 use Rattle.check_quick.proofs.Fine.{zeros, room_fits, all_linked}
 use Rattle.check_quick.proofs.linked.Goals as goal
 
-pub slot_count-n-requires : goal.slot_count-n-requires
-slot_count-n-requires c = c.requires.keeps.size
-
 pub hash_ahead-requires : goal.hash_ahead-requires
 hash_ahead-requires c = (c.requires.keeps.size, known_none _ c.args.store.now (replicate 16384 0) (zeros 16384))
-
-pub tie_all-j-requires : goal.tie_all-j-requires
-tie_all-j-requires c = (c.requires, c.hash_ahead.ensures)
 
 pub overflow_mul-j : goal.overflow_mul-j
 overflow_mul-j c = let h = room_fits c.args.store.now (record { size = c.requires.keeps.size; many = c.slot_count-n.ensures }) in omega (arith, h, c.if-j-n.true)
@@ -35,18 +28,6 @@ offset_bounds-guess-j-then-j-n c = let h = room_fits c.args.store.now (record { 
 
 pub bounds-guess-j-then-j-n : goal.bounds-guess-j-then-j-n
 bounds-guess-j-then-j-n c = let h = room_fits c.args.store.now (record { size = c.requires.keeps.size; many = c.slot_count-n.ensures }) in omega (arith, h, c.if-j-n.true)
-
-pub suspect-requires : goal.suspect-requires
-suspect-requires c = (room_has (record { size = c.requires.keeps.size; many = c.slot_count-n.ensures }) c.if-j-n.true, c.requires.keeps)
-
-pub returns-then-j-n : goal.returns-then-j-n
-returns-then-j-n c = tt
-
-pub covered-i-requires : goal.covered-i-requires
-covered-i-requires c = c.requires.keeps
-
-pub returns-then-i-n : goal.returns-then-i-n
-returns-then-i-n c = tt
 
 pub returns : goal.returns
 returns c = all_linked _ c.args.store.now _ _ (zeros 16384) (c.tie_all-j.ensures (omega (arith, c.if-j-n.false, c.slot_count-n.ensures))) c.covered-i.result (omega (arith, c.if-i-n.false, c.slot_count-n.ensures)) c.covered-i.ensures

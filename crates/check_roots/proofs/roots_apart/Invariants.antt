@@ -1,5 +1,4 @@
 -- `check_roots::roots_apart` meets its contract: the slots before j pass. Assumes nothing.
-use Prim.Native.Nat.{◌-◌}
 use mathlib.Core.Bool.{true}
 use Rattle.local.specs.Test.{by_record}
 use Rattle.layout.specs.Stores.{store_in}
@@ -9,6 +8,3 @@ use Rattle.check_roots.proofs.roots_apart.Given as goal
 
 abbrev pub invariant-loop-j : goal.invariant-loop-j
 invariant-loop-j l = Passed l.form l.store (by_record true (clear_of (store_in l.form l.store) l.version l.ends)) l.n l.j
-
-abbrev pub decreases-loop-j : goal.decreases-loop-j
-decreases-loop-j l = l.n - l.j

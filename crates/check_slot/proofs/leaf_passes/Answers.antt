@@ -11,18 +11,12 @@ returns-then-not-alone_right c =
     fails_alone _ c.args.store.now c.args.head (leaf_in c.args.s.now) (counts_in c.args.s.now) c.alone_right.ensures
     c.if-not-alone_right.true
 
-pub begins-requires : goal.begins-requires
-begins-requires c = (c.key_of.ensures.1, c.requires.0.proper)
-
 pub returns-then-not-begins : goal.returns-then-not-begins
 returns-then-not-begins c =
     fails_body _ c.args.store.now c.args.head (leaf_in c.args.s.now) (counts_in c.args.s.now) c.alone_right.ensures
     c.if-not-alone_right.false
     (leaf_body_lem c.args.s.now (store_in c.args.form c.args.store.now) (place_of c.args.head.place) c.key_of.ensures.0
     c.begins.ensures ∙ c.if-not-begins.true)
-
-pub leaf_hash-requires : goal.leaf_hash-requires
-leaf_hash-requires c = c.grant_of.ensures.1
 
 pub returns : goal.returns
 returns c =

@@ -3,5 +3,5 @@ use mathlib.Core.Path.{sym}
 use Rattle.check_quick.proofs.Fine.{sure_is}
 use Rattle.check_store.proofs.slots_pass.Goals as goal
 
-pub returns-in-Fine : goal.returns-in-Fine
-returns-in-Fine c = sym (sure_is c.in-Fine.is c.quick-seen.ensures)
+pub returns-in-None : goal.returns-in-None
+returns-in-None c = sym (sure_is c.in-None.is c.quick.ensures)

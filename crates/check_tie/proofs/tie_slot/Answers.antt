@@ -16,13 +16,10 @@ use Rattle.check_tie.proofs.tie_slot.Goals as goal
 pub kind_at-requires : goal.kind_at-requires
 kind_at-requires c = slot_within c.requires.0
 
-pub returns-then-kind_at-le-LEAF_KIND : goal.returns-then-kind_at-le-LEAF_KIND
-returns-then-kind_at-le-LEAF_KIND c =
-    record {
-      known = c.requires.2;
-      passed = other_tied c.requires.0 (all_of Byte c.args.store.now 0 (λ i _. omega (arith, c.shared_slice_known-1.given i)))
-          c.kind_at.ensures c.if-kind_at-le-LEAF_KIND.true c.args.sums.now;
-    }
+pub returns-then-kind_at-le-LEAF_KIND-clause-passed : goal.returns-then-kind_at-le-LEAF_KIND-clause-passed
+returns-then-kind_at-le-LEAF_KIND-clause-passed c =
+    other_tied c.requires.0 (all_of Byte c.args.store.now 0 (λ i _. omega (arith, c.shared_slice_known-1.given i)))
+    c.kind_at.ensures c.if-kind_at-le-LEAF_KIND.true c.args.sums.now
 
 pub slot_of-s-requires : goal.slot_of-s-requires
 slot_of-s-requires c = slot_within c.requires.0
@@ -62,9 +59,6 @@ overflow_add-number c =
     let h = slot_small {s = c.args.store.now} c.requires.0 in
     omega (arith, h)
 
-pub hash_at-requires : goal.hash_at-requires
-hash_at-requires c = omega (arith, c.child_hash.ensures.1)
-
 pub tie_link-requires : goal.tie_link-requires
 tie_link-requires c = (
   c.requires.1,
@@ -75,16 +69,10 @@ tie_link-requires c = (
   c.requires.2,
 )
 
-pub returns-then-not-tie_link : goal.returns-then-not-tie_link
-returns-then-not-tie_link c = record { known = c.tie_link.ensures.known; passed = tt }
-
 pub overflow_add-to_right : goal.overflow_add-to_right
 overflow_add-to_right c =
     let h = slot_small {s = c.args.store.now} c.requires.0 in
     omega (arith, h)
-
-pub hash_at-requires-2 : goal.hash_at-requires-2
-hash_at-requires-2 c = omega (arith, c.child_hash-2.ensures.1)
 
 pub tie_link-requires-2 : goal.tie_link-requires-2
 tie_link-requires-2 c = (
@@ -96,8 +84,8 @@ tie_link-requires-2 c = (
   c.tie_link.ensures.known,
 )
 
-pub returns : goal.returns
-returns c =
+pub returns-clause-passed : goal.returns-clause-passed
+returns-clause-passed c =
     let a = c.args in
     let both = inner_tied c.requires.0
     (all_of Byte c.args.store.now 0 (λ i _. omega (arith, c.shared_slice_known-1.given i)))
@@ -111,4 +99,4 @@ returns c =
     c.child_count_at-lefts.result c.child_count_at-rights.result c.child_count_at-lefts.ensures c.child_count_at-rights.ensures a.sums.now
     c.tie_link.new.sums c.tie_link-2.new.sums
     (passed_so c.tie_link.result (ap not c.if-not-tie_link.false) c.tie_link.ensures.passed) in
-    record { known = c.tie_link-2.ensures.known; passed = pass_map c.tie_link-2.result both c.tie_link-2.ensures.passed }
+    pass_map c.tie_link-2.result both c.tie_link-2.ensures.passed

@@ -1,5 +1,5 @@
 -- `check_trial::hashed` is safe and ends. Assumes nothing.
-use Rattle.std.proofs.Common.{◌-◌, arith}
+use Rattle.std.proofs.Common.{arith}
 use Rattle.store.proofs.Slots.{slot_within}
 use Rattle.check_pass.proofs.Walks.{walk_start, walk_slot, walk_next}
 use Rattle.check_trial.proofs.hashed.Goals as goal
@@ -15,9 +15,6 @@ kind_at-requires c = slot_within (walk_slot c.loop-i.invariant c.loop-i-test.tru
 
 pub slot_of-requires : goal.slot_of-requires
 slot_of-requires c = slot_within (walk_slot c.loop-i.invariant c.loop-i-test.true)
-
-pub overflow_add-i : goal.overflow_add-i
-overflow_add-i c = omega (arith, c.loop-i.invariant.scan.small)
 
 pub loop-i-preserved : goal.loop-i-preserved
 loop-i-preserved c = walk_next c.loop-i.invariant c.loop-i-test.true tt

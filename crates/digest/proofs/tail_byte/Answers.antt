@@ -1,6 +1,6 @@
 -- The message's own byte, or 128 at its end, or past it.
 -- Assumes nothing.
-use mathlib.Core.Path.{◌∙◌, sym}
+use mathlib.Core.Path.{sym}
 use mathlib.Core.List.{[]}
 use native.Mathlib.Omega.{arith}
 use lib.Seq.{get_or_at}
@@ -11,7 +11,7 @@ use Rattle.digest.proofs.tail_byte.Goals as goal
 pub returns-then-at-b : goal.returns-then-at-b
 returns-then-at-b c =
     let a = c.args in
-    (c.wide.ensures.0 ∙ sym (tail_inside a.b.now a.at (omega arith)), c.wide.ensures.1)
+    (sym (tail_inside a.b.now a.at (omega arith)), omega (arith, c.type_inv.b a.at))
 
 pub returns-then-at-b-2 : goal.returns-then-at-b-2
 returns-then-at-b-2 c =

@@ -1,6 +1,6 @@
 -- After i turns the state is the hash value H(i): a block that the message fills is a block of the padded message.
 -- Assumes nothing.
-use Prim.Native.Nat.{◌-◌, ◌/◌}
+use Prim.Native.Nat.{◌/◌}
 use mathlib.Core.Path.{◌≡◌}
 use native.Mathlib.Omega.{arith}
 use lib.ListN.{length}

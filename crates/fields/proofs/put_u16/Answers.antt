@@ -1,15 +1,16 @@
--- `fields::put_u16` meets its contract: its two stores are the bytes of the number, written at their place. Assumes nothing.
-use mathlib.Core.Path.{ap, ◌∙◌}
+-- `fields::put_u16` meets its contract: the bytes of the number are written at their place. Assumes nothing.
+use Prim.Native.Nat.{◌+◌, ◌-◌}
 use native.Mathlib.Omega.{arith}
-use lib.ListN.{length-set}
-use Rattle.fields.specs.Written.{written}
+use mathlib.Core.Path.{◌≡◌, ap, ◌∙◌}
+use borrow.Rule.Slice.PartMut.{put_mid}
+use Rattle.terms.specs.Fields.{le}
+use Rattle.terms.proofs.Fields.{length_le}
 use Rattle.fields.proofs.Bytes.{le_two}
-use Rattle.fields.proofs.Written.{set_two}
-use borrow.Author.Rules.{rules}
+use Rattle.fields.proofs.Written.{part_written}
 use Rattle.fields.proofs.put_u16.Goals as goal
 
-pub bounds-s-at-2 : goal.bounds-s-at-2
-bounds-s-at-2 c = simp length-set (omega arith)
-
 pub returns : goal.returns
-returns c = let a = c.args in set_two a.s.now a.at _ _ c.requires ∙ ap (λ f. written a.at f a.s.now) (le_two a.x (search rules))
+returns c =
+    let a = c.args in
+    let e : c.copy_from_slice.new.self ≡ le 2 a.x = c.copy_from_slice.ensures.after ∙ c.to_le_bytes.ensures ∙ le_two a.x in
+    ap (put_mid a.at (a.at + 2 - a.at) a.s.now) e ∙ part_written a.at (a.at + 2) (le 2 a.x) a.s.now (omega (arith, length_le 2 a.x))

@@ -2,14 +2,14 @@
 use Rattle.figures.proofs.Exported.{figures_refused, figures_told}
 use Rattle.figures.proofs.grants_figures.Goals as goal
 
-pub returns-in-Refused : goal.returns-in-Refused
-returns-in-Refused c =
+pub returns-in-Err : goal.returns-in-Err
+returns-in-Err c =
     let a = c.args in
     let d = c.figures-figured in
-    figures_refused d.ensures a.totals.now c.in-Refused.is
+    rw c.number.ensures (figures_refused d.ensures a.totals.now c.in-Err.is)
 
-pub returns-in-Told : goal.returns-in-Told
-returns-in-Told c =
+pub returns-in-Ok : goal.returns-in-Ok
+returns-in-Ok c =
     let a = c.args in
     let d = c.figures-figured in
-    figures_told d.ensures a.totals.now c.in-Told.is c.put_totals.ensures
+    figures_told d.ensures a.totals.now c.in-Ok.is c.put_totals.ensures

@@ -1,5 +1,4 @@
 -- `figures_block::figures_in` meets its contract: the listed slots one by one. Assumes nothing.
-use Prim.Native.Nat.{◌-◌}
 use native.Mathlib.Omega.{arith}
 use Rattle.terms.specs.Bits.{Byte}
 use Rattle.terms.proofs.Lists.{all_of}
@@ -10,27 +9,21 @@ pub loop-j-init : goal.loop-j-init
 loop-j-init c = adding_start c.args.version c.requires.0 c.requires.1
 
 pub offset_bounds-list-j : goal.offset_bounds-list-j
-offset_bounds-list-j c = omega (arith, adding_inside c.loop-j.invariant c.loop-j-test.true)
+offset_bounds-list-j c = omega (arith, adding_inside c.loop-j.invariant (omega arith))
 
 pub bounds-list-j : goal.bounds-list-j
-bounds-list-j c = adding_inside c.loop-j.invariant c.loop-j-test.true
+bounds-list-j c = adding_inside c.loop-j.invariant (omega arith)
 
 pub overflow_cast-i : goal.overflow_cast-i
-overflow_cast-i c = omega (arith, adding_small c.loop-j.invariant c.loop-j-test.true)
+overflow_cast-i c = omega (arith, adding_small c.loop-j.invariant (omega arith))
 
 pub add_slot-f-requires : goal.add_slot-f-requires
-add_slot-f-requires c = adding_slot c.loop-j.invariant c.loop-j-test.true
-
-pub overflow_add-j : goal.overflow_add-j
-overflow_add-j c = omega (arith, adding_inside c.loop-j.invariant c.loop-j-test.true)
-
-pub loop-j-smaller : goal.loop-j-smaller
-loop-j-smaller c = omega (arith, c.loop-j-test.true)
+add_slot-f-requires c = adding_slot c.loop-j.invariant (omega arith)
 
 pub loop-j-preserved : goal.loop-j-preserved
 loop-j-preserved c =
-    adding_next c.loop-j.invariant (all_of Byte c.args.store.now 0 (λ i _. omega (arith, c.shared_slice_known-1.given i))) c.loop-j-test.true
+    adding_next c.loop-j.invariant (all_of Byte c.args.store.now 0 (λ i _. omega (arith, c.shared_slice_known-1.given i))) (omega arith)
     c.add_slot-f.result c.add_slot-f.ensures
 
 pub returns : goal.returns
-returns c = adding_end c.loop-j.invariant c.loop-j-test.false c.requires.2 c.requires.3
+returns c = adding_end c.loop-j.invariant (omega arith) c.requires.2 c.requires.3

@@ -21,45 +21,45 @@ loop-i-init c =
     )
 
 pub lives-requires : goal.lives-requires
-lives-requires c = backward_slot c.loop-i.invariant.0 c.loop-i-test.true
+lives-requires c = backward_slot c.loop-i.invariant.0 (omega arith)
 
 pub add_slot-all-requires : goal.add_slot-all-requires
-add_slot-all-requires c = split_slot c.loop-i.invariant.0 c.loop-i-test.true
+add_slot-all-requires c = split_slot c.loop-i.invariant.0 (omega arith)
 
 pub loop-i-preserved-then-lives : goal.loop-i-preserved-then-lives
 loop-i-preserved-then-lives c =
     let w = c.loop-i.invariant in (
-      split_each w.0 c.loop-i-test.true (all_of Byte c.args.store.now 0 (λ i _. omega (arith, c.shared_slice_known-1.given i)))
+      split_each w.0 (omega arith) (all_of Byte c.args.store.now 0 (λ i _. omega (arith, c.shared_slice_known-1.given i)))
           c.lives.ensures c.if-lives.true c.add_slot-all.result c.add_slot-all.ensures,
       w.1,
     )
 
 pub lives-requires-else-lives : goal.lives-requires-else-lives
-lives-requires-else-lives c = backward_slot c.loop-i.invariant.0 c.loop-i-test.true
+lives-requires-else-lives c = backward_slot c.loop-i.invariant.0 (omega arith)
 
 pub overflow_cast-list : goal.overflow_cast-list
-overflow_cast-list c = let w = c.loop-i.invariant.0 in omega (arith, split_fits w c.loop-i-test.true, w.within, w.small)
+overflow_cast-list c = let w = c.loop-i.invariant.0 in omega (arith, split_fits w (omega arith), w.within, w.small)
 
 pub offset_bounds-list-listed : goal.offset_bounds-list-listed
-offset_bounds-list-listed c = let w = c.loop-i.invariant.0 in omega (arith, split_fits w c.loop-i-test.true, w.within, w.small)
+offset_bounds-list-listed c = let w = c.loop-i.invariant.0 in omega (arith, split_fits w (omega arith), w.within, w.small)
 
 pub bounds-list-listed : goal.bounds-list-listed
-bounds-list-listed c = let w = c.loop-i.invariant.0 in omega (arith, split_fits w c.loop-i-test.true, w.within, w.small)
+bounds-list-listed c = let w = c.loop-i.invariant.0 in omega (arith, split_fits w (omega arith), w.within, w.small)
 
 pub overflow_add-listed : goal.overflow_add-listed
-overflow_add-listed c = let w = c.loop-i.invariant.0 in omega (arith, split_fits w c.loop-i-test.true, w.within, w.small)
+overflow_add-listed c = let w = c.loop-i.invariant.0 in omega (arith, split_fits w (omega arith), w.within, w.small)
 
 pub loop-i-preserved-then-lives-2 : goal.loop-i-preserved-then-lives-2
 loop-i-preserved-then-lives-2 c =
     let w = c.loop-i.invariant in
-    (split_listed w.0 c.loop-i-test.true (omega (arith, split_fits w.0 c.loop-i-test.true, w.1)) refl, simp length-set w.1)
+    (split_listed w.0 (omega arith) (omega (arith, split_fits w.0 (omega arith), w.1)) refl, simp length-set w.1)
 
 pub loop-i-preserved : goal.loop-i-preserved
 loop-i-preserved c =
     let w = c.loop-i.invariant in
-    (split_none w.0 c.loop-i-test.true c.lives-else-lives.ensures c.if-lives-2.false, w.1)
+    (split_none w.0 (omega arith) c.lives-else-lives.ensures c.if-lives-2.false, w.1)
 
 pub returns : goal.returns
 returns c =
     let w = c.loop-i.invariant in
-    (split_end w.0 c.loop-i-test.false, refl, refl, w.1)
+    (split_end w.0 (omega arith), refl, refl, w.1)

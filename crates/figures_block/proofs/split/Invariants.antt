@@ -7,6 +7,3 @@ use Rattle.figures_block.proofs.split.Given as goal
 
 abbrev pub invariant-loop-i : goal.invariant-loop-i
 invariant-loop-i l = Backward l.store (Split l.store l.list l.first l.last l.listed l.all) l.n l.i × (length l.list ≡ 16384)
-
-abbrev pub decreases-loop-i : goal.decreases-loop-i
-decreases-loop-i l = l.i

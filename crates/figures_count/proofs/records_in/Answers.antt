@@ -11,16 +11,16 @@ pub loop-i-init : goal.loop-i-init
 loop-i-init c = living_start c.args.first c.args.last c.requires c.slot_count-n.ensures
 
 pub lives-requires : goal.lives-requires
-lives-requires c = backward_slot c.loop-i.invariant c.loop-i-test.true
+lives-requires c = backward_slot c.loop-i.invariant (omega arith)
 
 pub overflow_add-records : goal.overflow_add-records
 overflow_add-records c = let few = living_few c.loop-i.invariant in omega arith
 
 pub loop-i-preserved-then-lives : goal.loop-i-preserved-then-lives
-loop-i-preserved-then-lives c = living_more c.loop-i.invariant c.loop-i-test.true c.lives.ensures c.if-lives.true
+loop-i-preserved-then-lives c = living_more c.loop-i.invariant (omega arith) c.lives.ensures c.if-lives.true
 
 pub loop-i-preserved : goal.loop-i-preserved
-loop-i-preserved c = living_same c.loop-i.invariant c.loop-i-test.true c.lives.ensures c.if-lives.false
+loop-i-preserved c = living_same c.loop-i.invariant (omega arith) c.lives.ensures c.if-lives.false
 
 pub returns : goal.returns
-returns c = living_end c.loop-i.invariant c.loop-i-test.false
+returns c = living_end c.loop-i.invariant (omega arith)

@@ -5,6 +5,3 @@ use Rattle.figures_count.proofs.records_in.Given as goal
 
 abbrev pub invariant-loop-i : goal.invariant-loop-i
 invariant-loop-i l = Backward l.store (Living l.first l.last l.records) l.n l.i
-
-abbrev pub decreases-loop-i : goal.decreases-loop-i
-decreases-loop-i l = l.i

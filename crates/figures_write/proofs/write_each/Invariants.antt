@@ -1,5 +1,4 @@
 -- `figures_write::write_each` meets its contract: a version a turn, each after the one before, from a block that has it. Assumes nothing.
-use Prim.Native.Nat.{◌-◌}
 use mathlib.Core.Path.{◌≡◌}
 use lib.ListN.{length}
 use Rattle.figures_block.specs.Block.{Right}
@@ -8,6 +7,3 @@ use Rattle.figures_write.proofs.write_each.Given as goal
 
 abbrev pub invariant-loop-i : goal.invariant-loop-i
 invariant-loop-i l = Writing l.first l.last l.store l.initial.part l.part l.n l.records l.i × Right l.store l.list l.block × (length l.list ≡ 16384)
-
-abbrev pub decreases-loop-i : goal.decreases-loop-i
-decreases-loop-i l = l.n - l.i

@@ -9,10 +9,10 @@ use Rattle.finding.proofs.check_against.Goals as goal
 pub root_hash-read-requires : goal.root_hash-read-requires
 root_hash-read-requires c = sound_size c.requires.0.sound
 
-pub returns-in-Refused : goal.returns-in-Refused
-returns-in-Refused c = root_not_refused c.requires.0 c.root_hash-read.result c.root_hash-read.ensures c.in-Refused.is
+pub returns-in-Err : goal.returns-in-Err
+returns-in-Err c = root_not_refused c.requires.0 c.root_hash-read.result c.root_hash-read.ensures c.in-Err.is
 
-pub returns-in-Hash : goal.returns-in-Hash
-returns-in-Hash c =
+pub returns-in-Ok : goal.returns-in-Ok
+returns-in-Ok c =
     c.check_under.ensures
-    ∙ ap (λ y. judged y c.args.key.now (proof_in c.args.proof.now)) (root_is c.requires.0 c.root_hash-read.result c.root_hash-read.ensures c.in-Hash.is)
+    ∙ ap (λ y. judged y c.args.key.now (proof_in c.args.proof.now)) (root_is c.requires.0 c.root_hash-read.result c.root_hash-read.ensures c.in-Ok.is)

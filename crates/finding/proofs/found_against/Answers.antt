@@ -1,29 +1,33 @@
 -- `finding::found_against` meets its contract: by the answer of the check. Assumes nothing.
+use mathlib.Core.Path.{ap, ◌∙◌}
+use Rattle.std.specs.Prelude.{Ok}
+use Rattle.std.proofs.lemmas.Result.{err_from_is_err_and}
 use Rattle.layout.specs.Stores.{store_of}
 use Rattle.finding.proofs.Judging.{refusal_found, present_is_presence, absent_is_absence, present_found, absent_found}
 use Rattle.finding.proofs.found_against.Goals as goal
 
-pub of_presence-named-requires : goal.of_presence-named-requires
-of_presence-named-requires c =
+pub returns-in_err-checked : goal.returns-in_err-checked
+returns-in_err-checked c =
     let a = c.args in
-    (c.requires.0, present_is_presence (store_of a.store.now) a.version a.key.now a.proof.now c.check_against-checked.result c.check_against-checked.ensures c.in-Present.is)
+    let p = err_from_is_err_and c.from_residual.result c.from_residual.ensures.1 in
+    rw (p.1, p.2) (refusal_found (store_of a.store.now) a.version a.key.now a.proof.now c.check_against.result c.check_against.ensures c.in_err-checked.was)
 
-pub of_absence-named-requires : goal.of_absence-named-requires
-of_absence-named-requires c =
+pub of_presence-requires : goal.of_presence-requires
+of_presence-requires c =
     let a = c.args in
-    (c.requires.0, absent_is_absence (store_of a.store.now) a.version a.key.now a.proof.now c.check_against-checked.result c.check_against-checked.ensures c.in-Absent.is)
+    (c.requires.0, present_is_presence (store_of a.store.now) a.version a.key.now a.proof.now c.check_against.result c.check_against.ensures (c.in_ok-checked.was ∙ ap Ok c.in-Some.is))
 
-pub returns-in-Refused : goal.returns-in-Refused
-returns-in-Refused c =
+pub of_absence-requires : goal.of_absence-requires
+of_absence-requires c =
     let a = c.args in
-    refusal_found (store_of a.store.now) a.version a.key.now a.proof.now c.check_against-checked.result c.check_against-checked.ensures c.in-Refused.is
+    (c.requires.0, absent_is_absence (store_of a.store.now) a.version a.key.now a.proof.now c.check_against.result c.check_against.ensures (c.in_ok-checked.was ∙ ap Ok c.in-None.is))
 
-pub returns-in-Present : goal.returns-in-Present
-returns-in-Present c =
+pub returns-in-Some : goal.returns-in-Some
+returns-in-Some c =
     let a = c.args in
-    present_found (store_of a.store.now) a.version a.key.now a.proof.now c.check_against-checked.result c.check_against-checked.ensures c.in-Present.is c.of_presence-named.ensures
+    present_found (store_of a.store.now) a.version a.key.now a.proof.now c.check_against.result c.check_against.ensures (c.in_ok-checked.was ∙ ap Ok c.in-Some.is) c.of_presence.ensures
 
-pub returns-in-Absent : goal.returns-in-Absent
-returns-in-Absent c =
+pub returns-in-None : goal.returns-in-None
+returns-in-None c =
     let a = c.args in
-    absent_found (store_of a.store.now) a.version a.key.now a.proof.now c.check_against-checked.result c.check_against-checked.ensures c.in-Absent.is c.of_absence-named.ensures
+    absent_found (store_of a.store.now) a.version a.key.now a.proof.now c.check_against.result c.check_against.ensures (c.in_ok-checked.was ∙ ap Ok c.in-None.is) c.of_absence.ensures

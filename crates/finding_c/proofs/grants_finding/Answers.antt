@@ -2,8 +2,8 @@
 use Rattle.finding_c.proofs.Exported.{finding_refused, finding_given}
 use Rattle.finding_c.proofs.grants_finding.Goals as goal
 
-pub returns-in-Refused : goal.returns-in-Refused
-returns-in-Refused c = finding_refused c.finding-found.result c.finding-found.ensures c.args.answer.now c.in-Refused.is
+pub returns-in-Err : goal.returns-in-Err
+returns-in-Err c = rw c.number.ensures (finding_refused c.finding-found.result c.finding-found.ensures c.args.answer.now c.in-Err.is)
 
-pub returns-in-Of : goal.returns-in-Of
-returns-in-Of c = finding_given c.finding-found.result c.finding-found.ensures c.args.answer.now c.in-Of.is c.put_named.ensures
+pub returns-in-Ok : goal.returns-in-Ok
+returns-in-Ok c = finding_given c.finding-found.result c.finding-found.ensures c.args.answer.now c.in-Ok.is c.put_named.ensures

@@ -1,10 +1,6 @@
 -- `forged_nodes::note_words` meets its contract: slot by slot. Assumes nothing.
-use Prim.Native.Nat.{◌-◌, ◌≤◌}
 use Rattle.forged_nodes.specs.Nodes.{NotedTo}
 use Rattle.forged_nodes.proofs.note_words.Given as goal
 
 abbrev pub invariant-loop-i : goal.invariant-loop-i
-invariant-loop-i l = NotedTo l.version l.store l.words l.i × (l.i ≤ l.n)
-
-abbrev pub decreases-loop-i : goal.decreases-loop-i
-decreases-loop-i l = l.n - l.i
+invariant-loop-i l = NotedTo l.version l.store l.words l.i

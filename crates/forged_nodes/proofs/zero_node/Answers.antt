@@ -1,8 +1,6 @@
 -- `forged_nodes::zero_node` meets its contract: no slot passed is such a node. Assumes nothing.
-use Prim.Native.Nat.{◌-◌}
 use native.Mathlib.Omega.{arith}
 use mathlib.Core.Path.{ap, sym, ◌∙◌}
-use Rattle.terms.specs.declared.Form.TheVariants.{Counted as counted}
 use Rattle.store.proofs.Slots.{slot_within}
 use Rattle.store.proofs.Scans.{scan_slot}
 use Rattle.forged_slot.specs.Slot.{message_in}
@@ -35,12 +33,6 @@ returns-then-zero_here c =
     let a = c.args in
     zero_found a.version c.loop-i.invariant c.loop-i-test.true (sym c.zero_here.ensures ∙ c.if-zero_here.true)
     c.record_message-node.result (c.record_message-node.ensures ∙ ap message_in c.slot_of.ensures.0)
-
-pub overflow_add-i : goal.overflow_add-i
-overflow_add-i c = omega (arith, c.loop-i.invariant.small)
-
-pub loop-i-smaller : goal.loop-i-smaller
-loop-i-smaller c = omega (arith, c.loop-i-test.true)
 
 pub loop-i-preserved : goal.loop-i-preserved
 loop-i-preserved c =

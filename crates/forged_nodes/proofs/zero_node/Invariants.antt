@@ -1,5 +1,4 @@
 -- `forged_nodes::zero_node` meets its contract: no slot passed is such a node. Assumes nothing.
-use Prim.Native.Nat.{◌-◌}
 use Rattle.terms.specs.declared.Form.TheVariants.{Counted as counted}
 use Rattle.store.proofs.Scans.{Scan}
 use Rattle.forged_nodes.proofs.Scanning.{ZeroAhead}
@@ -7,6 +6,3 @@ use Rattle.forged_nodes.proofs.zero_node.Given as goal
 
 abbrev pub invariant-loop-i : goal.invariant-loop-i
 invariant-loop-i l = Scan counted l.store (ZeroAhead l.store l.version) l.n l.i
-
-abbrev pub decreases-loop-i : goal.decreases-loop-i
-decreases-loop-i l = l.n - l.i

@@ -1,5 +1,4 @@
 -- `forged_partner::partner` meets its contract: no slot passed is such a node. Assumes nothing.
-use Prim.Native.Nat.{◌-◌}
 use Rattle.terms.specs.declared.Form.TheVariants.{Counted as counted}
 use Rattle.store.proofs.Scans.{Scan}
 use Rattle.forged_message.specs.Parts.{message_bytes}
@@ -8,6 +7,3 @@ use Rattle.forged_partner.proofs.partner.Given as goal
 
 abbrev pub invariant-loop-i : goal.invariant-loop-i
 invariant-loop-i l = Scan counted l.store (Ahead l.store l.version (message_bytes l.m)) l.n l.i
-
-abbrev pub decreases-loop-i : goal.decreases-loop-i
-decreases-loop-i l = l.n - l.i

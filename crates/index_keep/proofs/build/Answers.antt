@@ -14,7 +14,7 @@ overflow_cast-n c = record { fits = omega (arith, sound_small c.requires.0 c.slo
 pub more-requires : goal.more-requires
 more-requires c =
     let p = c.requires in
-    let e = c.slot_count-n.ensures in (sound_room p.0 e, sound_small p.0 e, c.fill.auto.table ∙ p.1 ∙ sym e)
+    let e = c.slot_count-n.ensures in (sound_room p.0 e, sound_small p.0 e, c.fill.ensures.len ∙ p.1 ∙ sym e)
 
 pub returns-then-is_right : goal.returns-then-is_right
 returns-then-is_right c = decided_yes c.is_right.result c.if-is_right.true c.is_right.ensures

@@ -16,12 +16,6 @@ slot_of-requires c = slot_within c.requires.0
 pub slot_of-requires-2 : goal.slot_of-requires-2
 slot_of-requires-2 c = slot_within c.requires.1
 
-pub hash_at-requires : goal.hash_at-requires
-hash_at-requires c = omega (arith, c.bits_of-own.ensures.1)
-
-pub hash_at-requires-2 : goal.hash_at-requires-2
-hash_at-requires-2 c = omega (arith, c.bits_of-its.ensures.1)
-
 pub returns-then-same_hash : goal.returns-then-same_hash
 returns-then-same_hash c =
     let own = read_whole c.hash_at.ensures.result_value c.bits_of-own.ensures.1 (c.bits_of-own.ensures.0 ∙ ap bits_in c.slot_of.ensures.0) in

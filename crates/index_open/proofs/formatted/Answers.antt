@@ -21,5 +21,5 @@ overflow_cast-n c = record { fits = omega (arith, c.slot_count-n.ensures, size_s
 pub returns : goal.returns
 returns c =
     let a = c.args in
-    formats_both a.store.now a.table.now (sym c.size_right.ensures ∙ c.if-not-size_right.false) c.slot_count-n.ensures c.if-table-n.false c.fill.ensures
+    formats_both a.store.now a.table.now (sym c.size_right.ensures ∙ c.if-not-size_right.false) c.slot_count-n.ensures c.if-table-n.false (c.fill.ensures.after (λ y e. e))
     c.format.ensures.answer c.format.ensures.bytes

@@ -40,11 +40,11 @@ look_entry-look-requires c = (c.requires.0, c.slot_count-n.ensures, c.requires.1
 pub overflow_add-lo : goal.overflow_add-lo
 overflow_add-lo c = let inv = c.loop-lo.invariant in omega (arith, inv.0.within, inv.0.ordered, inv.1, inv.2)
 
-pub loop-lo-smaller-in-Small : goal.loop-lo-smaller-in-Small
-loop-lo-smaller-in-Small c = let less = c.loop-lo-test.true in omega arith
+pub loop-lo-smaller-in-Less : goal.loop-lo-smaller-in-Less
+loop-lo-smaller-in-Less c = let less = c.loop-lo-test.true in omega arith
 
-pub loop-lo-preserved-in-Small : goal.loop-lo-preserved-in-Small
-loop-lo-preserved-in-Small c =
+pub loop-lo-preserved-in-Less : goal.loop-lo-preserved-in-Less
+loop-lo-preserved-in-Less c =
     let a = c.args in
     let look = look_for a.root a.version (place_of a.place) in
     let s = (store_of a.store.now).slots in
@@ -52,7 +52,7 @@ loop-lo-preserved-in-Small c =
     let less = c.loop-lo-test.true in
     let seen = c.look_entry-look.ensures in
     let here = in_middle_lem look a.table.now s c.loop-lo.lo c.loop-lo.hi inv.1 c.entry_at-entry.ensures in
-    let above = search_above look a.table.now s inv.0 less (sym here ∙ was_small _ _ seen c.in-Small.is) in
+    let above = search_above look a.table.now s inv.0 less (sym here ∙ was_small _ _ seen c.in-Less.is) in
     (subst (λ k. Between look a.table.now s k c.loop-lo.hi) (omega arith) above, inv.1, inv.2)
 
 pub loop-lo-smaller : goal.loop-lo-smaller
@@ -67,10 +67,10 @@ loop-lo-preserved c =
     let less = c.loop-lo-test.true in
     let seen = c.look_entry-look.ensures in
     let here = in_middle_lem look a.table.now s c.loop-lo.lo c.loop-lo.hi inv.1 c.entry_at-entry.ensures in
-    (search_below look a.table.now s inv.0 less (sym here ∙ was_great _ _ seen c.in-Great.is), inv.1, inv.2)
+    (search_below look a.table.now s inv.0 less (sym here ∙ was_great _ _ seen c.in-Greater.is), inv.1, inv.2)
 
-pub returns-in-Meets : goal.returns-in-Meets
-returns-in-Meets c =
+pub returns-in-Equal : goal.returns-in-Equal
+returns-in-Equal c =
     let a = c.args in
     let look = look_for a.root a.version (place_of a.place) in
     let s = (store_of a.store.now).slots in
@@ -78,7 +78,7 @@ returns-in-Meets c =
     let less = c.loop-lo-test.true in
     let seen = c.look_entry-look.ensures in
     let here = in_middle_lem look a.table.now s c.loop-lo.lo c.loop-lo.hi inv.1 c.entry_at-entry.ensures in
-    let met = was_met _ _ seen c.in-Meets.is in
+    let met = was_met _ _ seen c.in-Equal.is in
     let slot = entry_met look (own_met a.root a.version (place_of a.place)) s c.entry_at-entry.result met.0 met.1 in
     (slot.0, (met.0, slot.1, search_met look a.table.now s inv.0 met.0 less (sym here ∙ met.1)))
 

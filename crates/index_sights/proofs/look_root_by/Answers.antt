@@ -2,20 +2,14 @@
 use Rattle.meaning.specs.Sight.{root_sight}
 use Rattle.indexed.specs.Index.{root_look, root_by}
 use Rattle.indexed.specs.Index as index
+use Rattle.std.proofs.Common.{rules}
 use Rattle.layout.specs.Stores.{store_of}
-use Rattle.index_sights.proofs.Fallen.{ended, fallen}
+use Rattle.index_sights.proofs.Fallen.{fallen}
 use Rattle.index_sights.proofs.look_root_by.Goals as goal
-
-pub returns-in-At : goal.returns-in-At
-unfolding root_by
-returns-in-At c =
-    let a = c.args in
-    let st = store_of a.store.now in
-    ended st.slots (index.search (root_look a.version) a.table.now st.slots) (root_sight st a.version) _ c.search_root-found.ensures _ c.in-At.is
 
 pub returns : goal.returns
 unfolding root_by
 returns c =
     let a = c.args in
     let st = store_of a.store.now in
-    fallen st.slots (index.search (root_look a.version) a.table.now st.slots) (root_sight st a.version) _ c.search_root-found.ensures c.look_root.result c.in_default.is c.look_root.ensures
+    fallen st.slots (index.search (root_look a.version) a.table.now st.slots) (root_sight st a.version) _ _ c.search_root.ensures (λ i e. search (rules, e, c.map_or_else.ensures)) (λ e. search (rules, e, c.map_or_else.ensures))

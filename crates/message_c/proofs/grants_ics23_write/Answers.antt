@@ -7,8 +7,8 @@ use Rattle.messages.specs.Lending.{LentBytes}
 use Rattle.message_rules.specs.Answers.{lent_of}
 use Rattle.message_c.proofs.grants_ics23_write.Goals as goal
 
-pub returns-in-Refused : goal.returns-in-Refused
-returns-in-Refused c =
+pub returns-in-Err : goal.returns-in-Err
+returns-in-Err c =
     let lent-bytes : let a = c.args in
     LentBytes (lent_of a.asked.now a.key1.now a.value1.now a.key2.now a.value2.now) = let a = c.args in
     record {
@@ -19,10 +19,10 @@ returns-in-Refused c =
       second_value = all_bytes a.value2.now (λ i. omega (arith, c.shared_slice_known-6-1.given i));
     } in
     let a = c.args in
-    write_refused (all_bytes a.proof.now (λ i. omega (arith, c.shared_slice_known-1.given i))) lent-bytes c.write-wrote.ensures a.length.now c.in-Refused.is
+    rw c.number.ensures (write_refused (all_bytes a.proof.now (λ i. omega (arith, c.shared_slice_known-1.given i))) lent-bytes c.write-wrote.ensures a.length.now c.in-Err.is)
 
-pub returns-in-Length : goal.returns-in-Length
-returns-in-Length c =
+pub returns-in-Ok : goal.returns-in-Ok
+returns-in-Ok c =
     let lent-bytes : let a = c.args in
     LentBytes (lent_of a.asked.now a.key1.now a.value1.now a.key2.now a.value2.now) = let a = c.args in
     record {
@@ -33,4 +33,4 @@ returns-in-Length c =
       second_value = all_bytes a.value2.now (λ i. omega (arith, c.shared_slice_known-6-1.given i));
     } in
     let a = c.args in
-    write_given (all_bytes a.proof.now (λ i. omega (arith, c.shared_slice_known-1.given i))) lent-bytes c.write-wrote.ensures a.length.now c.in-Length.is (search rules) c.put_u32.ensures
+    write_given (all_bytes a.proof.now (λ i. omega (arith, c.shared_slice_known-1.given i))) lent-bytes c.write-wrote.ensures a.length.now c.in-Ok.is (search rules) c.put_u32.ensures

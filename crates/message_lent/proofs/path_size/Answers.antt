@@ -1,5 +1,4 @@
 -- `message_lent::path_size` meets its contract: a step a turn. Assumes nothing.
-use Prim.Native.Nat.{◌-◌}
 use Rattle.proofrecords.proofs.Forms.{presence_whole}
 use Rattle.message_lent.proofs.Lengths.{sizing_start, sizing_next, sizing_done, few_steps, count_read}
 use native.Mathlib.Omega.{arith}

@@ -1,5 +1,4 @@
 -- `message_put::put_path` meets its contract: a step a turn. Assumes nothing.
-use Prim.Native.Nat.{◌-◌}
 use Rattle.proofrecords.proofs.Forms.{presence_whole}
 use Rattle.message_lent.proofs.Lengths.{count_read}
 use Rattle.message_put.proofs.Parts.{pathing_start, inner_room, inner_next, pathing_done, path_room, long_enough}

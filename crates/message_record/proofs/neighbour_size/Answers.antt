@@ -1,10 +1,13 @@
 -- `message_record::neighbour_size` meets its contract, by whether there is somebody. Assumes nothing.
-use mathlib.Core.Path.{sym, ◌∙◌}
-use Rattle.message_record.proofs.Records.{size_there, size_none}
+use mathlib.Core.Path.{ap, sym, ◌∙◌}
+use Rattle.message_record.specs.Ready.{size_of}
 use Rattle.message_record.proofs.neighbour_size.Goals as goal
 
-pub returns-then-p : goal.returns-then-p
-returns-then-p c = c.presence_size.ensures ∙ sym (size_there c.args.p c.if-p.true)
+pub presence_size-requires : goal.presence_size-requires
+presence_size-requires c = c.requires c.in-Some.shown c.in-Some.is
 
-pub returns : goal.returns
-returns c = sym (size_none c.args.p c.if-p.false)
+pub returns-in-Some : goal.returns-in-Some
+returns-in-Some c = c.presence_size.ensures ∙ sym (ap size_of c.in-Some.is)
+
+pub returns-in-None : goal.returns-in-None
+returns-in-None c = sym (ap size_of c.in-None.is)

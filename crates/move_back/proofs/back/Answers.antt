@@ -1,17 +1,17 @@
 -- `move_back::back` meets its contract: refused by its tests, or filled. Assumes nothing.
 use Rattle.move_rules.specs.Moves.{moves}
-use Rattle.move_open.proofs.Opening.{refuses_so, passes}
+use Rattle.move_open.proofs.Opening.{move_refused, move_passed}
 use Rattle.move_back.proofs.back.Goals as goal
 
-pub returns-then-n-ne0 : goal.returns-then-n-ne0
-returns-then-n-ne0 c = refuses_so c.refusal-n.ensures c.if-n-ne0.true
+pub returns-in-Err : goal.returns-in-Err
+returns-in-Err c = rw c.number.ensures (move_refused c.open.ensures c.in-Err.is)
 
 pub fill-requires : goal.fill-requires
 fill-requires c =
-    let w = passes c.refusal-n.ensures c.if-n-ne0.false in
+    let w = move_passed c.open.ensures c.in_default.is in
     (w.room, w.sound)
 
 pub returns : goal.returns
 returns c =
-    let w = passes c.refusal-n.ensures c.if-n-ne0.false in
+    let w = move_passed c.open.ensures c.in_default.is in
     moves w.room w.headed w.sound c.fill.ensures

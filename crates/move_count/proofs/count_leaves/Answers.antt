@@ -5,16 +5,7 @@ use Rattle.terms.specs.declared.Form.TheVariants.{Plain as plain}
 use lib.ListN.{length}
 use Rattle.move_count.proofs.count_leaves.Goals as goal
 
-pub slot_count-n-requires : goal.slot_count-n-requires
-slot_count-n-requires c = c.requires.0.size
-
 pub guess_children-requires : goal.guess_children-requires
 guess_children-requires c =
     let s = c.args.store.now in
     ((record { size = c.requires.0.size; many = c.slot_count-n.ensures }), omega (arith, c.slot_count-n.ensures, size_says plain (length s) c.requires.0.size))
-
-pub count_levels-requires : goal.count_levels-requires
-count_levels-requires c = (c.requires.0, (record { size = c.requires.0.size; many = c.slot_count-n.ensures }), c.requires.1)
-
-pub returns : goal.returns
-returns c = c.count_levels.ensures

@@ -6,7 +6,7 @@ use Rattle.layout.specs.Stores.{slot_in}
 use Rattle.terms.specs.declared.Form.TheVariants.{Plain as plain}
 use Rattle.check_pass.proofs.Records.{slot_small}
 use Rattle.store.proofs.Slots.{slot_within}
-use Rattle.move_count.proofs.Levels.{inner_place, inner_short, child_level, slot_counted}
+use Rattle.move_count.proofs.Levels.{inner_place, inner_short, slot_counted}
 use Rattle.move_count.proofs.count_slot.Goals as goal
 
 pub slot_of-requires : goal.slot_of-requires
@@ -32,29 +32,6 @@ child_place-requires c = (
   omega (arith, c.place_at-up.ensures.count, c.count_at.ensures, inner_short (slot_in plain c.args.i c.args.store.now) c.requires.2),
 )
 
-pub leaves_at-lefts-requires : goal.leaves_at-lefts-requires
-leaves_at-lefts-requires c = (
-  c.requires.0,
-  c.child_place.ensures.proper,
-  child_level c.requires.0 c.requires.1 c.count_at.ensures c.place_at-up.ensures.count c.child_place.ensures c.requires.3,
-)
-
-pub child_place-requires-2 : goal.child_place-requires-2
-child_place-requires-2 c = (
-  c.place_at-up.ensures.proper,
-  omega (arith, c.place_at-up.ensures.count, c.count_at.ensures, inner_short (slot_in plain c.args.i c.args.store.now) c.requires.2),
-)
-
-pub leaves_at-rights-requires : goal.leaves_at-rights-requires
-leaves_at-rights-requires c = (
-  c.requires.0,
-  c.child_place-2.ensures.proper,
-  child_level c.requires.0 c.requires.1 c.count_at.ensures c.place_at-up.ensures.count c.child_place-2.ensures c.requires.3,
-)
-
-pub overflow_cast-counts : goal.overflow_cast-counts
-overflow_cast-counts c = omega (arith, c.leaves_at-lefts.ensures.1)
-
 pub overflow_mul-counts : goal.overflow_mul-counts
 overflow_mul-counts c = omega (arith, slot_small c.requires.1)
 
@@ -63,9 +40,6 @@ offset_bounds-counts-i c = omega (arith, slot_small c.requires.1)
 
 pub bounds-counts-i : goal.bounds-counts-i
 bounds-counts-i c = omega (arith, slot_small c.requires.1)
-
-pub overflow_cast-counts-2 : goal.overflow_cast-counts-2
-overflow_cast-counts-2 c = omega (arith, c.leaves_at-rights.ensures.1)
 
 pub overflow_mul-counts-2 : goal.overflow_mul-counts-2
 overflow_mul-counts-2 c = omega (arith, slot_small c.requires.1)

@@ -5,15 +5,6 @@ use Rattle.terms.proofs.Lists.{all_of}
 use Rattle.move_count.proofs.Nodes.{slot_has, node_in}
 use Rattle.move_count.proofs.is_node.Goals as goal
 
-pub slot_count-n-requires : goal.slot_count-n-requires
-slot_count-n-requires c = c.requires.0.size
-
-pub returns-then-n-c : goal.returns-then-n-c
-returns-then-n-c c = tt
-
-pub agrees-requires : goal.agrees-requires
-agrees-requires c = (slot_has c.args.store.now c.requires.0 c.slot_count-n.ensures c.if-n-c.false, c.requires.2)
-
 pub returns : goal.returns
 returns c =
     let a = c.args in

@@ -32,8 +32,5 @@ offset_bounds-counts-c-2 c = omega (arith, slot_small c.requires)
 pub bounds-counts-c-2 : goal.bounds-counts-c-2
 bounds-counts-c-2 c = omega (arith, slot_small c.requires)
 
-pub overflow_add-result : goal.overflow_add-result
-overflow_add-result c = omega (arith, c.wide-2.ensures.1, c.wide.ensures.1)
-
 pub returns : goal.returns
 returns c = inner_weighs c.requires c.args.counts.now c.kind_at.ensures c.if-kind_at-eq-LEAF_KIND.false c.wide.ensures.0 c.wide-2.ensures.0

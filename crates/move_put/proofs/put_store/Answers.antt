@@ -54,14 +54,8 @@ bounds-counts-i-in-loop-i c = omega (arith, few_slots c.loop-i.invariant.able c.
 pub put_slot-requires : goal.put_slot-requires
 put_slot-requires c = (putting_has c.loop-i.invariant c.loop-i-test.true, putting_whole c.loop-i.invariant c.loop-i-test.true, putting_within c.loop-i.invariant c.loop-i-test.true)
 
-pub overflow_add-i-in-loop-i : goal.overflow_add-i-in-loop-i
-overflow_add-i-in-loop-i c = omega (arith, few_slots c.loop-i.invariant.able c.loop-i.invariant.many, c.loop-i-test.true)
-
-pub loop-i-smaller : goal.loop-i-smaller
-loop-i-smaller c = omega (arith, c.loop-i-test.true)
-
 pub loop-i-preserved : goal.loop-i-preserved
-loop-i-preserved c = putting_next c.loop-i.invariant c.loop-i-test.true c.wide.ensures c.wide-in-loop-i.ensures c.put_slot.ensures
+loop-i-preserved c = putting_next c.loop-i.invariant c.loop-i-test.true c.from.ensures c.from-in-loop-i.ensures c.put_slot.ensures
 
 pub shape_of-target : goal.shape_of-target
 shape_of-target c = putting_same c.loop-i.invariant ∙ c.put_header.auto.store

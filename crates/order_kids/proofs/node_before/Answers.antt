@@ -1,39 +1,17 @@
 -- `order_kids::node_before` meets its contract. Assumes nothing.
 use native.Mathlib.Omega.{arith}
-use mathlib.Core.Path.{ap, ◌∙◌}
-use Rattle.terms.specs.declared.Form.TheVariants.{Counted as counted}
-use Rattle.terms.specs.Bits.{Byte}
+use mathlib.Core.Path.{◌≡◌, refl, sym, subst}
+use mathlib.Core.Bool.{true}
+use Rattle.terms.specs.Bits.{Byte, before}
 use Rattle.terms.proofs.Lists.{all_of}
-use Rattle.layout.specs.Slots.{count_in, bits_in, version_in}
-use Rattle.layout.specs.Stores.{slot_in}
-use Rattle.store.proofs.Slots.{slot_within}
-use Rattle.order_look.proofs.Keys.{all_same}
-use Rattle.order_kids.proofs.Entries.{stands_before}
+use Rattle.layout.specs.Stores.{store_of}
+use Rattle.check_pass.specs.Passes.{Passed}
+use Rattle.ordered.specs.Ordered.{key_no}
+use Rattle.order_kids.proofs.Entries.{told_before}
 use Rattle.order_kids.proofs.node_before.Goals as goal
 
-pub count_at-requires : goal.count_at-requires
-count_at-requires c = slot_within c.requires.1.0
-
-pub version_at-version-requires : goal.version_at-version-requires
-version_at-version-requires c = slot_within c.requires.1.0
-
-pub slot_of-requires : goal.slot_of-requires
-slot_of-requires c = slot_within c.requires.1.0
-
-pub compared-stands-requires : goal.compared-stands-requires
-compared-stands-requires c = (c.requires.0.0, c.bits_of-bits.ensures.1)
-
-pub returns-in-Before : goal.returns-in-Before
-returns-in-Before c =
+pub returns : goal.returns
+returns c =
     let a = c.args in
-    let x = slot_in counted a.j a.store.now in
-    stands_before (all_of Byte a.store.now 0 (λ i _. omega (arith, c.shared_slice_known-1.given i))) c.requires.0 c.requires.1
-    (all_same _ (count_in x) _ (bits_in x) _ (version_in x) (c.wide-count.ensures.0 ∙ c.count_at.ensures)
-    (c.bits_of-bits.ensures.0 ∙ ap bits_in c.slot_of.ensures.0) c.version_at-version.ensures)
-    _ c.compared-stands.ensures c.in-Before.is
-
-pub returns-in-After : goal.returns-in-After
-returns-in-After c = tt
-
-pub returns-in-Same : goal.returns-in-Same
-returns-in-Same c = tt
+    subst (λ b. Passed b (before (key_no (store_of a.store.now).slots a.i) (key_no (store_of a.store.now).slots a.j) ≡ true)) (sym c.is_lt.ensures)
+    (told_before (all_of Byte a.store.now 0 (λ i _. omega (arith, c.type_inv.store i))) c.requires.0 c.requires.1 refl _ c.node_stands.ensures)

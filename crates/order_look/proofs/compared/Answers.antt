@@ -1,59 +1,48 @@
 -- `order_look::compared` meets its contract: bit count, bits and version decide, each where those before it do not. Assumes nothing.
-use native.Mathlib.Omega.{arith}
 use mathlib.Core.Path.{◌≡◌, ap, sym, ◌∙◌, subst}
 use lib.ListN.{length}
+use Rattle.std.specs.Ordering.{nat_cmp}
+use Rattle.std.proofs.lemmas.Cmp.{ranked}
 use Rattle.terms.specs.declared.Form.TheVariants.{Counted as counted}
 use Rattle.layout.specs.Slots.{count_in, bits_in, version_in}
 use Rattle.layout.specs.Stores.{slot_in}
 use Rattle.store.proofs.Slots.{slot_within}
 use Rattle.order_look.specs.Looks.{BytesStand}
-use Rattle.order_look.proofs.Keys.{by_count_lem, by_bits, by_versions}
+use Rattle.order_look.proofs.Keys.{counts_decide, counts_same, bits_decide, bits_same, by_versions}
 use Rattle.order_look.proofs.compared.Goals as goal
 
 pub count_at-requires : goal.count_at-requires
 count_at-requires c = slot_within c.requires.0
 
-pub returns-then-its-count : goal.returns-then-its-count
-returns-then-its-count c =
+pub returns-then-is_ne : goal.returns-then-is_ne
+returns-then-is_ne c =
     let a = c.args in
     let x = slot_in counted a.i a.store.now in
-    by_count_lem (count_in x) a.count (bits_in x) a.bits.now (version_in x) a.version (omega (arith, c.count_at.ensures, c.wide-its.ensures.0, c.if-its-count.true))
-
-pub returns-then-count-its : goal.returns-then-count-its
-returns-then-count-its c =
-    let a = c.args in
-    let x = slot_in counted a.i a.store.now in
-    by_count_lem a.count (count_in x) a.bits.now (bits_in x) a.version (version_in x) (omega (arith, c.count_at.ensures, c.wide-its.ensures.0, c.if-count-its.true))
+    counts_decide (count_in x) a.count (bits_in x) a.bits.now (version_in x) a.version _
+    (ranked _ _ _ (c.cmp-by_count.ensures ∙ ap (λ n. nat_cmp n a.count) (c.wide-its.ensures.0 ∙ c.count_at.ensures))) (sym c.is_ne.ensures ∙ c.if-is_ne.true)
 
 pub slot_of-requires : goal.slot_of-requires
 slot_of-requires c = slot_within c.requires.0
 
-pub returns-in-Before : goal.returns-in-Before
-returns-in-Before c =
+pub returns-then-is_ne-2 : goal.returns-then-is_ne-2
+returns-then-is_ne-2 c =
     let a = c.args in
     let x = slot_in counted a.i a.store.now in
-    let own = c.bits_of-own.ensures.0 ∙ ap bits_in c.slot_of.ensures.0 in
-    let told = subst (λ y. BytesStand c.bits_stand-stand.result y a.bits.now) own c.bits_stand-stand.ensures in
-    let count : count_in x ≡ a.count = omega (arith, c.count_at.ensures, c.wide-its.ensures.0, c.if-its-count.false, c.if-count-its.false) in
-    by_bits (count_in x) a.count (bits_in x) a.bits.now (version_in x) a.version count
-    (ap length (sym own) ∙ c.bits_of-own.ensures.1 ∙ sym c.requires.1) (subst (λ l. BytesStand l (bits_in x) a.bits.now) c.in-Before.is told)
+    let own = c.bits_of.ensures.0 ∙ ap bits_in c.slot_of.ensures.0 in
+    bits_decide (count_in x) a.count (bits_in x) a.bits.now (version_in x) a.version
+    (counts_same (count_in x) a.count (bits_in x) a.bits.now (version_in x) a.version _
+    (ranked _ _ _ (c.cmp-by_count.ensures ∙ ap (λ n. nat_cmp n a.count) (c.wide-its.ensures.0 ∙ c.count_at.ensures))) (sym c.is_ne.ensures ∙ c.if-is_ne.false))
+    (ap length (sym own) ∙ c.bits_of.ensures.1 ∙ sym c.requires.1) _ (subst (λ y. BytesStand c.bits_stand-by_bits.result y a.bits.now) own c.bits_stand-by_bits.ensures)
+    (sym c.is_ne-2.ensures ∙ c.if-is_ne-2.true)
 
-pub returns-in-After : goal.returns-in-After
-returns-in-After c =
+pub returns : goal.returns
+returns c =
     let a = c.args in
     let x = slot_in counted a.i a.store.now in
-    let own = c.bits_of-own.ensures.0 ∙ ap bits_in c.slot_of.ensures.0 in
-    let told = subst (λ y. BytesStand c.bits_stand-stand.result y a.bits.now) own c.bits_stand-stand.ensures in
-    let count : a.count ≡ count_in x = omega (arith, c.count_at.ensures, c.wide-its.ensures.0, c.if-its-count.false, c.if-count-its.false) in
-    by_bits a.count (count_in x) a.bits.now (bits_in x) a.version (version_in x) count
-    (sym (ap length (sym own) ∙ c.bits_of-own.ensures.1 ∙ sym c.requires.1)) (subst (λ l. BytesStand l (bits_in x) a.bits.now) c.in-After.is told)
-
-pub returns-in-Same : goal.returns-in-Same
-returns-in-Same c =
-    let a = c.args in
-    let x = slot_in counted a.i a.store.now in
-    let own = c.bits_of-own.ensures.0 ∙ ap bits_in c.slot_of.ensures.0 in
-    let told = subst (λ y. BytesStand c.bits_stand-stand.result y a.bits.now) own c.bits_stand-stand.ensures in
-    let count : count_in x ≡ a.count = omega (arith, c.count_at.ensures, c.wide-its.ensures.0, c.if-its-count.false, c.if-count-its.false) in
-    by_versions (count_in x) a.count (bits_in x) a.bits.now (version_in x) a.version count (subst (λ l. BytesStand l (bits_in x) a.bits.now) c.in-Same.is told)
+    let own = c.bits_of.ensures.0 ∙ ap bits_in c.slot_of.ensures.0 in
+    by_versions (count_in x) a.count (bits_in x) a.bits.now (version_in x) a.version
+    (counts_same (count_in x) a.count (bits_in x) a.bits.now (version_in x) a.version _
+    (ranked _ _ _ (c.cmp-by_count.ensures ∙ ap (λ n. nat_cmp n a.count) (c.wide-its.ensures.0 ∙ c.count_at.ensures))) (sym c.is_ne.ensures ∙ c.if-is_ne.false))
+    (bits_same (count_in x) a.count (bits_in x) a.bits.now (version_in x) a.version _
+    (subst (λ y. BytesStand c.bits_stand-by_bits.result y a.bits.now) own c.bits_stand-by_bits.ensures) (sym c.is_ne-2.ensures ∙ c.if-is_ne-2.false))
     c.version_stands.result c.version_stands.ensures

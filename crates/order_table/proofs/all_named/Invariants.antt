@@ -1,12 +1,9 @@
 -- `order_table::all_named` meets its contract: the slots before i are named. Assumes nothing.
-use Prim.Native.Nat.{◌-◌}
+use lib.ListN.{length}
 use Rattle.terms.specs.declared.Form.TheVariants.{Counted as counted}
 use Rattle.check_pass.proofs.Walks.{Walk}
 use Rattle.order_table.specs.Tables.{NamedNo}
 use Rattle.order_table.proofs.all_named.Given as goal
 
 abbrev pub invariant-loop-i : goal.invariant-loop-i
-invariant-loop-i l = Walk counted l.store (NamedNo l.store l.table l.many) l.n l.i
-
-abbrev pub decreases-loop-i : goal.decreases-loop-i
-decreases-loop-i l = l.n - l.i
+invariant-loop-i l = Walk counted l.store (NamedNo l.store l.order (length l.order)) l.n l.i

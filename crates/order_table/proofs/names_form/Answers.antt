@@ -10,9 +10,6 @@ use Rattle.check_pass.proofs.Records.{room_has}
 use Rattle.order_table.proofs.Passed.{formed}
 use Rattle.order_table.proofs.names_form.Goals as goal
 
-pub returns-then-n-i : goal.returns-then-n-i
-returns-then-n-i c = tt
-
 pub slot_of-requires : goal.slot_of-requires
 slot_of-requires c = slot_within (room_has c.requires (omega (arith, c.if-n-i.false)))
 

@@ -1,16 +1,10 @@
--- `palette_c::palette_by` meets its contract: the case of the answer decides the number, the room and the four bytes. Assumes nothing.
-use Rattle.palette_c.proofs.Exported.{palette_refused, palette_given}
-use borrow.Author.Rules.{rules}
+-- `palette_c::palette_by` meets its contract: the length that is told is that of all proofs together. Assumes nothing.
+use Rattle.palette_rules.specs.Palette.{length_together}
+use Rattle.meaning.proofs.Told.{exported_as}
+use Rattle.prove.specs.Parts.{proved_says}
+use Rattle.prove_told.proofs.Lengths.{told_sized}
 use Rattle.palette_c.proofs.palette_by.Goals as goal
 
-pub returns-in-Refused : goal.returns-in-Refused
-returns-in-Refused c =
-    let a = c.args in
-    let d = c.palette-proved.ensures in
-    palette_refused d a.length.now c.in-Refused.is
-
-pub returns-in-Length : goal.returns-in-Length
-returns-in-Length c =
-    let a = c.args in
-    let d = c.palette-proved.ensures in
-    palette_given d a.length.now c.in-Length.is (search rules) c.put_u32.ensures
+pub returns : goal.returns
+unfolding proved_says
+returns c = let d = c.palette-proved.ensures in record { exported = told_sized length_together _ (exported_as d.answer c.told.ensures); proofs = d.bytes }

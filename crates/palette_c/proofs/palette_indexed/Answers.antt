@@ -10,13 +10,13 @@ use Rattle.palette_c.proofs.palette_indexed.Goals as goal
 pub returns-then-not-whole_keys : goal.returns-then-not-whole_keys
 returns-then-not-whole_keys c =
     let a = c.args in
-    palette_told (palette_refusal 12 a.room.now a.length.now (list_torn a.store.now (some a.index.now) a.version a.keys.now (length a.room.now) (sym c.whole_keys.ensures ∙ c.if-not-whole_keys.true)))
+    rw (c.from.ensures, c.number.ensures) (palette_told (palette_refusal 12 a.room.now a.length.now (list_torn a.store.now (some a.index.now) a.version a.keys.now (length a.room.now) (sym c.whole_keys.ensures ∙ c.if-not-whole_keys.true))))
 
 pub returns-then-not-as_many : goal.returns-then-not-as_many
 returns-then-not-as_many c =
     let a = c.args in
-    palette_told (palette_refusal 1 a.room.now a.length.now
-    (palette_not_as_many a.store.now a.index.now a.version a.keys.now (length a.room.now) (sym c.whole_keys.ensures ∙ c.if-not-whole_keys.false) (sym c.as_many.ensures ∙ c.if-not-as_many.true)))
+    rw (c.from-then-not-as_many.ensures, c.number-then-not-as_many.ensures) (palette_told (palette_refusal 1 a.room.now a.length.now
+    (palette_not_as_many a.store.now a.index.now a.version a.keys.now (length a.room.now) (sym c.whole_keys.ensures ∙ c.if-not-whole_keys.false) (sym c.as_many.ensures ∙ c.if-not-as_many.true))))
 
 pub returns : goal.returns
 returns c =

@@ -1,29 +1,16 @@
 -- `palette_near::follow_all` meets its contract: each guess that is kept leads. Assumes nothing.
-use Prim.Native.Nat.{◌-◌}
-use native.Mathlib.Omega.{arith}
-use lib.ListN.{length-take, length-drop}
+use mathlib.Core.Path.{◌∙◌}
 use Rattle.palette_near.proofs.follow_all.Goals as goal
 
-pub loop-at-init : goal.loop-at-init
-loop-at-init c = (c.requires.2, omega arith)
-
-pub overflow_add-at : goal.overflow_add-at
-overflow_add-at c = record { fits = omega (arith, c.loop-at.invariant.1, c.requires.1) }
-
-pub overflow_add-end : goal.overflow_add-end
-overflow_add-end c = record { fits = omega (arith, c.loop-at.invariant.1, c.requires.1) }
-
-pub slice_bounds-follow-end : goal.slice_bounds-follow-end
-slice_bounds-follow-end c = omega (arith, c.loop-at-test.true)
+pub loop-key-init : goal.loop-key-init
+loop-key-init c = (c.requires.2, rw c.into_iter-key-iterator.ensures.into_iter_gives c.chunks_exact-key-items.ensures.size)
 
 pub follow-requires : goal.follow-requires
-follow-requires c = (c.requires.0, c.slot_count-n.ensures, simp (length-take, length-drop) (omega (arith, c.loop-at-test.true)), c.loop-at.invariant.0)
+follow-requires c =
+    (c.requires.0, c.slot_count-n.ensures, c.in-Some.ensures.steps.1.1 ∙ c.loop-key.invariant.1, c.loop-key.invariant.0)
 
-pub loop-at-smaller : goal.loop-at-smaller
-loop-at-smaller c = omega (arith, c.loop-at-test.true)
-
-pub loop-at-preserved : goal.loop-at-preserved
-loop-at-preserved c = (c.follow.ensures, c.loop-at-test.true)
+pub loop-key-preserved : goal.loop-key-preserved
+loop-key-preserved c = (c.follow.ensures, c.next.ensures.steps.0 ∙ c.loop-key.invariant.1)
 
 pub returns : goal.returns
-returns c = c.loop-at.invariant.0
+returns c = c.loop-key.invariant.0

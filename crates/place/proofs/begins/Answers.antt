@@ -1,45 +1,54 @@
--- `place::begins` meets its contract: the first i bytes agree, so the rest of the place against the rest of the key decides.
--- The measure is the number of whole bytes left. Assumes nothing.
-use Prim.Native.Nat.{◌-◌, ◌/◌}
+-- `place::begins` meets its contract: the whole bytes agree, and then the bits in the last byte decide. Assumes nothing.
+use Prim.Native.Nat.{ℕ, ◌<◌, ◌/◌}
 use native.Mathlib.Omega.{arith}
-use native.Mathlib.Nat.{sub-zero}
-use mathlib.Core.Path.{◌≡◌, refl, ap, sym, ◌∙◌}
-use Rattle.terms.specs.Bits.{begins}
-use Rattle.place.specs.Place.{place_of}
-use Rattle.place.proofs.Bits.{rest_begins, begins_next, begins_off, begins_over, begins_all}
+use native.Mathlib.Nat.{sub-zero, zero-add}
+use mathlib.Core.Path.{◌≡◌, refl, sym, ◌∙◌}
+use mathlib.Core.Bool.{Bool, true, false, not, ◌&&◌}
+use lib.Dec.{eqb}
+use lib.ListN.{length, get_or, take}
+use Rattle.std.specs.Cmp.Lexicographic.{pointwise}
+use Rattle.terms.specs.Bits.{Bytes, begins}
+use Rattle.place.specs.declared.Place as declared
+use Rattle.place.specs.Place.{place_of, Proper}
+use Rattle.place.proofs.Bits.{rest_begins, begins_front, begins_over, begins_all}
 use Rattle.place.proofs.Places.{proper_whole, proper_bytes}
 use Rattle.place.proofs.begins.Goals as goal
 
-pub loop-i-init : goal.loop-i-init
-unfolding begins place_of
-loop-i-init c = (omega arith, rw sub-zero)
+-- what `!=` says of a test of equality
+equal : {r : Bool} (t : Bool) → r ≡ not t → r ≡ false → t ≡ true
+equal true e f = refl
+equal false e f = cc
 
-pub bounds-p-i : goal.bounds-p-i
-bounds-p-i c = let h = c.requires.1.short in omega arith
+unequal : {r : Bool} (t : Bool) → r ≡ not t → r ≡ true → t ≡ false
+unequal true e f = cc
+unequal false e f = refl
 
-pub returns-then-key-i : goal.returns-then-key-i
-returns-then-key-i c =
+module _ (k : Bytes) (p : declared.Place) (l : length k ≡ 32) (w : Proper p) (b : (j : ℕ) → get_or k j 0 < 256) where
+  parts : begins (place_of p) k ≡ pointwise eqb (take (p.count / 8) k) (take (p.count / 8) p.bits) && rest_begins p.bits k p.count (p.count / 8)
+  unfolding begins place_of
+  parts =
+      let h = w.short in
+      let front = begins_front p.bits k p.count (p.count / 8) 0 (omega arith) (omega (arith, proper_whole p w)) (omega arith) (proper_bytes p w) b in
+      rw (sub-zero, zero-add (p.count / 8)) at front
+
+pub returns-then-ne : goal.returns-then-ne
+returns-then-ne c =
+    let k = c.args.key.now in
     let p = c.args.p in
-    let w = c.requires.1 in
-    sym (c.loop-i.invariant.1 ∙ begins_off p.bits c.args.key.now p.count c.loop-i.i (omega (arith, proper_whole p w)) (omega arith) (proper_bytes p w) (omega (arith, c.shared_slice_known-1.given c.loop-i.i)) c.loop-i-test.true c.if-key-i.true)
-
-pub loop-i-preserved : goal.loop-i-preserved
-loop-i-preserved c =
-    let p = c.args.p in
-    let w = c.requires.1 in
-    (omega arith, c.loop-i.invariant.1 ∙ begins_next p.bits c.args.key.now p.count c.loop-i.i (omega (arith, proper_whole p w)) (omega arith) (proper_bytes p w) (omega (arith, c.shared_slice_known-1.given c.loop-i.i)) c.loop-i-test.true c.if-key-i.false)
+    sym (parts k p c.requires.0 c.requires.1 (λ j. omega (arith, c.type_inv.key j)) ∙ rw (unequal _ c.ne.ensures c.if-ne.true))
 
 pub returns-then-over-eq0 : goal.returns-then-over-eq0
 returns-then-over-eq0 c =
+    let k = c.args.key.now in
     let p = c.args.p in
-    sym (c.loop-i.invariant.1 ∙ begins_all p.bits c.args.key.now p.count c.loop-i.i (omega arith) c.if-over-eq0.true)
-
-pub bounds-p-whole : goal.bounds-p-whole
-bounds-p-whole c = let h = c.requires.1.short in omega arith
+    sym (parts k p c.requires.0 c.requires.1 (λ j. omega (arith, c.type_inv.key j)) ∙ rw (equal _ c.ne.ensures c.if-ne.false) (begins_all p.bits k p.count (p.count / 8) refl c.if-over-eq0.true))
 
 pub returns : goal.returns
 returns c =
+    let k = c.args.key.now in
     let p = c.args.p in
     let w = c.requires.1 in
-    let e : c.loop-i.i ≡ p.count / 8 = omega arith in
-    sym (c.loop-i.invariant.1 ∙ ap (rest_begins p.bits c.args.key.now p.count) e ∙ begins_over p.bits c.args.key.now p.count (p.count / 8) (omega (arith, proper_whole p w)) (omega arith) (proper_bytes p w) (omega (arith, c.shared_slice_known-2-1.given (p.count / 8))) refl)
+    let h = w.short in
+    let byte : get_or k (p.count / 8) 0 < 256 = omega (arith, c.type_inv.key (p.count / 8)) in
+    sym (parts k p c.requires.0 w (λ j. omega (arith, c.type_inv.key j))
+    ∙ rw (equal _ c.ne.ensures c.if-ne.false) (begins_over p.bits k p.count (p.count / 8) (omega (arith, proper_whole p w)) (omega arith) (proper_bytes p w) byte refl))

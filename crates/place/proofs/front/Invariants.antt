@@ -1,12 +1,8 @@
 -- `place::front` meets its contract: at bit i the place is that of the first i bits. Assumes nothing.
-use Prim.Native.Nat.{◌-◌, ◌≤◌}
 use lib.ListN.{take}
 use Rattle.terms.specs.Bits.{bits}
 use Rattle.place.specs.Place.{Stands}
 use Rattle.place.proofs.front.Given as goal
 
 abbrev pub invariant-loop-i : goal.invariant-loop-i
-invariant-loop-i l = (l.i ≤ l.count) × Stands (take l.i (bits l.key)) l.i l.place
-
-abbrev pub decreases-loop-i : goal.decreases-loop-i
-decreases-loop-i l = l.count - l.i
+invariant-loop-i l = Stands (take l.i (bits l.key)) l.i l.place

@@ -1,16 +1,10 @@
--- `pocket_prove::grants_pocket_prove` meets its contract: the case of the answer decides the number, the room and the four bytes. Assumes nothing.
-use Rattle.pocket_prove.proofs.Exported.{prove_refused, prove_given}
-use borrow.Author.Rules.{rules}
+-- `pocket_prove::grants_pocket_prove` meets its contract: the length that is told is the proof's. Assumes nothing.
+use Rattle.meaning.specs.Proving.{proof_length}
+use Rattle.meaning.proofs.Told.{exported_as}
+use Rattle.prove.specs.Parts.{proved_says}
+use Rattle.prove_told.proofs.Lengths.{told_sized}
 use Rattle.pocket_prove.proofs.grants_pocket_prove.Goals as goal
 
-pub returns-in-Refused : goal.returns-in-Refused
-returns-in-Refused c =
-    let a = c.args in
-    let d = c.pocket_prove-proved.ensures in
-    prove_refused d a.length.now c.in-Refused.is
-
-pub returns-in-Length : goal.returns-in-Length
-returns-in-Length c =
-    let a = c.args in
-    let d = c.pocket_prove-proved.ensures in
-    prove_given d a.length.now c.in-Length.is (search rules) c.put_u32.ensures
+pub returns : goal.returns
+unfolding proved_says
+returns c = let d = c.pocket_prove-proved.ensures in record { exported = told_sized proof_length _ (exported_as d.answer c.told.ensures); proof = d.bytes }

@@ -11,20 +11,20 @@ pub returns-then-root-ne32 : goal.returns-then-root-ne32
 returns-then-root-ne32 c =
     let given-bytes : All Byte c.args.proof.now = all_of Byte c.args.proof.now 0 (λ i _. omega (arith, c.shared_slice_known-3-1.given i)) in
     let a = c.args in
-    pocket_refused given-bytes a.found.now (root_off a.root.now a.key.now a.proof.now c.if-root-ne32.true)
+    rw c.number.ensures (pocket_refused given-bytes a.found.now (root_off a.root.now a.key.now a.proof.now c.if-root-ne32.true))
 
 pub returns-then-key-ne32 : goal.returns-then-key-ne32
 returns-then-key-ne32 c =
     let given-bytes : All Byte c.args.proof.now = all_of Byte c.args.proof.now 0 (λ i _. omega (arith, c.shared_slice_known-3-1.given i)) in
     let a = c.args in
-    pocket_refused given-bytes a.found.now (key_off a.root.now a.key.now a.proof.now c.if-root-ne32.false c.if-key-ne32.true)
+    rw c.number-then-key-ne32.ensures (pocket_refused given-bytes a.found.now (key_off a.root.now a.key.now a.proof.now c.if-root-ne32.false c.if-key-ne32.true))
 
 pub returns-then-is_outside : goal.returns-then-is_outside
 returns-then-is_outside c =
     let given-bytes : All Byte c.args.proof.now = all_of Byte c.args.proof.now 0 (λ i _. omega (arith, c.shared_slice_known-3-1.given i)) in
     let a = c.args in
-    pocket_refused given-bytes a.found.now
-    (is_outside a.root.now a.key.now a.proof.now c.if-root-ne32.false c.if-key-ne32.false (sym c.is_outside.ensures ∙ c.if-is_outside.true))
+    rw c.number-then-is_outside.ensures (pocket_refused given-bytes a.found.now
+    (is_outside a.root.now a.key.now a.proof.now c.if-root-ne32.false c.if-key-ne32.false (sym c.is_outside.ensures ∙ c.if-is_outside.true)))
 
 pub returns : goal.returns
 returns c =

@@ -1,16 +1,10 @@
--- `prove_c::prove_by` meets its contract: the case of the answer decides the number, the room and the four bytes. Assumes nothing.
-use Rattle.prove_c.proofs.Exported.{prove_refused, prove_given}
-use borrow.Author.Rules.{rules}
+-- `prove_c::prove_by` meets its contract: the length that is told is the proof's. Assumes nothing.
+use Rattle.meaning.specs.Proving.{proof_length}
+use Rattle.meaning.proofs.Told.{exported_as}
+use Rattle.prove.specs.Parts.{proved_says}
+use Rattle.prove_told.proofs.Lengths.{told_sized}
 use Rattle.prove_c.proofs.prove_by.Goals as goal
 
-pub returns-in-Refused : goal.returns-in-Refused
-returns-in-Refused c =
-    let a = c.args in
-    let d = c.prove-proved.ensures in
-    prove_refused d.answer d.bytes a.length.now c.in-Refused.is
-
-pub returns-in-Length : goal.returns-in-Length
-returns-in-Length c =
-    let a = c.args in
-    let d = c.prove-proved.ensures in
-    prove_given d.answer d.bytes a.length.now c.in-Length.is (search rules) c.put_u32.ensures
+pub returns : goal.returns
+unfolding proved_says
+returns c = let d = c.prove-proved.ensures in record { exported = told_sized proof_length _ (exported_as d.answer c.told.ensures); proof = d.bytes }

@@ -8,13 +8,13 @@ use Rattle.prove_c.proofs.prove_indexed.Goals as goal
 pub returns-then-key-ne32 : goal.returns-then-key-ne32
 returns-then-key-ne32 c =
     let a = c.args in
-    proof_told (proof_refusal 12 a.room.now a.length.now (prove_wrong_key a.store.now a.index.now a.version a.key.now (length a.room.now) c.if-key-ne32.true))
+    rw (c.from.ensures, c.number.ensures) (proof_told (proof_refusal 12 a.room.now a.length.now (prove_wrong_key a.store.now a.index.now a.version a.key.now (length a.room.now) c.if-key-ne32.true)))
 
 pub returns-then-not-as_many : goal.returns-then-not-as_many
 returns-then-not-as_many c =
     let a = c.args in
-    proof_told (proof_refusal 1 a.room.now a.length.now
-    (prove_not_as_many a.store.now a.index.now a.version a.key.now (length a.room.now) c.if-key-ne32.false (sym c.as_many.ensures ∙ c.if-not-as_many.true)))
+    rw (c.from-then-not-as_many.ensures, c.number-then-not-as_many.ensures) (proof_told (proof_refusal 1 a.room.now a.length.now
+    (prove_not_as_many a.store.now a.index.now a.version a.key.now (length a.room.now) c.if-key-ne32.false (sym c.as_many.ensures ∙ c.if-not-as_many.true))))
 
 pub returns : goal.returns
 returns c =

@@ -5,8 +5,8 @@ use Rattle.prove_plan.proofs.plan_of.Goals as goal
 pub returns-in-Stopped : goal.returns-in-Stopped
 returns-in-Stopped c =
     let a = c.args in
-    ends_stopped a.store.now a.index.now a.version a.key.now c.walk-walked.result c.walk-walked.ensures _ c.in-Stopped.is
-    c.refusal-number.ensures c.at_end.ensures
+    ends_stopped a.store.now a.index.now a.version a.key.now c.walk-walked.result c.walk-walked.ensures _ _ c.in-Stopped.is
+    c.refusal-refused.ensures c.at_end.ensures
 
 pub returns-in-Leaf : goal.returns-in-Leaf
 returns-in-Leaf c =

@@ -6,26 +6,26 @@ use Rattle.prove_trails.proofs.Walking.{walking_start, walking_next, walk_ended}
 use borrow.Enum.Refused.{opened}
 use Rattle.prove_trails.proofs.walk.Goals as goal
 
-pub loop-i-init : goal.loop-i-init
-loop-i-init c = walking_start c.args.store.now c.args.index.now c.args.version c.args.key.now _ _ c.start-trail.ensures c.top-top.ensures.proper
-
-pub returns-in_default : goal.returns-in_default
-returns-in_default c = walk_ended _ _ _ c.loop-i.invariant (opened c.in_default.in_default-own.keys2)
+pub loop-trail-init : goal.loop-trail-init
+loop-trail-init c = walking_start c.args.store.now c.args.index.now c.args.version c.args.key.now _ _ c.start-trail.ensures c.top-top.ensures.proper
 
 pub key_bit-turn-requires : goal.key_bit-turn-requires
-key_bit-turn-requires c = let a = at_inner c.loop-i.invariant.trail c.in-Inner.is in omega (arith, a.short, c.requires.1)
+key_bit-turn-requires c = let a = at_inner c.loop-trail.invariant.trail c.in-Inner.is in omega (arith, a.short, c.requires.1)
 
 pub deepest-left-requires : goal.deepest-left-requires
-deepest-left-requires c = let a = at_inner c.loop-i.invariant.trail c.in-Inner.is in (a.size, a.inside)
+deepest-left-requires c = let a = at_inner c.loop-trail.invariant.trail c.in-Inner.is in (a.size, a.inside)
 
 pub deepest-right-requires : goal.deepest-right-requires
-deepest-right-requires c = let a = at_inner c.loop-i.invariant.trail c.in-Inner.is in (a.size, a.inside)
+deepest-right-requires c = let a = at_inner c.loop-trail.invariant.trail c.in-Inner.is in (a.size, a.inside)
 
 pub further-trail-requires : goal.further-trail-requires
-further-trail-requires c = (at_inner c.loop-i.invariant.trail c.in-Inner.is, c.requires.2)
+further-trail-requires c = (at_inner c.loop-trail.invariant.trail c.in-Inner.is, c.requires.2)
 
-pub loop-i-smaller : goal.loop-i-smaller
-loop-i-smaller c = let a = at_inner c.loop-i.invariant.trail c.in-Inner.is in omega (arith, a.short, c.further-trail.ensures.place.count)
+pub loop-trail-smaller : goal.loop-trail-smaller
+loop-trail-smaller c = let a = at_inner c.loop-trail.invariant.trail c.in-Inner.is in omega (arith, a.short, c.further-trail.ensures.place.count)
 
-pub loop-i-preserved : goal.loop-i-preserved
-loop-i-preserved c = walking_next _ _ _ _ c.loop-i.invariant c.in-Inner.is c.key_bit-turn.ensures c.deepest-left.ensures c.deepest-right.ensures c.further-trail.ensures
+pub loop-trail-preserved : goal.loop-trail-preserved
+loop-trail-preserved c = walking_next _ _ _ _ c.loop-trail.invariant c.in-Inner.is c.key_bit-turn.ensures c.deepest-left.ensures c.deepest-right.ensures c.further-trail.ensures
+
+pub returns : goal.returns
+returns c = walk_ended _ _ _ c.loop-trail.invariant (opened c.in_default.in_default-own.keys2)

@@ -3,8 +3,8 @@ use Prim.Native.Nat.{◌-◌}
 use Rattle.prove_trails.specs.Trails.{Walking}
 use Rattle.prove_trails.proofs.walk.Given as goal
 
-abbrev pub invariant-loop-i : goal.invariant-loop-i
-invariant-loop-i l = Walking l.store l.index l.version l.key l.trail l.left l.right
+abbrev pub invariant-loop-trail : goal.invariant-loop-trail
+invariant-loop-trail l = Walking l.store l.index l.version l.key l.trail l.left l.right
 
-abbrev pub decreases-loop-i : goal.decreases-loop-i
-decreases-loop-i l = 256 - l.trail.place.count
+abbrev pub decreases-loop-trail : goal.decreases-loop-trail
+decreases-loop-trail l = 256 - l.trail.place.count

@@ -9,14 +9,14 @@ use Rattle.read_c.proofs.get_indexed.Goals as goal
 pub returns-then-key-ne32 : goal.returns-then-key-ne32
 returns-then-key-ne32 c =
     let a = c.args in
-    record { exported = exported_refusal (key_not_32 a.store.now (some a.index.now) a.version a.key.now c.if-key-ne32.true) }
+    record { exported = rw (c.from.ensures, c.number.ensures) (exported_refusal (key_not_32 a.store.now (some a.index.now) a.version a.key.now c.if-key-ne32.true)) }
 
 pub returns-then-not-as_many : goal.returns-then-not-as_many
 returns-then-not-as_many c =
     let a = c.args in
     record {
-      exported = exported_refusal
-          (key_not_as_many a.store.now a.index.now a.version a.key.now c.if-key-ne32.false (sym c.as_many.ensures ∙ c.if-not-as_many.true));
+      exported = rw (c.from-then-not-as_many.ensures, c.number-then-not-as_many.ensures) (exported_refusal
+          (key_not_as_many a.store.now a.index.now a.version a.key.now c.if-key-ne32.false (sym c.as_many.ensures ∙ c.if-not-as_many.true)));
     }
 
 pub returns : goal.returns

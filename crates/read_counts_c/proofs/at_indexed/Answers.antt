@@ -8,8 +8,8 @@ pub returns-then-not-as_many : goal.returns-then-not-as_many
 returns-then-not-as_many c =
     let a = c.args in
     record {
-      exported = exported_refusal
-          (position_not_as_many a.store.now a.index.now a.version a.position (sym c.as_many.ensures ∙ c.if-not-as_many.true));
+      exported = rw (c.from.ensures, c.number.ensures) (exported_refusal
+          (position_not_as_many a.store.now a.index.now a.version a.position (sym c.as_many.ensures ∙ c.if-not-as_many.true)));
     }
 
 pub returns : goal.returns

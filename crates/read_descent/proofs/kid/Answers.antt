@@ -38,13 +38,13 @@ returns-in-Nothing c =
     let s = c.args.store.now in
     let p = c.args.place in
     let k = kid_in c.args.i s c.args.right in
-    step_lost s c.args.index.now p k (λ z. c.if-version-eq0.false (c.child_version-version.ensures ∙ z))
-    (ap (λ v. node_by c.args.index.now (store_of s) v (place_of p)) (sym c.child_version-version.ensures) ∙ none_sighted s (node_by c.args.index.now (store_of s) c.child_version-version.result (place_of p)) c.look_by-sight.ensures c.in-Nothing.is) c.refusal-lost.ensures
+    step_lost s c.args.index.now p k (λ z. c.if-version-eq0.false (c.child_version-version.ensures ∙ z)) _
+    (ap (λ v. node_by c.args.index.now (store_of s) v (place_of p)) (sym c.child_version-version.ensures) ∙ none_sighted s (node_by c.args.index.now (store_of s) c.child_version-version.result (place_of p)) c.look_by-sight.ensures c.in-Nothing.is) c.refusal.ensures
 
 pub returns-in-Spoilt : goal.returns-in-Spoilt
 returns-in-Spoilt c =
     let s = c.args.store.now in
     let p = c.args.place in
     let k = kid_in c.args.i s c.args.right in
-    step_spoilt s c.args.index.now p k (λ z. c.if-version-eq0.false (c.child_version-version.ensures ∙ z)) _
-    (ap (λ v. node_by c.args.index.now (store_of s) v (place_of p)) (sym c.child_version-version.ensures) ∙ spoilt_sighted s (node_by c.args.index.now (store_of s) c.child_version-version.result (place_of p)) c.look_by-sight.ensures c.in-Spoilt.is) c.refusal-number.ensures
+    step_spoilt s c.args.index.now p k (λ z. c.if-version-eq0.false (c.child_version-version.ensures ∙ z)) _ _
+    (ap (λ v. node_by c.args.index.now (store_of s) v (place_of p)) (sym c.child_version-version.ensures) ∙ spoilt_sighted s (node_by c.args.index.now (store_of s) c.child_version-version.result (place_of p)) c.look_by-sight.ensures c.in-Spoilt.is) c.refusal-in-Spoilt.ensures

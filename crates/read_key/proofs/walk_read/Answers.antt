@@ -12,7 +12,7 @@ pub returns-in-Gap : goal.returns-in-Gap
 returns-in-Gap c = ends_at_gap c.loop-seen.invariant c.in-Gap.is
 
 pub returns-in-Stopped : goal.returns-in-Stopped
-returns-in-Stopped c = ends_stopped c.loop-seen.invariant _ c.in-Stopped.is c.refusal-number.ensures
+returns-in-Stopped c = ends_stopped c.loop-seen.invariant _ _ c.in-Stopped.is c.refusal.ensures
 
 pub leaf_read-requires : goal.leaf_read-requires
 leaf_read-requires c = let w = c.loop-seen.invariant in (w.size, leaf_inside w c.in-Leaf.is)

@@ -1,18 +1,20 @@
 -- `read_number::grants_count` meets its contract: what is tested first is refused first. Assumes nothing.
+use Rattle.std.proofs.lemmas.Result.{err_from_is_err_and}
 use Rattle.read_number.proofs.Answers.{size_kept, number_refused, number_is_read}
 use Rattle.read_number.proofs.grants_count.Goals as goal
 
-pub returns-in-Refused : goal.returns-in-Refused
-returns-in-Refused c =
+pub returns-in_err-open : goal.returns-in_err-open
+returns-in_err-open c =
     let a = c.args in
-    number_refused a.store.now a.version c.open-opened.ensures a.index.now c.in-Refused.is
+    let p = err_from_is_err_and c.from_residual.result c.from_residual.ensures.1 in
+    rw (p.1, p.2) (number_refused a.store.now a.version a.index.now _ c.in_err-open.ensures)
 
 pub root_number-requires : goal.root_number-requires
 root_number-requires c =
     let a = c.args in
-    size_kept a.store.now a.version c.open-opened.ensures c.in_default.is
+    size_kept a.store.now a.version c.in_ok-open.ensures
 
 pub returns : goal.returns
 returns c =
     let a = c.args in
-    number_is_read a.store.now a.version c.open-opened.ensures a.index.now c.root_number.result c.in_default.is c.root_number.ensures
+    number_is_read a.store.now a.version a.index.now c.root_number.result c.in_ok-open.ensures c.root_number.ensures

@@ -43,4 +43,4 @@ pub returns-in-Spoilt : goal.returns-in-Spoilt
 returns-in-Spoilt c =
     let s = c.args.store.now in
     let x = root_by c.args.index.now (store_of s) c.args.version in
-    at_spoilt s c.args.index.now x c.args.position _ (spoilt_sighted s x c.look_root_by-sight.ensures c.in-Spoilt.is) c.refusal-refused.ensures
+    at_spoilt s c.args.index.now x c.args.position _ _ (spoilt_sighted s x c.look_root_by-sight.ensures c.in-Spoilt.is) c.refusal.ensures

@@ -17,14 +17,14 @@ returns-then-target-source c = wrong_target c.args.oldest c.args.latest c.args.s
 pub returns-then-latest-oldest : goal.returns-then-latest-oldest
 returns-then-latest-oldest c = disordered c.args.oldest c.args.latest c.args.source.now c.args.target.now (sym c.size_right.ensures ∙ c.if-not-size_right.false) c.if-target-source.false c.if-latest-oldest.true
 
-pub guide-many-requires : goal.guide-many-requires
-guide-many-requires c = sym c.size_right.ensures ∙ c.if-not-size_right.false
+pub guide-order-requires : goal.guide-order-requires
+guide-order-requires c = sym c.size_right.ensures ∙ c.if-not-size_right.false
 
 pub step-tested-requires : goal.step-tested-requires
 step-tested-requires c =
     let s = c.args.source.now in
     let size = sym c.size_right.ensures ∙ c.if-not-size_right.false in
-    (size, c.guide-many.ensures, right_nothing s size (all_of Byte s 0 (λ i _. omega (arith, c.shared_slice_known-1.given i))))
+    (size, c.guide-order.ensures, right_nothing s size (all_of Byte s 0 (λ i _. omega (arith, c.shared_slice_known-1.given i))))
 
 pub returns-in_default : goal.returns-in_default
 returns-in_default c =
@@ -36,8 +36,8 @@ pub fill-first-requires : goal.fill-first-requires
 fill-first-requires c =
     let s = c.args.source.now in (
       fillable c.args.oldest c.args.latest s c.args.target.now (sym c.size_right.ensures ∙ c.if-not-size_right.false) c.if-target-source.false c.if-latest-oldest.false
-          (subst (StepSays s c.args.latest 0 0 0) c.in-Yes.is c.step-tested.ensures),
-      c.guide-many.ensures,
+          (subst (StepSays s c.args.latest 0 0 0) c.in-Some.is c.step-tested.ensures),
+      c.guide-order.ensures,
     )
 
 pub count-counts-requires : goal.count-counts-requires

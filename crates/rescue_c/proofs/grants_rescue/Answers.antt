@@ -2,8 +2,8 @@
 use Rattle.rescue_c.proofs.Exporting.{export_refused, export_kept}
 use Rattle.rescue_c.proofs.grants_rescue.Goals as goal
 
-pub returns-in-Refused : goal.returns-in-Refused
-returns-in-Refused c = export_refused _ _ c.rescue-rescued.ensures c.in-Refused.is
+pub returns-in-Err : goal.returns-in-Err
+returns-in-Err c = rw c.number.ensures (export_refused _ _ c.rescue-rescued.ensures c.in-Err.is)
 
-pub returns-in-Kept : goal.returns-in-Kept
-returns-in-Kept c = export_kept _ _ c.rescue-rescued.ensures c.in-Kept.is c.put_report.ensures
+pub returns-in-Ok : goal.returns-in-Ok
+returns-in-Ok c = export_kept _ _ c.rescue-rescued.ensures c.in-Ok.is c.put_report.ensures

@@ -3,7 +3,4 @@ use Rattle.rescue_count.proofs.Counting.{Counted}
 use Rattle.rescue_count.proofs.count.Given as goal
 
 abbrev pub invariant-loop-i : goal.invariant-loop-i
-invariant-loop-i l = Counted l.source l.target l.n l.c l.i
-
-abbrev pub decreases-loop-i : goal.decreases-loop-i
-decreases-loop-i l = l.i
+invariant-loop-i l = Counted l.source l.target l.initial.i l.c l.i

@@ -67,10 +67,10 @@ pub loop-top-smaller : goal.loop-top-smaller
 loop-top-smaller c =
     let s = c.args.source.now in
     root_falls s (all_of Byte s 0 (λ i _. omega (arith, c.shared_slice_known-1.given i))) c.args.oldest c.args.latest (omega arith) c.requires.0.size c.loop-top.invariant (c.later-first.ensures ∙ ap (λ n. max n c.loop-top.b) c.later.ensures)
-    c.if-first-oldest.false (subst (StepSays s _ _ _ _) c.in-Yes.is c.step-stepped.ensures) c.if-b-first.false
+    c.if-first-oldest.false (subst (StepSays s _ _ _ _) c.in-Some.is c.step-stepped.ensures) c.if-b-first.false
 
 pub loop-top-preserved : goal.loop-top-preserved
 loop-top-preserved c =
     let s = c.args.source.now in
     state_next s (all_of Byte s 0 (λ i _. omega (arith, c.shared_slice_known-1.given i))) c.args.oldest c.args.latest (omega arith) c.requires.0.size c.loop-top.invariant (c.later-first.ensures ∙ ap (λ n. max n c.loop-top.b) c.later.ensures)
-    c.if-first-oldest.false (subst (StepSays s _ _ _ _) c.in-Yes.is c.step-stepped.ensures) c.top-top.ensures c.enter-in-loop-top.ensures
+    c.if-first-oldest.false (subst (StepSays s _ _ _ _) c.in-Some.is c.step-stepped.ensures) c.top-top.ensures c.enter-in-loop-top.ensures

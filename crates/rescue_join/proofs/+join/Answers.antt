@@ -1,5 +1,4 @@
 -- `rescue_join::join` meets its contract: what is looked at here, then both sides. Assumes nothing.
-use Prim.Native.Nat.{◌-◌}
 use native.Mathlib.Omega.{arith}
 use mathlib.Core.Path.{subst}
 use Rattle.terms.specs.Bits.{left, right}
@@ -54,8 +53,8 @@ kid-b_right-requires t c = inside_of c.args.source.now c.requires.0 c.args.b (pl
 pub left-left-requires : goal.left-left-requires
 left-left-requires t c = (c.requires.1, c.if-place-ge256.false)
 
-pub join-on_left-requires : goal.join-on_left-requires
-join-on_left-requires t c =
+pub join-requires : goal.join-requires
+join-requires t c =
     let p = place_of c.args.place in (
       omega (arith, c.left-left.ensures.count, c.if-place-ge256.false),
       (
@@ -67,20 +66,21 @@ join-on_left-requires t c =
       ),
     )
 
-pub returns-in_default : goal.returns-in_default
-returns-in_default t c =
+pub returns-in_err-l : goal.returns-in_err-l
+returns-in_err-l t c =
     let p = place_of c.args.place in
     let s = c.args.source.now in
-    left_broken s c.args.next c.args.place c.args.a c.args.b c.if-a-b.false c.of_next.ensures c.if-not-of_next.false
+    rw c.from_residual.ensures
+    (left_broken s c.args.next c.args.place c.args.a c.args.b c.if-a-b.false c.of_next.ensures c.if-not-of_next.false
     c.record_right.ensures c.if-not-record_right.false c.if-place-ge256.false c.left-left.ensures
     (c.kid-a_left.ensures c.args.a p c.lowest-here.ensures) (c.kid-b_left.ensures c.args.b p c.lowest-there.ensures)
-    (subst (JoinSays s c.args.next c.left-left.result c.kid-a_left.result c.kid-b_left.result) c.in_default.is c.join-on_left.ensures)
+    (subst (JoinSays s c.args.next c.left-left.result c.kid-a_left.result c.kid-b_left.result) c.in_err-l.was c.join.ensures))
 
 pub right-right-requires : goal.right-right-requires
 right-right-requires t c = (c.requires.1, c.if-place-ge256.false)
 
-pub join-on_right-requires : goal.join-on_right-requires
-join-on_right-requires t c =
+pub join-requires-2 : goal.join-requires-2
+join-requires-2 t c =
     let p = place_of c.args.place in (
       omega (arith, c.right-right.ensures.count, c.if-place-ge256.false),
       (
@@ -92,14 +92,15 @@ join-on_right-requires t c =
       ),
     )
 
-pub returns-in_default-on_right : goal.returns-in_default-on_right
-returns-in_default-on_right t c =
+pub returns-in_err-r : goal.returns-in_err-r
+returns-in_err-r t c =
     let p = place_of c.args.place in
     let s = c.args.source.now in
-    right_broken s c.args.next c.args.place c.args.a c.args.b c.if-a-b.false c.of_next.ensures c.if-not-of_next.false
+    rw c.from_residual-in_err-r.ensures
+    (right_broken s c.args.next c.args.place c.args.a c.args.b c.if-a-b.false c.of_next.ensures c.if-not-of_next.false
     c.record_right.ensures c.if-not-record_right.false c.if-place-ge256.false c.right-right.ensures
     (c.kid-a_right.ensures c.args.a p c.lowest-here.ensures) (c.kid-b_right.ensures c.args.b p c.lowest-there.ensures)
-    (subst (JoinSays s c.args.next c.right-right.result c.kid-a_right.result c.kid-b_right.result) c.in_default-on_right.is c.join-on_right.ensures)
+    (subst (JoinSays s c.args.next c.right-right.result c.kid-a_right.result c.kid-b_right.result) c.in_err-r.was c.join-2.ensures))
 
 pub returns : goal.returns
 returns t c =
@@ -109,6 +110,6 @@ returns t c =
     c.record_right.ensures c.if-not-record_right.false c.if-place-ge256.false c.right-right.ensures
     (c.kid-a_right.ensures c.args.a p c.lowest-here.ensures) (c.kid-b_right.ensures c.args.b p c.lowest-there.ensures)
     c.left-left.ensures (c.kid-a_left.ensures c.args.a p c.lowest-here.ensures) (c.kid-b_left.ensures c.args.b p c.lowest-there.ensures)
-    (subst (JoinSays s c.args.next c.left-left.result c.kid-a_left.result c.kid-b_left.result) c.in-Fits.is c.join-on_left.ensures)
-    (subst (JoinSays s c.args.next c.right-right.result c.kid-a_right.result c.kid-b_right.result) c.in-Fits-on_right.is c.join-on_right.ensures)
+    (subst (JoinSays s c.args.next c.left-left.result c.kid-a_left.result c.kid-b_left.result) c.in_ok-l.was c.join.ensures)
+    (subst (JoinSays s c.args.next c.right-right.result c.kid-a_right.result c.kid-b_right.result) c.in_ok-r.was c.join-2.ensures)
     c.newer.ensures c.newer-2.ensures c.later-own.ensures c.later.ensures c.later-2.ensures

@@ -14,21 +14,21 @@ returns-in_default c =
     kid_nothing a.source.now a.right c.in_default.is
 
 pub slot_of-requires : goal.slot_of-requires
-slot_of-requires c = slot_within (subst (Inside c.args.source.now) c.in-At.is c.requires)
+slot_of-requires c = slot_within (subst (Inside c.args.source.now) c.in-Some.is c.requires)
 
 pub returns-then-is_leaf : goal.returns-then-is_leaf
 returns-then-is_leaf c =
     let s = c.args.source.now in
-    let e = c.in-At.is in
+    let e = c.in-Some.is in
     kid_leaf s c.args.right (all_of Byte s 0 (λ i _. omega (arith, c.shared_slice_known-1.given i))) (subst (Inside s) e c.requires) e
     c.slot_of.ensures.0 c.is_leaf.ensures c.if-is_leaf.true
 
 pub child_version_at-requires : goal.child_version_at-requires
-child_version_at-requires c = slot_within (subst (Inside c.args.source.now) c.in-At.is c.requires)
+child_version_at-requires c = slot_within (subst (Inside c.args.source.now) c.in-Some.is c.requires)
 
 pub returns : goal.returns
 returns c =
     let s = c.args.source.now in
-    let e = c.in-At.is in
+    let e = c.in-Some.is in
     kid_inner s c.args.right (all_of Byte s 0 (λ i _. omega (arith, c.shared_slice_known-1.given i))) (subst (Inside s) e c.requires) e
     c.slot_of.ensures.0 c.is_leaf.ensures c.if-is_leaf.false c.child_version_at.ensures

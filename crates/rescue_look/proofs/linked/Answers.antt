@@ -42,7 +42,7 @@ pub slot_of-slot-requires : goal.slot_of-slot-requires
 slot_of-slot-requires c =
     let s = c.args.source.now in
     slot_within (has_j s c.args.i c.args.right (place_of c.args.place) c.child_version_at-version.ensures c.lowest-found.ensures c.requires.0.size
-    (all_of Byte s 0 (λ i _. omega (arith, c.shared_slice_known-1.given i))) c.in-At.is)
+    (all_of Byte s 0 (λ i _. omega (arith, c.shared_slice_known-1.given i))) c.in-Some.is)
 
 pub record_hash-requires : goal.record_hash-requires
 record_hash-requires c = c.slot_of-slot.ensures.1
@@ -52,7 +52,7 @@ returns-then-not-same_hash c =
     let s = c.args.source.now in
     tied_on s c.args.i c.args.right (place_of c.args.place) c.lowest-found.result c.child_version_at-version.ensures c.lowest-found.ensures
     c.weighs.ensures c.if-not-weighs.false (link_off s c.args.i c.args.right (place_of c.args.place) c.child_version_at-version.ensures c.lowest-found.ensures c.requires.0.size
-    (all_of Byte s 0 (λ i _. omega (arith, c.shared_slice_known-1.given i))) c.in-At.is c.slot_of-slot.ensures.0 c.record_hash.ensures
+    (all_of Byte s 0 (λ i _. omega (arith, c.shared_slice_known-1.given i))) c.in-Some.is c.slot_of-slot.ensures.0 c.record_hash.ensures
     c.slot_of.ensures.0 c.child_hash.ensures.0 c.child_hash.ensures.1 c.hash_at-hash.ensures.result_value c.same_hash.ensures c.if-not-same_hash.true)
 
 pub is_leaf-requires : goal.is_leaf-requires
@@ -63,7 +63,7 @@ returns-then-is_leaf c =
     let s = c.args.source.now in
     tied_on s c.args.i c.args.right (place_of c.args.place) c.lowest-found.result c.child_version_at-version.ensures c.lowest-found.ensures
     c.weighs.ensures c.if-not-weighs.false (link_leaf s c.args.i c.args.right (place_of c.args.place) c.child_version_at-version.ensures c.lowest-found.ensures c.requires.0.size
-    (all_of Byte s 0 (λ i _. omega (arith, c.shared_slice_known-1.given i))) c.in-At.is c.slot_of-slot.ensures.0 c.record_hash.ensures
+    (all_of Byte s 0 (λ i _. omega (arith, c.shared_slice_known-1.given i))) c.in-Some.is c.slot_of-slot.ensures.0 c.record_hash.ensures
     c.slot_of.ensures.0 c.child_hash.ensures.0 c.child_hash.ensures.1 c.hash_at-hash.ensures.result_value c.same_hash.ensures c.if-not-same_hash.false
     c.is_leaf.ensures c.if-is_leaf.true c.child_version_at-other.ensures)
 
@@ -72,6 +72,6 @@ returns c =
     let s = c.args.source.now in
     tied_on s c.args.i c.args.right (place_of c.args.place) c.lowest-found.result c.child_version_at-version.ensures c.lowest-found.ensures
     c.weighs.ensures c.if-not-weighs.false (link_inner s c.args.i c.args.right (place_of c.args.place) c.child_version_at-version.ensures c.lowest-found.ensures c.requires.0.size
-    (all_of Byte s 0 (λ i _. omega (arith, c.shared_slice_known-1.given i))) c.in-At.is c.slot_of-slot.ensures.0 c.record_hash.ensures
+    (all_of Byte s 0 (λ i _. omega (arith, c.shared_slice_known-1.given i))) c.in-Some.is c.slot_of-slot.ensures.0 c.record_hash.ensures
     c.slot_of.ensures.0 c.child_hash.ensures.0 c.child_hash.ensures.1 c.hash_at-hash.ensures.result_value c.same_hash.ensures c.if-not-same_hash.false
     c.is_leaf.ensures c.if-is_leaf.false)

@@ -12,7 +12,7 @@ pub returns-in_default : goal.returns-in_default
 returns-in_default c = weighs_nothing c.args.source.now c.args.i c.args.right c.child_count_at-count.ensures c.in_default.is
 
 pub weight_at-requires : goal.weight_at-requires
-weight_at-requires c = subst (Inside c.args.source.now) c.in-At.is c.requires.1
+weight_at-requires c = subst (Inside c.args.source.now) c.in-Some.is c.requires.1
 
 pub returns : goal.returns
-returns c = weighs_found c.args.source.now c.args.i c.args.right c.child_count_at-count.ensures c.in-At.is c.weight_at.ensures.0
+returns c = weighs_found c.args.source.now c.args.i c.args.right c.child_count_at-count.ensures c.in-Some.is c.weight_at.ensures.0

@@ -17,27 +17,27 @@ returns-in_default c =
 pub retired_at-since-requires : goal.retired_at-since-requires
 retired_at-since-requires c =
     let s = c.args.source.now in
-    slot_within (root_has s c.args.version c.requires.0 (all_of Byte s 0 (λ i _. omega (arith, c.shared_slice_known-1.given i))) c.newest_by-newest.ensures c.in-At.is)
+    slot_within (root_has s c.args.version c.requires.0 (all_of Byte s 0 (λ i _. omega (arith, c.shared_slice_known-1.given i))) c.newest_by-newest.ensures c.in-Some.is)
 
 pub version_at-v-requires : goal.version_at-v-requires
 version_at-v-requires c =
     let s = c.args.source.now in
-    slot_within (root_has s c.args.version c.requires.0 (all_of Byte s 0 (λ i _. omega (arith, c.shared_slice_known-1.given i))) c.newest_by-newest.ensures c.in-At.is)
+    slot_within (root_has s c.args.version c.requires.0 (all_of Byte s 0 (λ i _. omega (arith, c.shared_slice_known-1.given i))) c.newest_by-newest.ensures c.in-Some.is)
 
 pub returns-then-since-eq0 : goal.returns-then-since-eq0
 returns-then-since-eq0 c =
     let s = c.args.source.now in
-    root_unretired s c.args.version c.requires.0 (all_of Byte s 0 (λ i _. omega (arith, c.shared_slice_known-1.given i))) c.newest_by-newest.ensures c.in-At.is
+    root_unretired s c.args.version c.requires.0 (all_of Byte s 0 (λ i _. omega (arith, c.shared_slice_known-1.given i))) c.newest_by-newest.ensures c.in-Some.is
     c.version_at-v.ensures c.retired_at-since.ensures c.if-since-eq0.true
 
 pub returns-then-since-version : goal.returns-then-since-version
 returns-then-since-version c =
     let s = c.args.source.now in
-    root_retired s c.args.version c.requires.0 (all_of Byte s 0 (λ i _. omega (arith, c.shared_slice_known-1.given i))) c.newest_by-newest.ensures c.in-At.is
+    root_retired s c.args.version c.requires.0 (all_of Byte s 0 (λ i _. omega (arith, c.shared_slice_known-1.given i))) c.newest_by-newest.ensures c.in-Some.is
     c.version_at-v.ensures c.retired_at-since.ensures c.if-since-eq0.false c.if-since-version.true
 
 pub returns : goal.returns
 returns c =
     let s = c.args.source.now in
-    root_later s c.args.version c.requires.0 (all_of Byte s 0 (λ i _. omega (arith, c.shared_slice_known-1.given i))) c.newest_by-newest.ensures c.in-At.is
+    root_later s c.args.version c.requires.0 (all_of Byte s 0 (λ i _. omega (arith, c.shared_slice_known-1.given i))) c.newest_by-newest.ensures c.in-Some.is
     c.version_at-v.ensures c.retired_at-since.ensures c.if-since-version.false

@@ -11,20 +11,20 @@ pub returns-then-root-ne32 : goal.returns-then-root-ne32
 returns-then-root-ne32 c =
     let lent-bytes : All Byte c.args.proof.now = all_bytes c.args.proof.now (λ i. omega (arith, c.shared_slice_known-3-1.given i)) in
     let a = c.args in
-    shelf_refused lent-bytes a.found.now (shelf_root_off a.root.now a.bits a.key.now a.proof.now c.if-root-ne32.true)
+    rw c.number.ensures (shelf_refused lent-bytes a.found.now (shelf_root_off a.root.now a.bits a.key.now a.proof.now c.if-root-ne32.true))
 
 pub returns-then-key-ne32 : goal.returns-then-key-ne32
 returns-then-key-ne32 c =
     let lent-bytes : All Byte c.args.proof.now = all_bytes c.args.proof.now (λ i. omega (arith, c.shared_slice_known-3-1.given i)) in
     let a = c.args in
-    shelf_refused lent-bytes a.found.now (shelf_key_off a.root.now a.bits a.key.now a.proof.now c.if-root-ne32.false c.if-key-ne32.true)
+    rw c.number-then-key-ne32.ensures (shelf_refused lent-bytes a.found.now (shelf_key_off a.root.now a.bits a.key.now a.proof.now c.if-root-ne32.false c.if-key-ne32.true))
 
 pub returns-then-bits-gt-MOST_BITS : goal.returns-then-bits-gt-MOST_BITS
 returns-then-bits-gt-MOST_BITS c =
     let lent-bytes : All Byte c.args.proof.now = all_bytes c.args.proof.now (λ i. omega (arith, c.shared_slice_known-3-1.given i)) in
     let a = c.args in
-    shelf_refused lent-bytes a.found.now
-    (bits_off a.root.now a.bits a.key.now a.proof.now c.if-root-ne32.false c.if-key-ne32.false c.if-bits-gt-MOST_BITS.true)
+    rw c.number-then-bits-gt-MOST_BITS.ensures (shelf_refused lent-bytes a.found.now
+    (bits_off a.root.now a.bits a.key.now a.proof.now c.if-root-ne32.false c.if-key-ne32.false c.if-bits-gt-MOST_BITS.true))
 
 pub is_shelf-requires : goal.is_shelf-requires
 is_shelf-requires c = omega (arith, c.first_end-e.ensures, first_within c.args.proof.now)
@@ -33,9 +33,9 @@ pub returns-then-not-is_shelf : goal.returns-then-not-is_shelf
 returns-then-not-is_shelf c =
     let lent-bytes : All Byte c.args.proof.now = all_bytes c.args.proof.now (λ i. omega (arith, c.shared_slice_known-3-1.given i)) in
     let a = c.args in
-    shelf_refused lent-bytes a.found.now
+    rw c.number-then-not-is_shelf.ensures (shelf_refused lent-bytes a.found.now
     (shelf_off_form a.root.now a.bits a.key.now a.proof.now c.if-root-ne32.false c.if-key-ne32.false c.if-bits-gt-MOST_BITS.false
-    (sym (ap (λ n. is_shelf n a.proof.now) c.first_end-e.ensures) ∙ sym c.is_shelf.ensures ∙ c.if-not-is_shelf.true))
+    (sym (ap (λ n. is_shelf n a.proof.now) c.first_end-e.ensures) ∙ sym c.is_shelf.ensures ∙ c.if-not-is_shelf.true)))
 
 pub check_both-requires : goal.check_both-requires
 check_both-requires c = omega (arith, c.first_end-e.ensures, first_within c.args.proof.now)

@@ -3,23 +3,12 @@ use Rattle.place.specs.Place.{place_of}
 use Rattle.meaning.specs.Store.{find}
 use Rattle.meaning.specs.Sight.{agrees, node_sight}
 use Rattle.layout.specs.Stores.{store_of}
-use Rattle.sights.proofs.Spoilt.{matched, spoilt_sighted, nothing_sighted}
+use Rattle.std.proofs.Common.{rules}
 use Rattle.sights.proofs.look.Goals as goal
-
-pub returns-in-At : goal.returns-in-At
-unfolding node_sight
-returns-in-At c =
-    let st = store_of c.args.store.now in
-    matched st.slots (find c.args.version (place_of c.args.place) st.slots) (agrees c.args.version (place_of c.args.place)) c.find-found.ensures c.in-At.is
-
-pub returns-in-At-spoilt : goal.returns-in-At-spoilt
-unfolding node_sight
-returns-in-At-spoilt c =
-    let st = store_of c.args.store.now in
-    spoilt_sighted st.slots (find c.args.version (place_of c.args.place) st.slots) (agrees c.args.version (place_of c.args.place)) c.find-found.ensures c.in_default.is c.find_spoilt-spoilt.ensures c.in-At-spoilt.is
 
 pub returns : goal.returns
 unfolding node_sight
 returns c =
-    let st = store_of c.args.store.now in
-    nothing_sighted st.slots (find c.args.version (place_of c.args.place) st.slots) (agrees c.args.version (place_of c.args.place)) c.find-found.ensures c.in_default.is c.find_spoilt-spoilt.ensures c.in_default-spoilt.is
+    let a = c.args in
+    let p = place_of a.place in
+    c.sighted.ensures (find a.version p (store_of a.store.now).slots) (agrees a.version p) c.find-found.ensures (λ i r h e. search rules)

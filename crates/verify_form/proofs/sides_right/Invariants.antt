@@ -1,6 +1,6 @@
--- `verify_form::sides_right` meets its contract: all sides are right exactly if those from step i on are. The measure is what is left of
--- the steps. Assumes nothing.
-use Prim.Native.Nat.{◌-◌, ◌≤◌}
+-- `verify_form::sides_right` meets its contract: all sides are right exactly if those from step i on are.
+-- Assumes nothing.
+use Prim.Native.Nat.{◌-◌}
 use mathlib.Core.Path.{◌≡◌}
 use lib.ListN.{drop}
 use Rattle.proofrecords.specs.ProofBytes.{sides_right}
@@ -8,7 +8,4 @@ use Rattle.proofrecords.proofs.Lying.{from_step}
 use Rattle.verify_form.proofs.sides_right.Given as goal
 
 abbrev pub invariant-loop-i : goal.invariant-loop-i
-invariant-loop-i l = (l.i ≤ l.n) × (sides_right l.n (drop 72 l.p) ≡ sides_right (l.n - l.i) (from_step l.i l.p))
-
-abbrev pub decreases-loop-i : goal.decreases-loop-i
-decreases-loop-i l = l.n - l.i
+invariant-loop-i l = sides_right l.n (drop 72 l.p) ≡ sides_right (l.n - l.i) (from_step l.i l.p)

@@ -1,6 +1,5 @@
--- `verify_path::top` meets its contract: from the hash at step i the steps that are left lead where all lead from the leaf. The measure is
--- what is left of the steps. Assumes nothing.
-use Prim.Native.Nat.{◌-◌}
+-- `verify_path::top` meets its contract: from the hash at step i the steps that are left lead where all lead from the leaf.
+-- Assumes nothing.
 use native.Mathlib.Omega.{arith}
 use native.Mathlib.Nat.{sub-zero}
 use mathlib.Core.Path.{ap, sym, ◌∙◌}
@@ -17,16 +16,14 @@ leaf_hash-h-requires c = simp (length-take, length-drop) (omega arith)
 pub loop-i-init : goal.loop-i-init
 loop-i-init c =
     let a = c.args in
-    (omega arith, rw (sub-zero, c.leaf_hash-h.ensures, (grant_at_lem a.p.now (omega arith)).0, (grant_at_lem a.p.now (omega arith)).1))
+    rw (sub-zero, c.leaf_hash-h.ensures, (grant_at_lem a.p.now (omega arith)).0, (grant_at_lem a.p.now (omega arith)).1)
 
 pub loop-i-preserved : goal.loop-i-preserved
 loop-i-preserved c =
-    let a = c.args in (
-      omega arith,
-      rw c.parent-h.ensures (sym (ap (climb leaf_hash inner_hash (hash_bytes c.loop-i.h)) (steps_left c.loop-i.i a.n a.p.now (omega arith))) ∙ c.loop-i.invariant.1),
-    )
+    let a = c.args in
+    rw c.parent-h.ensures (sym (ap (climb leaf_hash inner_hash (hash_bytes c.loop-i.h)) (steps_left c.loop-i.i a.n a.p.now (omega arith))) ∙ c.loop-i.invariant)
 
 pub returns : goal.returns
 returns c =
     let a = c.args in
-    sym (ap (climb leaf_hash inner_hash (hash_bytes c.loop-i.h)) (no_steps_left c.loop-i.i a.n a.p.now (omega arith))) ∙ c.loop-i.invariant.1
+    sym (ap (climb leaf_hash inner_hash (hash_bytes c.loop-i.h)) (no_steps_left c.loop-i.i a.n a.p.now (omega arith))) ∙ c.loop-i.invariant
