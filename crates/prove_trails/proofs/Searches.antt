@@ -11,6 +11,8 @@ use types.Run.{OneOf}
 use denote.Enum.Declared.{tag_of}
 use lib.Dec.{eqb}
 use Rattle.terms.specs.declared.Form.TheVariants.{Counted as counted}
+use Rattle.std.specs.Prelude.{Some, None}
+use Rattle.std.specs.declared.option.Option as option
 use Rattle.terms.specs.Bits.{Bytes, Side, longer}
 use Rattle.terms.specs.Records.{Step}
 use Rattle.meaning.specs.Reading as reading
@@ -29,7 +31,7 @@ use Rattle.store.proofs.Slots.{slot_fits}
 use Rattle.prove_paths.specs.Paths.{step_at, path_steps, presence_at, PathIn}
 use Rattle.prove_paths.specs.declared.Way.TheVariants as way
 use Rattle.prove_paths.specs.declared.Sought as declared-sought
-use Rattle.prove_turns.specs.declared.Fork as declared-fork
+use Rattle.place.specs.declared.Place as declared-place
 use Rattle.prove_trails.specs.Trails.{shown_at, SeenIn, shown_by, steps_by, TrailIn, AtInner, Further, sideways, fork_says, ForkIn, fork_on}
 use Rattle.prove_trails.specs.Searches.{path_of, sought_of, Finds, descent_says, WalkedIn, end_says, neighbour_says}
 use Rattle.prove_trails.specs.declared.Trail as declared
@@ -98,43 +100,42 @@ module _ {s : Bytes} {table : List ℕ} {b : Side} {t₀ t : declared.Trail} (w 
       says = sym (w.same ∙ ap (λ y. sought (raised_by (steps_by s t) (descend b (shown_at s table (place_of t.place) y)))) e ∙ ap (λ o. sought (raised_by (steps_by s t) o)) n)
 
 -- a search from a fork: nobody where there is none, else into its child
-pub fork_nobody : {r : declared-sought.Sought} (s : Bytes) (table : List ℕ) (b : Side) (t : declared.Trail) (f : declared-fork.Fork) → TrailIn s t → f.there ≡ false →
+pub fork_nobody : {r : declared-sought.Sought} (s : Bytes) (table : List ℕ) (b : Side) (t : declared.Trail) (f : option.Option declared-place.Place) → TrailIn s t → f ≡ None →
     r ≡ sought_of t way.Nobody 0 → Finds s (fork_says s table t.slots b f) r
-unfolding fork_says
 fork_nobody s table b t f w e q =
-    subst (Finds s (cond f.there (sideways s table t.slots b f.place) nobody)) (sym q)
-    (record { says = ap (λ d. cond d (sideways s table t.slots b f.place) nobody) (sym e); within = w.proper.short })
+    subst (Finds s (fork_says s table t.slots b f)) (sym q) (record { says = ap (fork_says s table t.slots b) (sym e); within = w.proper.short })
 
 -- the trail back at a fork
-abbrev pub back_at : declared.Trail → declared-fork.Fork → declared.Trail
-back_at t f = record { seen = Inner (get_or t.slots f.place.count 0); slots = t.slots; place = f.place }
+abbrev pub back_at : declared.Trail → declared-place.Place → declared.Trail
+back_at t p = record { seen = Inner (get_or t.slots p.count 0); slots = t.slots; place = p }
 
-module _ {s : Bytes} {t : declared.Trail} {f : declared-fork.Fork} (w : TrailIn s t) (h : ForkIn t.place.count f) (e : f.there ≡ true) where
-  pub fork_at_lem : AtInner s (back_at t f) (get_or t.slots f.place.count 0)
+module _ {s : Bytes} {t : declared.Trail} {f : option.Option declared-place.Place} {p : declared-place.Place} (w : TrailIn s t) (h : ForkIn t.place.count f) (e : f ≡ Some p) where
+  pub fork_at_lem : AtInner s (back_at t p) (get_or t.slots p.count 0)
   fork_at_lem =
-      let l = h.above e in
+      let g = subst (ForkIn t.place.count) e h in
+      let l = g.1 in
       record {
         size = w.size;
-        proper = h.proper;
+        proper = g.0;
         long = w.long;
         above = λ j k. w.above j (omega arith);
-        inside = w.above f.place.count l;
+        inside = w.above p.count l;
         short = omega (arith, w.proper.short);
       }
 
-  pub fork_found : {table : List ℕ} {r : declared-sought.Sought} (b : Side) (n : declared.Trail) → Further s table (back_at t f) (get_or t.slots f.place.count 0) b n →
+  pub fork_found : {table : List ℕ} {r : declared-sought.Sought} (b : Side) (n : declared.Trail) → Further s table (back_at t p) (get_or t.slots p.count 0) b n →
       Finds s (descent_says s table n (not b)) r → Finds s (fork_says s table t.slots b f) r
-  unfolding fork_says sideways descent_says steps_by
+  unfolding sideways descent_says steps_by
   fork_found {table} {r} b n g d = subst (λ x. Finds s x r) same d
     where
-      open_fork : fork_says s table t.slots b f ≡ sideways s table t.slots b f.place
-      open_fork = ap (λ c. cond c (sideways s table t.slots b f.place) nobody) e
+      open_fork : fork_says s table t.slots b f ≡ sideways s table t.slots b p
+      open_fork = ap (fork_says s table t.slots b) e
 
       same : descent_says s table n (not b) ≡ fork_says s table t.slots b f
       same = ap₂ (λ steps x. sought (raised_by steps (descend (not b) x))) (steps_further fork_at_lem g) (shown_further fork_at_lem g) ∙ sym open_fork
 
 -- the neighbour where a walk has ended
-pub fork_within : {f : declared-fork.Fork} (s : Bytes) (w : declared-walked.Walked) (b : Side) → WalkedIn s w → f ≡ fork_on b w.left w.right →
+pub fork_within : {f : option.Option declared-place.Place} (s : Bytes) (w : declared-walked.Walked) (b : Side) → WalkedIn s w → f ≡ fork_on b w.left w.right →
     TrailIn s w.trail × ForkIn w.trail.place.count f
 fork_within s w b h e = (h.trail, subst (ForkIn w.trail.place.count) (sym e) (h.fork b))
 
@@ -148,7 +149,7 @@ module _ (s : Bytes) (table : List ℕ) (k : Bytes) (w : declared-walked.Walked)
   abbrev from_fork : Sought
   from_fork = fork_says s table w.trail.slots b (fork_on b w.left w.right)
 
-  pub end_elsewhere : {f : declared-fork.Fork} {r : declared-sought.Sought} → OneOf (0 ∷ 1 ∷ 3 ∷ []) (tag_of Seen.the_type w.trail.seen) → f ≡ fork_on b w.left w.right →
+  pub end_elsewhere : {f : option.Option declared-place.Place} {r : declared-sought.Sought} → OneOf (0 ∷ 1 ∷ 3 ∷ []) (tag_of Seen.the_type w.trail.seen) → f ≡ fork_on b w.left w.right →
       Finds s (fork_says s table w.trail.slots b f) r → Finds s (neighbour_says s table k w b) r
   unfolding neighbour_says
   end_elsewhere {f} {r} o e d =
@@ -169,7 +170,7 @@ module _ (s : Bytes) (table : List ℕ) (k : Bytes) (w : declared-walked.Walked)
           within = path_in_lem s w.trail i h here;
         })
 
-    pub end_before : {f : declared-fork.Fork} {r : declared-sought.Sought} → d ≡ false → f ≡ fork_on b w.left w.right → Finds s (fork_says s table w.trail.slots b f) r →
+    pub end_before : {f : option.Option declared-place.Place} {r : declared-sought.Sought} → d ≡ false → f ≡ fork_on b w.left w.right → Finds s (fork_says s table w.trail.slots b f) r →
         Finds s (neighbour_says s table k w b) r
     end_before {f} {r} t e n =
         subst (λ z. Finds s z r)

@@ -11,6 +11,8 @@ use mathlib.Core.Logic.{⊎_elim}
 use types.Run.{OneOf}
 use denote.Enum.Declared.{tag_of}
 use lib.Dec.{eqb}
+use Rattle.std.specs.Prelude.{Some, None}
+use Rattle.std.specs.declared.option.Option as option
 use Rattle.terms.specs.Bits.{Bytes, Side, left, Place, longer, bit}
 use Rattle.terms.specs.Records.{Step}
 use Rattle.meaning.specs.Reading.{fork, seen_at, seen, Pass, walk}
@@ -25,22 +27,14 @@ use Rattle.read_step.specs.declared.Seen.TheVariants.{Inner}
 use Rattle.read_step.specs.contracts.Seen as Seen
 use Rattle.prove_paths.specs.Paths.{step_at, steps_of}
 use Rattle.prove_turns.specs.Forks.{fork_after}
-use Rattle.prove_turns.specs.declared.Fork as declared-fork
 use Rattle.prove_trails.specs.Trails.{shown_at, shown_by, steps_by, AtInner, Started, Further, sideways, fork_says, ForkIn, fork_on, Walking, Walks}
 use Rattle.prove_trails.specs.declared.Trail as declared
 use Rattle.prove_trails.proofs.Trails.{kids_at, gap_test, steps_agree, slot_set, slot_kept, steps_further, shown_further, at_inner}
 
 -- no fork yet
-abbrev pub nowhere : declared-place.Place → declared-fork.Fork
-nowhere p = record { there = false; place = p }
-
-fork_nowhere : (p : declared-place.Place) (n : ℕ) → Proper p → ForkIn n (nowhere p)
-fork_nowhere p n w = record { proper = w; above = λ e. let z : ◌≡◌ {A = ℕ} 0 1 = cc in absurd (omega arith) }
-
-pub walking_start : (s : Bytes) (table : List ℕ) (v : ℕ) (k : Bytes) (t : declared.Trail) (p : declared-place.Place) → Started s table v t → Proper p →
-    Walking s table v k t (nowhere p) (nowhere p)
-unfolding steps_by fork_says
-walking_start s table v k t p w proper = record {
+pub walking_start : (s : Bytes) (table : List ℕ) (v : ℕ) (k : Bytes) (t : declared.Trail) → Started s table v t → Walking s table v k t None None
+unfolding steps_by
+walking_start s table v k t w = record {
   trail = w.trail;
   fork = λ b. fork_of b;
   passes = [];
@@ -49,14 +43,14 @@ walking_start s table v k t p w proper = record {
   found = λ b. found_of_lem b;
 }
   where
-    fork_of : (b : Side) → ForkIn t.place.count (fork_on b (nowhere p) (nowhere p))
-    fork_of false = fork_nowhere p t.place.count proper
-    fork_of true = fork_nowhere p t.place.count proper
+    fork_of : (b : Side) → ForkIn t.place.count (fork_on b None None)
+    fork_of false = tt
+    fork_of true = tt
 
     no_steps : [] ≡ steps_by s t
     no_steps = ap (steps_of s t.slots (place_of t.place)) (sym w.count)
 
-    found_of_lem : (b : Side) → nobody ≡ fork_says s table t.slots b (fork_on b (nowhere p) (nowhere p))
+    found_of_lem : (b : Side) → nobody ≡ fork_says s table t.slots b (fork_on b None None)
     found_of_lem false = refl
     found_of_lem true = refl
 
@@ -70,12 +64,12 @@ sideways_is : (s : Bytes) (table : List ℕ) (slots : List ℕ) (b : Side) (p : 
 unfolding sideways
 sideways_is s table slots b p i steps e f = ap₂ (λ (j : ℕ) u. sideways_from s table (place_of p) j u b) e f
 
-either_fork : (s : Bytes) (table : List ℕ) (slots : List ℕ) (b : Side) (here f : declared-fork.Fork) (d : Bool) {x y : Sought} → x ≡ fork_says s table slots b here → y ≡ fork_says s table slots b f →
+either_fork : (s : Bytes) (table : List ℕ) (slots : List ℕ) (b : Side) (here f : option.Option declared-place.Place) (d : Bool) {x y : Sought} → x ≡ fork_says s table slots b here → y ≡ fork_says s table slots b f →
     cond d x y ≡ fork_says s table slots b (cond d here f)
 either_fork s table slots b here f true e g = e
 either_fork s table slots b here f false e g = g
 
-either_in : (n : ℕ) (here f : declared-fork.Fork) (d : Bool) → ForkIn n here → ForkIn n f → ForkIn n (cond d here f)
+either_in : (n : ℕ) (here f : option.Option declared-place.Place) (d : Bool) → ForkIn n here → ForkIn n f → ForkIn n (cond d here f)
 either_in n here f true e g = e
 either_in n here f false e g = g
 
@@ -99,23 +93,23 @@ module _ {s : Bytes} {table : List ℕ} {t : declared.Trail} {i : ℕ} {turn : S
       (steps_agree s r.slots t.slots (place_of p) (place_of p) p.count (λ j l. slot_kept w g j (omega arith)) (λ j l. refl))
       ∙ sym (sideways_is s table t.slots b p (get_or t.slots p.count 0) (steps_of s t.slots (place_of p) p.count) refl refl))
 
-  fork_kept : (b : Side) (f : declared-fork.Fork) → ForkIn t.place.count f → fork_says s table t.slots b f ≡ fork_says s table r.slots b f
-  unfolding fork_says
-  fork_kept b f h = go f.there refl
-    where
-      go : (d : Bool) → f.there ≡ d → cond d (sideways s table t.slots b f.place) nobody ≡ cond d (sideways s table r.slots b f.place) nobody
-      go true e = sideways_kept b f.place (h.above e)
-      go false e = refl
+  fork_kept : (b : Side) (f : option.Option declared-place.Place) → ForkIn t.place.count f → fork_says s table t.slots b f ≡ fork_says s table r.slots b f
+  fork_kept b (Some p) h = sideways_kept b p h.1
+  fork_kept b None h = refl
+
+  fork_deeper : (f : option.Option declared-place.Place) → ForkIn t.place.count f → ForkIn r.place.count f
+  fork_deeper (Some p) h = let n : r.place.count ≡ t.place.count + 1 = g.place.count in (h.0, omega (arith, h.1))
+  fork_deeper None h = tt
 
   -- the node passed is a fork
   fork_here : (b : Side) (steps : List Step) → steps ≡ steps_by s t →
-      sought (raised_by (step_at s i b ∷ steps) (descend (not b) ((pass turn).kids b))) ≡ fork_says s table r.slots b (record { there = true; place = t.place })
-  unfolding fork_says steps_by
+      sought (raised_by (step_at s i b ∷ steps) (descend (not b) ((pass turn).kids b))) ≡ fork_says s table r.slots b (Some t.place)
+  unfolding steps_by
   fork_here b steps e =
       sym (sideways_is s table r.slots b t.place i steps (slot_set w g)
       (steps_agree s r.slots t.slots (place_of t.place) (place_of t.place) t.place.count (slot_kept w g) (λ j l. refl) ∙ sym e))
 
-  found_next : (b : Side) (f h : declared-fork.Fork) (passes : List Pass) → ForkIn t.place.count f → from_trail b passes ≡ fork_says s table t.slots b f →
+  found_next : (b : Side) (f h : option.Option declared-place.Place) (passes : List Pass) → ForkIn t.place.count f → from_trail b passes ≡ fork_says s table t.slots b f →
       map step_up passes ≡ steps_by s t → h ≡ fork_after s i t.place turn b f → from_trail b (pass turn ∷ passes) ≡ fork_says s table r.slots b h
   unfolding turns_away fork_after step_at
   found_next b f h passes k e u q =
@@ -125,20 +119,20 @@ module _ {s : Bytes} {table : List ℕ} {t : declared.Trail} {i : ℕ} {turn : S
       in
       let x = sought (raised_by (step_at s i b ∷ map step_up passes) (descend (not b) ((pass turn).kids b))) in
       ap (λ c. cond c x (from_trail b passes)) d
-      ∙ either_fork s table r.slots b (record { there = true; place = t.place }) f (beq turn (not b) && not (eqb (kid_in i s b).version 0))
+      ∙ either_fork s table r.slots b (Some t.place) f (beq turn (not b) && not (eqb (kid_in i s b).version 0))
       (fork_here b (map step_up passes) u) (e ∙ fork_kept b f k)
       ∙ ap (fork_says s table r.slots b) (sym q)
 
-  fork_next : (b : Side) (f h : declared-fork.Fork) → ForkIn t.place.count f → h ≡ fork_after s i t.place turn b f → ForkIn r.place.count h
+  fork_next : (b : Side) (f h : option.Option declared-place.Place) → ForkIn t.place.count f → h ≡ fork_after s i t.place turn b f → ForkIn r.place.count h
   unfolding fork_after
   fork_next b f h k q =
       let n : r.place.count ≡ t.place.count + 1 = g.place.count in
       subst (ForkIn r.place.count) (sym q)
-      (either_in r.place.count (record { there = true; place = t.place }) f (beq turn (not b) && not (eqb (kid_in i s b).version 0))
-      (record { proper = w.proper; above = λ e. omega arith }) (record { proper = k.proper; above = λ e. let a = k.above e in omega arith }))
+      (either_in r.place.count (Some t.place) f (beq turn (not b) && not (eqb (kid_in i s b).version 0))
+      (w.proper, omega arith) (fork_deeper f k))
 
 -- one turn of the walk
-pub walking_next : {s : Bytes} {table : List ℕ} {v : ℕ} {k : Bytes} {t : declared.Trail} {l r : declared-fork.Fork} {turn : Side} (i : ℕ) (u : declared.Trail) (m n : declared-fork.Fork) →
+pub walking_next : {s : Bytes} {table : List ℕ} {v : ℕ} {k : Bytes} {t : declared.Trail} {l r : option.Option declared-place.Place} {turn : Side} (i : ℕ) (u : declared.Trail) (m n : option.Option declared-place.Place) →
     Walking s table v k t l r → t.seen ≡ Inner i → turn ≡ bit t.place.count k → m ≡ fork_after s i t.place turn false l → n ≡ fork_after s i t.place turn true r →
     Further s table t i turn u → Walking s table v k u m n
 unfolding shown_by fork_at
@@ -180,6 +174,6 @@ inner_not x k i e = go (subst (λ y. OneOf (0 ∷ 1 ∷ 2 ∷ []) (tag_of Seen.t
     go : OneOf (0 ∷ 1 ∷ 2 ∷ []) (tag_of Seen.the_type (Inner i)) → ⊥
     go k = ⊎_elim (λ e. omega arith) (λ k. ⊎_elim (λ e. omega arith) (λ e. omega arith) k) k
 
-pub walk_ended : {s : Bytes} {table : List ℕ} {v : ℕ} {k : Bytes} (t : declared.Trail) (l r : declared-fork.Fork) → Walking s table v k t l r → OneOf (0 ∷ 1 ∷ 2 ∷ []) (tag_of Seen.the_type t.seen) →
+pub walk_ended : {s : Bytes} {table : List ℕ} {v : ℕ} {k : Bytes} (t : declared.Trail) (l r : option.Option declared-place.Place) → Walking s table v k t l r → OneOf (0 ∷ 1 ∷ 2 ∷ []) (tag_of Seen.the_type t.seen) →
     Walks s table v k (record { trail = t; left = l; right = r })
 walk_ended t l r w k = record { walking = w; ended = inner_not t.seen k }

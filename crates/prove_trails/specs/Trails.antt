@@ -1,6 +1,7 @@
 -- Document 01, 'Reading and proving': the trail of a walk in lent memory, which finds by a table of slot numbers
 -- (2026-05), and where its forks lead to a neighbour. Assumes nothing.
-use Rattle.std.specs.Prelude.{ℕ, ◌-◌, ◌<◌, ◌≡◌, true, false, cond, not, List, [], ◌∷◌, map, length, get_or, set}
+use Rattle.std.specs.Prelude.{ℕ, ◌-◌, ◌<◌, ◌≡◌, true, false, not, List, [], ◌∷◌, map, length, get_or, set, Some, None}
+use Rattle.std.specs.declared.option.Option as option
 use Rattle.terms.specs.declared.Form.TheVariants.{Counted as counted}
 use Rattle.terms.specs.Bits.{Bytes, Side, Place, longer}
 use Rattle.terms.specs.Records.{Step}
@@ -16,7 +17,6 @@ use Rattle.read_step.specs.Walk.{trouble_says, kid_in, seen_below, leaf_at, fork
 use Rattle.read_step.specs.declared.Seen as declared-seen
 use Rattle.read_step.specs.declared.Seen.TheVariants.{Gap, Stopped, Leaf, Inner}
 use Rattle.prove_paths.specs.Paths.{step_at, steps_of}
-use Rattle.prove_turns.specs.declared.Fork as declared-fork
 use Rattle.prove_trails.specs.declared.Trail as declared
 use Rattle.prove_trails.specs.declared.Walked as declared-walked
 
@@ -80,23 +80,25 @@ sideways s table slots b p =
     (descend (not b) (seen_at (255 - length (place_of p)) (by_table table (store_of s)) (longer b (place_of p))
     (kid_in (get_or slots p.count 0) s b))))
 
-unfoldable pub fork_says : Bytes → List ℕ → List ℕ → Side → declared-fork.Fork → Sought
-fork_says s table slots b f = cond f.there (sideways s table slots b f.place) nobody
+abbrev pub fork_says : Bytes → List ℕ → List ℕ → Side → option.Option declared-place.Place → Sought
+fork_says s table slots b (Some p) = sideways s table slots b p
+fork_says s table slots b None = nobody
 
 -- A fork lies above depth n.
-pub record ForkIn (n : ℕ) (f : declared-fork.Fork) : Type 0 where
-  pub proper : Proper f.place
-  pub above : f.there ≡ true → f.place.count < n
+abbrev pub ForkIn : ℕ → option.Option declared-place.Place → Type 0
+ForkIn n (Some p) = Proper p × (p.count < n)
+ForkIn n None = Unit {0}
 
 -- The fork towards a side.
-abbrev pub fork_on : Side → declared-fork.Fork → declared-fork.Fork → declared-fork.Fork
+abbrev pub fork_on : Side → option.Option declared-place.Place → option.Option declared-place.Place →
+    option.Option declared-place.Place
 fork_on false l r = l
 fork_on true l r = r
 
 -- The walk by key k in version v goes on from the end of trail t, with the inner nodes passed: their steps are the
 -- trail's, and what is found from them is what the forks l and r say.
-pub record Walking (s : Bytes) (table : List ℕ) (v : ℕ) (k : Bytes) (t : declared.Trail) (l r : declared-fork.Fork) :
-    Type 0 where
+pub record Walking (s : Bytes) (table : List ℕ) (v : ℕ) (k : Bytes) (t : declared.Trail)
+    (l r : option.Option declared-place.Place) : Type 0 where
   pub trail : TrailIn s t
   pub fork : (b : Side) → ForkIn t.place.count (fork_on b l r)
   pub passes : List Pass

@@ -10,7 +10,7 @@ ghost use Rattle.prove_trails.specs.Searches.{sought_of, Finds, descent_says, Wa
 
 use place::{Place, child_place, key_bit};
 use prove_paths::{Path, Sought, Way};
-use prove_turns::{Fork, beyond, deepest, towards};
+use prove_turns::{beyond, deepest, towards};
 use read_near::child_near;
 use read_step::{Seen, Trouble, root};
 use slots::key_of;
@@ -25,12 +25,12 @@ pub struct Trail {
     pub place: Place,
 }
 
-// Where a walk ended, with the deepest fork towards each side.
+// Where a walk ended, with the place of the deepest fork towards each side.
 #[derive(Clone, Copy)]
 pub struct Walked {
     pub trail: Trail,
-    pub left: Fork,
-    pub right: Fork,
+    pub left: Option<Place>,
+    pub right: Option<Place>,
 }
 
 // At the root of a version.
@@ -66,16 +66,9 @@ pub fn walk(store: &[u8], index: &[u32], kids: &[u16], version: u32, key: &[u8])
     requires { (size_right Form.Counted (length store.now) ≡ true) × (length key.now ≡ 32) × Led (store_of store.now) index.now kids.now }
     ensures { Walks store.now index.now version key.now result }
 {
-    let top = Place::top();
     let mut trail = start(store, index, version);
-    let mut left = Fork {
-        there: false,
-        place: top,
-    };
-    let mut right = Fork {
-        there: false,
-        place: top,
-    };
+    let mut left = None;
+    let mut right = None;
     while let Seen::Inner(i) = trail.seen {
         let place = trail.place;
         let depth = place.count;
@@ -128,18 +121,16 @@ fn from_fork(
     index: &[u32],
     kids: &[u16],
     trail: Trail,
-    fork: Fork,
+    fork: Option<Place>,
     side: bool,
 ) -> Sought
     requires { TrailIn store.now trail × ForkIn trail.place.count fork × Led (store_of store.now) index.now kids.now }
     ensures { Finds store.now (fork_says store.now index.now trail.slots side fork) result }
 {
-    let there = fork.there;
-    if !there {
+    let Some(place) = fork else {
         return answer(trail, Way::Nobody, 0);
-    }
+    };
     let slots = trail.slots;
-    let place = fork.place;
     let depth = place.count;
     let i = slots[depth] as usize;
     let back = Trail {
@@ -151,7 +142,7 @@ fn from_fork(
     descend(store, index, kids, next, !side)
 }
 
-fn fork_towards(walked: Walked, side: bool) -> Fork
+fn fork_towards(walked: Walked, side: bool) -> Option<Place>
     ensures { result ≡ fork_on side walked.left walked.right }
 {
     if side {

@@ -4,13 +4,14 @@ use native.Mathlib.Omega.{arith}
 use mathlib.Core.Path.{◌≡◌, refl}
 use mathlib.Core.Bool.{true, false, beq}
 use borrow.Author.Tests.{eq-eqb, ne_eqb}
+use Rattle.std.specs.Prelude.{Some}
+use Rattle.std.specs.declared.option.Option as option
 use Rattle.terms.specs.Bits.{Bytes, Side}
 use Rattle.place.specs.declared.Place as declared-place
 use Rattle.read_step.specs.Walk.{kid_in}
 use Rattle.prove_turns.specs.Forks.{fork_after}
-use Rattle.prove_turns.specs.declared.Fork as declared-fork
 
-module _ (s : Bytes) (i : ℕ) (p : declared-place.Place) (f : declared-fork.Fork) where
+module _ (s : Bytes) (i : ℕ) (p : declared-place.Place) (f : option.Option declared-place.Place) where
   pub fork_same : (turn b : Side) → beq turn b ≡ true → f ≡ fork_after s i p turn b f
   unfolding fork_after
   fork_same true true e = refl
@@ -25,7 +26,7 @@ module _ (s : Bytes) (i : ℕ) (p : declared-place.Place) (f : declared-fork.For
   fork_none false true e = rw (eq-eqb (kid_in i s true).version 0 e)
   fork_none false false e = refl
 
-  pub fork_new : (turn b : Side) → beq turn b ≡ false → ((kid_in i s b).version ≡ 0 → ⊥) → record { there = true; place = p } ≡ fork_after s i p turn b f
+  pub fork_new : (turn b : Side) → beq turn b ≡ false → ((kid_in i s b).version ≡ 0 → ⊥) → Some p ≡ fork_after s i p turn b f
   unfolding fork_after
   fork_new true true e n = let z : ◌≡◌ {A = ℕ} 0 1 = cc in absurd (omega arith)
   fork_new true false e n = rw (ne_eqb (kid_in i s false).version 0 n)

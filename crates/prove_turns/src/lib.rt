@@ -12,15 +12,16 @@ use place::{Place, before};
 use read_step::child_version;
 use terms::Form;
 
-// An inner node on the trail where the walk turned away from a side that has a child; its place, if there is one.
-#[derive(Clone, Copy)]
-pub struct Fork {
-    pub there: bool,
-    pub place: Place,
-}
-
-// The deepest fork towards a side, where the walk takes a turn at the inner node in slot i: this node, if it turns away and a child is there.
-pub fn deepest(store: &[u8], fork: Fork, place: Place, i: usize, turn: bool, side: bool) -> Fork
+// A fork towards a side is an inner node on the trail where the walk turned away from the side, and a child is there. The place of the deepest, where the
+// walk takes a turn at the inner node in slot i: this node's, if it is a fork, else the deepest so far.
+pub fn deepest(
+    store: &[u8],
+    fork: Option<Place>,
+    place: Place,
+    i: usize,
+    turn: bool,
+    side: bool,
+) -> Option<Place>
     requires { (size_right Form.Counted (length store.now) ≡ true) × (i < room_of Form.Counted (length store.now)) }
     ensures { result ≡ fork_after store.now i place turn side fork }
 {
@@ -30,7 +31,7 @@ pub fn deepest(store: &[u8], fork: Fork, place: Place, i: usize, turn: bool, sid
     if child_version(store, i, side) == 0 {
         return fork;
     }
-    Fork { there: true, place }
+    Some(place)
 }
 
 // Where a descent goes on from the inner node in slot i: to a side where there is a child on that side, else to the other.

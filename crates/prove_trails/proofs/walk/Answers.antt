@@ -7,7 +7,7 @@ use borrow.Enum.Refused.{opened}
 use Rattle.prove_trails.proofs.walk.Goals as goal
 
 pub loop-trail-init : goal.loop-trail-init
-loop-trail-init c = walking_start c.args.store.now c.args.index.now c.args.version c.args.key.now _ _ c.start-trail.ensures c.top-top.ensures.proper
+loop-trail-init c = walking_start c.args.store.now c.args.index.now c.args.version c.args.key.now _ c.start-trail.ensures
 
 pub key_bit-turn-requires : goal.key_bit-turn-requires
 key_bit-turn-requires c = let a = at_inner c.loop-trail.invariant.trail c.in-Inner.is in omega (arith, a.short, c.requires.1)
